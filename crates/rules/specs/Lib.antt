@@ -1,0 +1,26 @@
+-- What a reader must believe, in document 01's order.
+pub mod Bytes
+pub mod Words
+pub mod Doubles
+pub mod Numbers
+pub mod Instructions
+pub mod Stack
+pub mod ModuleFile
+pub mod Operations
+pub mod Machine
+pub mod Typing
+pub mod Check
+pub mod Answers
+pub mod Host
+pub mod Program
+pub mod Demand3
+pub mod Claims
+pub mod Files
+pub mod Evaluate
+pub mod Samples
+pub mod Exceptions
+pub mod HostCalls
+pub mod Refusals
+pub mod Typings
+pub mod Values
+pub mod Printed

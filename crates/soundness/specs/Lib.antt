@@ -1,0 +1,16 @@
+pub mod Names
+pub mod Tests
+pub mod Slots
+pub mod Invariant
+pub mod Foot
+pub mod Sound
+pub mod Runs
+pub mod Exact
+pub mod Sweep
+pub mod Records
+pub mod Whole
+pub mod Readable
+pub mod Started
+pub mod Narrow
+pub mod Claimed
+pub mod Sharp
