@@ -1,0 +1,18 @@
+//! Links the archive that `LIMPETSKEIN_ARCHIVE` names, a file `lib<name>.a`.
+
+use std::path::PathBuf;
+
+fn main() {
+    println!("cargo:rerun-if-env-changed=LIMPETSKEIN_ARCHIVE");
+    let Some(archive) = std::env::var_os("LIMPETSKEIN_ARCHIVE") else {
+        panic!("LIMPETSKEIN_ARCHIVE must name the archive to test");
+    };
+    let archive = PathBuf::from(archive);
+    println!("cargo:rerun-if-changed={}", archive.display());
+    let directory = archive.parent().expect("the archive lies in a directory");
+    let stem = archive.file_stem().and_then(|stem| stem.to_str());
+    let name = stem.and_then(|stem| stem.strip_prefix("lib"));
+    let name = name.expect("the archive's name is lib<name>.a");
+    println!("cargo:rustc-link-search=native={}", directory.display());
+    println!("cargo:rustc-link-lib=static={name}");
+}

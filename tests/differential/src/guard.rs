@@ -1,0 +1,59 @@
+//! Names the case when the library crashes or doesn't come back.
+
+use std::sync::atomic::{AtomicU64, Ordering};
+use std::time::Duration;
+
+static SEED: AtomicU64 = AtomicU64::new(0);
+static CASE: AtomicU64 = AtomicU64::new(0);
+
+/// Seconds after which a case counts as hanging.
+const PATIENCE: u64 = 30;
+
+extern "C" {
+    fn signal(number: i32, handler: usize) -> usize;
+    fn _exit(status: i32) -> !;
+}
+
+pub fn start(seed: u64) {
+    SEED.store(seed, Ordering::Relaxed);
+    for number in [4, 6, 7, 8, 11] {
+        // SAFETY: the handler only reads two numbers, writes to standard output and ends.
+        unsafe { signal(number, crashed as *const () as usize) };
+    }
+    std::thread::spawn(watch);
+}
+
+/// Says which case comes next.
+pub fn next(case: u64) {
+    CASE.store(case, Ordering::Relaxed);
+}
+
+extern "C" fn crashed(number: i32) {
+    report(&format!("signal {number}"));
+    // SAFETY: ends the process at once.
+    unsafe { _exit(1) }
+}
+
+fn watch() {
+    let mut last = (u64::MAX, 0);
+    loop {
+        std::thread::sleep(Duration::from_secs(1));
+        let case = CASE.load(Ordering::Relaxed);
+        last = if case == last.0 {
+            (case, last.1 + 1)
+        } else {
+            (case, 0)
+        };
+        if last.1 >= PATIENCE {
+            report("no answer");
+            std::process::exit(1);
+        }
+    }
+}
+
+fn report(what: &str) {
+    let (seed, case) = (SEED.load(Ordering::Relaxed), CASE.load(Ordering::Relaxed));
+    println!("DIFFERENCE: {what} in case {case} of seed {seed}");
+    println!("again: --seed {seed} --from {case} --cases 1");
+    println!("the module: show --seed {seed} --case {case}");
+}

@@ -1,0 +1,82 @@
+//! The library under test, through its C interface.
+
+use second::memory::{CheckMemory, Lent, RunMemory};
+use second::subject::Subject;
+
+extern "C" {
+    pub fn limpetskein_check(
+        module: *const u8,
+        module_len: usize,
+        room: *mut u8,
+        room_len: usize,
+        body: *mut u32,
+    ) -> u32;
+
+    pub fn limpetskein_run(
+        module: *const u8,
+        module_len: usize,
+        function: u32,
+        arg_types: *const u8,
+        arg_types_len: usize,
+        arg_payloads: *const u8,
+        arg_payloads_len: usize,
+        allowance: u64,
+        payloads: *mut u8,
+        payloads_len: usize,
+        types: *mut u8,
+        types_len: usize,
+        steps: *mut u64,
+        height: *mut u64,
+    ) -> u32;
+}
+
+/// `null_if_empty`: slices of length 0 are lent as null pointers.
+pub struct Library {
+    pub null_if_empty: bool,
+}
+
+impl Library {
+    fn pointer(&self, lent: &mut Lent) -> *mut u8 {
+        if lent.is_empty() && self.null_if_empty {
+            return std::ptr::null_mut();
+        }
+        lent.pointer()
+    }
+}
+
+impl Subject for Library {
+    fn check(&mut self, memory: &mut CheckMemory) -> u32 {
+        let (module_len, room_len) = (memory.module.len(), memory.room.len());
+        let module = self.pointer(&mut memory.module);
+        let room = self.pointer(&mut memory.room);
+        // SAFETY: pointers and lengths are those of separate live buffers.
+        unsafe { limpetskein_check(module, module_len, room, room_len, &raw mut memory.body) }
+    }
+
+    fn run(&mut self, function: u32, allowance: u64, memory: &mut RunMemory) -> u32 {
+        let module = self.pointer(&mut memory.module);
+        let arg_types = self.pointer(&mut memory.arg_types);
+        let arg_payloads = self.pointer(&mut memory.arg_payloads);
+        let payloads = self.pointer(&mut memory.payloads);
+        let types = self.pointer(&mut memory.types);
+        // SAFETY: pointers and lengths are those of separate live buffers.
+        unsafe {
+            limpetskein_run(
+                module,
+                memory.module.len(),
+                function,
+                arg_types,
+                memory.arg_types.len(),
+                arg_payloads,
+                memory.arg_payloads.len(),
+                allowance,
+                payloads,
+                memory.payloads.len(),
+                types,
+                memory.types.len(),
+                &raw mut memory.steps,
+                &raw mut memory.height,
+            )
+        }
+    }
+}

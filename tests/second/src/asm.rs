@@ -1,0 +1,131 @@
+//! A small assembler, for samples and tests.
+//!
+//! Statements are separated by semicolons or line ends, and end with a colon:
+//!
+//! * `int 7`, `long -1`, `double 1.5`, `double #7FF0000000000001`: the next constant;
+//! * `entry:`, `function int (int, *long):` (return type `void`, `int`, `long`, `double`):
+//!   what follows is this body;
+//! * `@0`: label 0 is here (at the next instruction);
+//! * `push 0`, `add`, ...: instructions, operands in decimal.
+
+use crate::opcode::Op;
+use crate::program::{Constant, Instr, Mark, Program, Routine};
+use crate::reader::ENTRY;
+use crate::types::{DOUBLE, INT, LONG, POINTER_TO};
+
+/// Assembles a module. The text is part of this repository: a mistake in it stops the program.
+pub fn program(text: &str) -> Program {
+    let mut asm = Asm::default();
+    let text = text.replace(':', ":;");
+    for statement in text.split([';', '\n']).map(str::trim) {
+        if !statement.is_empty() {
+            asm.statement(statement);
+        }
+    }
+    let numbers = 0..asm.marks.len();
+    asm.program.labels = numbers
+        .map(|n| asm.marks[n].unwrap_or_else(|| panic!("label {n} is nowhere")))
+        .collect();
+    asm.program
+}
+
+/// The file of an assembled module.
+pub fn file(text: &str) -> Vec<u8> {
+    program(text).file()
+}
+
+#[derive(Default)]
+struct Asm {
+    program: Program,
+    marks: Vec<Option<Mark>>,
+}
+
+impl Asm {
+    fn owner(&self) -> u32 {
+        match self.program.functions.len() {
+            0 => ENTRY,
+            count => count as u32 - 1,
+        }
+    }
+
+    fn statement(&mut self, text: &str) {
+        let (word, rest) = text.split_once(' ').unwrap_or((text, ""));
+        if let Some(number) = word.strip_prefix('@') {
+            self.label(number.parse().expect("label number"));
+        } else if word == "entry:" {
+            assert!(self.program.functions.is_empty(), "the entry comes first");
+        } else if word == "function" {
+            self.program.functions.push(routine(rest));
+        } else if let Some(ty) = number_type(word) {
+            let payload = constant(ty, rest.trim());
+            let ty = u32::from(ty);
+            self.program.constants.push(Constant { ty, payload });
+        } else {
+            let op = Op::from_name(word).unwrap_or_else(|| panic!("unknown: {text}"));
+            let operand = if op.has_operand() {
+                rest.trim()
+                    .parse()
+                    .unwrap_or_else(|_| panic!("operand of: {text}"))
+            } else {
+                assert!(rest.is_empty(), "no operand: {text}");
+                0
+            };
+            let owner = self.owner();
+            self.program.body_mut(owner).push(Instr { op, operand });
+        }
+    }
+
+    fn label(&mut self, number: usize) {
+        let owner = self.owner();
+        let index = self.program.body(owner).len();
+        if self.marks.len() <= number {
+            self.marks.resize(number + 1, None);
+        }
+        self.marks[number] = Some(Mark { owner, index });
+    }
+}
+
+fn number_type(word: &str) -> Option<u8> {
+    match word {
+        "int" => Some(INT),
+        "long" => Some(LONG),
+        "double" => Some(DOUBLE),
+        _ => None,
+    }
+}
+
+/// `int (int, *long):`
+fn routine(text: &str) -> Routine {
+    let (returns, rest) = text.split_once('(').expect("parameters");
+    let (list, _) = rest.split_once(')').expect("closing bracket");
+    let parameters = list
+        .split(',')
+        .map(str::trim)
+        .filter(|word| !word.is_empty())
+        .map(|word| match word.strip_prefix('*') {
+            Some(target) => POINTER_TO | number_type(target).expect("type"),
+            None => number_type(word).expect("type"),
+        })
+        .collect();
+    Routine {
+        parameters,
+        returns: number_type(returns.trim()).unwrap_or(0),
+        code: Vec::new(),
+    }
+}
+
+fn constant(ty: u8, text: &str) -> u64 {
+    if let Some(bits) = text.strip_prefix('#') {
+        return u64::from_str_radix(bits, 16).expect("hex digits");
+    }
+    if ty == DOUBLE {
+        return text.parse::<f64>().expect("double").to_bits();
+    }
+    let number: i128 = text.parse().expect("number");
+    let bits = number as u64;
+    if ty == INT {
+        bits & 0xFFFF_FFFF
+    } else {
+        bits
+    }
+}

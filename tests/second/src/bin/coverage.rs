@@ -1,0 +1,134 @@
+//! Shows what generated cases reach, and fails if something possible is not reached.
+//!
+//! `coverage [--seed N] [--cases N] [--full]`
+
+use second::args;
+use second::coverage::Coverage;
+use second::gen::case::Case;
+use second::opcode::ALL;
+use second::possible::{exceptions, executions, reasons, CHECK_ANSWERS, RUN_ANSWERS};
+
+fn main() {
+    args::expect(&["--seed", "--cases", "--full"]);
+    let seed = args::number("--seed", 1);
+    let cases = args::number("--cases", 60_000);
+    let mut coverage = Coverage::default();
+    for number in 0..cases {
+        coverage.add(&Case::new(seed, number));
+    }
+    println!("coverage of {cases} cases from seed {seed}");
+    let full = args::has("--full");
+    let missing = kinds(&coverage)
+        + answers(&coverage)
+        + executed(&coverage, full)
+        + raised(&coverage, full)
+        + refused(&coverage, full);
+    println!(
+        "runs of accepted modules that break demand 3: {}",
+        coverage.broken
+    );
+    println!("possible but not reached: {missing}");
+    if missing > 0 || coverage.broken > 0 {
+        std::process::exit(1);
+    }
+}
+
+/// Well-typed programs must all be accepted; what is not counts as missing.
+fn kinds(coverage: &Coverage) -> u64 {
+    let mut missing = 0;
+    println!("modules by generator (accepted of all):");
+    for (kind, all) in &coverage.kinds {
+        let accepted = coverage.accepted.get(kind).copied().unwrap_or(0);
+        println!("  {kind}: {accepted} of {all}");
+        if ["typed", "expression"].contains(kind) {
+            missing += all - accepted;
+        }
+    }
+    missing
+}
+
+/// One row of numbers with their counts; gives how many are 0.
+fn row(title: &str, counts: impl Iterator<Item = (String, u64)>) -> u64 {
+    let mut missing = 0;
+    let mut text = String::new();
+    for (name, count) in counts {
+        missing += u64::from(count == 0);
+        let shown = if count == 0 {
+            "NOT REACHED".to_string()
+        } else {
+            count.to_string()
+        };
+        text += &format!(" {name}:{shown}");
+    }
+    println!("{title}{text}");
+    missing
+}
+
+fn answers(coverage: &Coverage) -> u64 {
+    let of = |map: &std::collections::BTreeMap<u32, u64>, n: u32| {
+        (n.to_string(), map.get(&n).copied().unwrap_or(0))
+    };
+    let checks = CHECK_ANSWERS.iter().map(|&n| of(&coverage.checks, n));
+    let runs = RUN_ANSWERS.iter().map(|&n| of(&coverage.runs, n));
+    let misfit = std::iter::once(("20".to_string(), coverage.misfits));
+    row("answers of checks:", checks)
+        + row("answers of runs:", runs)
+        + row("arguments that don't fit:", misfit)
+}
+
+fn executed(coverage: &Coverage, full: bool) -> u64 {
+    let mut missing = 0;
+    let mut pairs = 0;
+    for (op, name) in ALL {
+        let of = |&variant: &u8| {
+            let count = coverage.executed.get(&(op, variant));
+            (variant.to_string(), count.copied().unwrap_or(0))
+        };
+        let counts: Vec<(String, u64)> = executions(op).iter().map(of).collect();
+        pairs += counts.len();
+        missing += show(&format!("  {name}"), counts, full);
+    }
+    println!("executed: {pairs} pairs of opcode and type (or way), {missing} not reached");
+    missing
+}
+
+fn raised(coverage: &Coverage, full: bool) -> u64 {
+    let mut missing = 0;
+    let mut pairs = 0;
+    for (op, name) in ALL {
+        let of = |&number: &u32| {
+            let count = coverage.raised.get(&(op, number));
+            (number.to_string(), count.copied().unwrap_or(0))
+        };
+        let counts: Vec<(String, u64)> = exceptions(op).iter().map(of).collect();
+        pairs += counts.len();
+        missing += show(&format!("  {name} raises"), counts, full);
+    }
+    println!("raised: {pairs} pairs of opcode and exception, {missing} not reached");
+    for (op, number) in coverage.raised.keys() {
+        if !exceptions(*op).contains(number) {
+            println!("  {} raised {number}, which is not possible", op.name());
+            missing += 1;
+        }
+    }
+    missing
+}
+
+fn refused(coverage: &Coverage, full: bool) -> u64 {
+    let all = reasons();
+    let mut missing = 0;
+    for reason in &all {
+        let count = coverage.reasons.get(reason).copied().unwrap_or(0);
+        missing += show("  no typing:", vec![(format!("{reason:?}"), count)], full);
+    }
+    println!("no typing: {} reasons, {missing} not reached", all.len());
+    missing
+}
+
+/// Prints a row in a full report, or where something is missing.
+fn show(title: &str, counts: Vec<(String, u64)>, full: bool) -> u64 {
+    if full || counts.iter().any(|(_, count)| *count == 0) {
+        return row(title, counts.into_iter());
+    }
+    0
+}

@@ -1,0 +1,105 @@
+//! Two subjects side by side on one case.
+
+use crate::gen::case::{Case, RunCall};
+use crate::hex;
+use crate::memory::{CheckMemory, Lent, RunMemory};
+use crate::subject::Subject;
+
+/// What differs, in words; nothing if the two agree on the check and on every run.
+pub fn compare(case: &Case, a: &mut dyn Subject, b: &mut dyn Subject) -> Option<String> {
+    compare_checks(case, a, b).or_else(|| {
+        case.runs
+            .iter()
+            .find_map(|run| compare_runs(case, run, a, b))
+    })
+}
+
+fn compare_checks(case: &Case, a: &mut dyn Subject, b: &mut dyn Subject) -> Option<String> {
+    let mut memory_a = case.check_memory();
+    let mut memory_b = memory_a.clone();
+    let (answer_a, answer_b) = (a.check(&mut memory_a), b.check(&mut memory_b));
+    if answer_a == answer_b && memory_a == memory_b {
+        return None;
+    }
+    let room = case.room.len();
+    Some(format!(
+        "check with a room of {room} bytes: answers {answer_a} and {answer_b}{}",
+        check_difference(&memory_a, &memory_b)
+    ))
+}
+
+fn compare_runs(
+    case: &Case,
+    run: &RunCall,
+    a: &mut dyn Subject,
+    b: &mut dyn Subject,
+) -> Option<String> {
+    let mut memory_a = case.run_memory(run);
+    let mut memory_b = memory_a.clone();
+    let answer_a = a.run(run.function, run.allowance, &mut memory_a);
+    let answer_b = b.run(run.function, run.allowance, &mut memory_b);
+    if answer_a == answer_b && memory_a == memory_b {
+        return None;
+    }
+    Some(format!(
+        "run of {}: answers {answer_a} and {answer_b}{}",
+        describe(run),
+        run_difference(&memory_a, &memory_b)
+    ))
+}
+
+/// A run's numbers and arguments, enough to repeat it by hand.
+pub fn describe(run: &RunCall) -> String {
+    format!(
+        "function {:08X}, argument types {}, argument payloads {}, allowance {}, \
+         {} payload bytes, {} type bytes",
+        run.function,
+        quoted(&run.arg_types),
+        quoted(&run.arg_payloads),
+        run.allowance,
+        run.payloads.len(),
+        run.types.len()
+    )
+}
+
+fn quoted(bytes: &[u8]) -> String {
+    format!("\"{}\"", hex::encode(bytes))
+}
+
+fn check_difference(a: &CheckMemory, b: &CheckMemory) -> String {
+    let mut text = String::new();
+    if a.body != b.body {
+        text += &format!("; body {:08X} and {:08X}", a.body, b.body);
+    }
+    text += &slice_difference("module", &a.module, &b.module);
+    text + &slice_difference("room", &a.room, &b.room)
+}
+
+fn run_difference(a: &RunMemory, b: &RunMemory) -> String {
+    let mut text = String::new();
+    if a.steps != b.steps {
+        text += &format!("; steps {} and {}", a.steps, b.steps);
+    }
+    if a.height != b.height {
+        text += &format!("; height {} and {}", a.height, b.height);
+    }
+    text += &slice_difference("module", &a.module, &b.module);
+    text += &slice_difference("argument types", &a.arg_types, &b.arg_types);
+    text += &slice_difference("argument payloads", &a.arg_payloads, &b.arg_payloads);
+    text += &slice_difference("payloads", &a.payloads, &b.payloads);
+    text + &slice_difference("types", &a.types, &b.types)
+}
+
+fn slice_difference(name: &str, a: &Lent, b: &Lent) -> String {
+    match a.first_difference(b) {
+        None => String::new(),
+        Some(at) if at < 0 || at >= a.len() as i64 => {
+            format!("; guard bytes of {name} differ at {at}")
+        }
+        Some(at) => {
+            let n = at as usize;
+            let (x, y) = (a.slice()[n], b.slice()[n]);
+            format!("; {name} differ at byte {n} ({x:02X} and {y:02X})")
+        }
+    }
+}

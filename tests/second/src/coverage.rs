@@ -1,0 +1,122 @@
+//! Counts what generated cases reach.
+
+use crate::check::Checked;
+use crate::claims::{is_one_of_the_four_ends, Claims};
+use crate::gen::case::{Case, RunCall};
+use crate::machine::{Machine, Watch};
+use crate::opcode::Op;
+use crate::rules::Rules;
+use crate::subject::{checked_number, Second};
+use crate::types::POINTER;
+use crate::worklist::Reason;
+use std::collections::BTreeMap;
+
+type Counts<K> = BTreeMap<K, u64>;
+
+#[derive(Default)]
+pub struct Coverage {
+    pub checks: Counts<u32>,
+    pub runs: Counts<u32>,
+    /// By opcode and variant, as in `possible::executions`.
+    pub executed: Counts<(Op, u8)>,
+    pub raised: Counts<(Op, u32)>,
+    pub reasons: Counts<Reason>,
+    /// Arguments that didn't fit (20 without an instruction).
+    pub misfits: u64,
+    /// Modules by generator: all, and accepted ones.
+    pub kinds: Counts<&'static str>,
+    pub accepted: Counts<&'static str>,
+    /// Runs of accepted modules that broke demand 3.
+    pub broken: u64,
+    /// The variant of the current instruction, and the place after it.
+    variant: u8,
+    next: usize,
+    /// Exceptions in the current run.
+    raises: u64,
+}
+
+fn count<K: Ord>(counts: &mut Counts<K>, key: K) {
+    *counts.entry(key).or_insert(0) += 1;
+}
+
+impl Coverage {
+    pub fn add(&mut self, case: &Case) {
+        let second = Second(Rules::PLAIN);
+        let mut memory = case.check_memory();
+        let checked = second.checked(&mut memory);
+        count(&mut self.checks, checked_number(checked, &mut 0));
+        if let Checked::NoTyping { reason, .. } = checked {
+            count(&mut self.reasons, reason);
+        }
+        count(&mut self.kinds, case.kind);
+        let accepted = matches!(checked, Checked::Accepted)
+            // too little room says nothing about typings
+            || matches!(checked, Checked::Refused(10)) && accepted_with_room(case);
+        if accepted {
+            count(&mut self.accepted, case.kind);
+        }
+        for run in &case.runs {
+            self.add_run(case, run, accepted);
+        }
+    }
+
+    fn add_run(&mut self, case: &Case, run: &RunCall, accepted: bool) {
+        let mut memory = case.run_memory(run);
+        self.raises = 0;
+        let second = Second(Rules::PLAIN);
+        let answer = second.run_watched(run.function, run.allowance, &mut memory, self);
+        count(&mut self.runs, answer);
+        self.misfits += u64::from(answer == 20 && self.raises == 0);
+        if accepted {
+            let mut claims = Claims::default();
+            let mut memory = case.run_memory(run);
+            second.run_watched(run.function, run.allowance, &mut memory, &mut claims);
+            let ends = is_one_of_the_four_ends(answer) || [12, 13].contains(&answer);
+            self.broken += claims.broken + u64::from(!ends);
+        }
+    }
+}
+
+fn accepted_with_room(case: &Case) -> bool {
+    let mut room = vec![0; 64 * 256];
+    crate::check::check(Rules::PLAIN, &case.module, &mut room) == Checked::Accepted
+}
+
+impl Watch for Coverage {
+    fn before(&mut self, machine: &Machine<'_>, op: Op) {
+        let top = machine.stack.last().copied();
+        let place = machine.place;
+        self.variant = match op {
+            Op::Inc | Op::Dec => top
+                .filter(|slot| slot.ty == POINTER)
+                .and_then(|slot| machine.stack.get(slot.payload as usize))
+                .map_or(0, |slot| slot.ty),
+            Op::Lea => {
+                let n = machine.module.instruction(place).map_or(0, |at| at.operand);
+                let slot = machine.frame().locals.get(n as usize);
+                slot.map_or(0, |&slot| machine.stack[slot].ty)
+            }
+            Op::Ret => machine
+                .module
+                .function(machine.frame().body)
+                .map_or(0, |f| f.returns),
+            Op::Jmp | Op::Call => 0,
+            _ => top.map_or(0, |slot| slot.ty),
+        };
+        self.next = machine.module.instruction(place).map_or(0, |at| at.next);
+    }
+
+    fn after(&mut self, machine: &Machine<'_>, op: Op, raised: Option<u32>) {
+        if let Some(number) = raised {
+            self.raises += 1;
+            return count(&mut self.raised, (op, number));
+        }
+        let top = machine.stack.last().map_or(0, |slot| slot.ty);
+        let variant = match op {
+            Op::Push | Op::Load | Op::Tload => top,
+            op if op.is_conditional() => u8::from(machine.place != self.next),
+            _ => self.variant,
+        };
+        count(&mut self.executed, (op, variant));
+    }
+}

@@ -1,0 +1,248 @@
+//! Writes one well-typed body, instruction by instruction. The lists are kept here on their
+//! own, apart from the check.
+
+use super::rng::Rng;
+use crate::judge::Lists;
+use crate::opcode::{Op, ALL};
+use crate::program::Constant;
+use crate::types::{is_number, pointee, DOUBLE, INT, LONG, POINTER_TO};
+
+/// Parameter types and return type.
+pub type Signature = (Vec<u8>, u8);
+
+/// What all bodies of a module share.
+pub struct Shared {
+    pub constants: Vec<Constant>,
+    pub signatures: Vec<Signature>,
+}
+
+/// An instruction; a label operand is a number within the body unless `raw`.
+#[derive(Clone, Copy, Debug)]
+pub struct Item {
+    pub op: Op,
+    pub operand: u32,
+    pub raw: bool,
+}
+
+pub struct Body<'a> {
+    pub shared: &'a Shared,
+    pub items: Vec<Item>,
+    /// The instruction index of each of the body's labels.
+    pub marks: Vec<usize>,
+    pub lists: Lists,
+    /// False inside loops: locals never become fewer.
+    pub may_bind: bool,
+    pub label_limit: usize,
+    /// The return type, or nothing for the entry.
+    pub returns: Option<u8>,
+    /// Functions from this number on are called without recursion.
+    pub later: usize,
+}
+
+const MOST_OPERANDS: usize = 32;
+const MOST_LOCALS: usize = 16;
+
+impl Body<'_> {
+    /// Writes an instruction and keeps the lists.
+    pub fn emit(&mut self, op: Op, operand: u32) {
+        let raw = false;
+        self.items.push(Item { op, operand, raw });
+        let n = operand as usize;
+        match op {
+            Op::Push => self.lists.operands.push(self.shared.constants[n].ty as u8),
+            Op::Load => self.lists.operands.push(self.lists.locals[n]),
+            Op::Lea => {
+                let target = self.lists.locals[n];
+                self.lists.operands.push(POINTER_TO | target);
+            }
+            Op::Store => {
+                let top = self.lists.operands.pop();
+                if n == self.lists.locals.len() {
+                    self.lists.locals.extend(top);
+                    self.lists.operands.clear();
+                }
+            }
+            Op::Call => self.called(n),
+            _ => self.effect(op),
+        }
+    }
+
+    fn called(&mut self, n: usize) {
+        let (parameters, returns) = &self.shared.signatures[n];
+        let rest = self.lists.operands.len() - parameters.len();
+        self.lists.operands.truncate(rest);
+        if *returns != 0 {
+            self.lists.operands.push(*returns);
+        }
+    }
+
+    /// The effect of an instruction without operand, or of a branch.
+    fn effect(&mut self, op: Op) {
+        let top = self.lists.operands.last().copied().unwrap_or(0);
+        let (taken, left) = match op {
+            Op::Jmp | Op::Ret | Op::Swap | Op::Neg | Op::Not => (0, None),
+            Op::Pop | Op::Inc | Op::Dec => (1, None),
+            Op::Tstore => (2, None),
+            Op::Copy => (0, Some(top)),
+            Op::Tload => (1, pointee(top)),
+            Op::Cmp | Op::Icmp => (2, Some(INT)),
+            Op::Toi => (1, Some(INT)),
+            Op::Tol => (1, Some(LONG)),
+            Op::Tod => (1, Some(DOUBLE)),
+            _ => (1, None),
+        };
+        let rest = self.lists.operands.len() - taken;
+        self.lists.operands.truncate(rest);
+        self.lists.operands.extend(left);
+    }
+
+    /// An operand with which the instruction fits here, if any does.
+    fn fitting(&self, rng: &mut Rng, op: Op) -> Option<u32> {
+        let operands = &self.lists.operands;
+        let room = operands.len() < MOST_OPERANDS;
+        let top = operands.last().copied();
+        match op {
+            Op::Push => room.then(|| rng.below(self.shared.constants.len()) as u32),
+            Op::Load => room.then(|| self.some_local(rng, |_| true))?,
+            Op::Lea => room.then(|| self.some_local(rng, is_number))?,
+            Op::Store => self.store_target(rng, top?),
+            Op::Copy => (room && top.is_some()).then_some(0),
+            Op::Pop => top.map(|_| 0),
+            Op::Tload | Op::Inc | Op::Dec => pointee(top?).map(|_| 0),
+            Op::Neg | Op::Toi | Op::Tol | Op::Tod => is_number(top?).then_some(0),
+            Op::Not => (is_number(top?) && top != Some(DOUBLE)).then_some(0),
+            op if op.has_label() || matches!(op, Op::Call | Op::Ret) => None,
+            op => self.fits_pair(op).then_some(0),
+        }
+    }
+
+    fn fits_pair(&self, op: Op) -> bool {
+        let [.., a, b] = self.lists.operands[..] else {
+            return false;
+        };
+        match op {
+            Op::Tstore => pointee(a) == Some(b),
+            Op::Swap | Op::Cmp | Op::Icmp => a == b,
+            Op::Add | Op::Sub | Op::Mul | Op::Imul | Op::Div | Op::Idiv => a == b && is_number(a),
+            _ => a == b && (a == INT || a == LONG),
+        }
+    }
+
+    fn some_local(&self, rng: &mut Rng, wanted: impl Fn(u8) -> bool) -> Option<u32> {
+        let fits: Vec<u32> = (0..self.lists.locals.len() as u32)
+            .filter(|&n| wanted(self.lists.locals[n as usize]))
+            .collect();
+        (!fits.is_empty()).then(|| rng.pick(&fits))
+    }
+
+    fn store_target(&self, rng: &mut Rng, top: u8) -> Option<u32> {
+        let count = self.lists.locals.len();
+        let bind = self.may_bind && count < MOST_LOCALS && rng.percent(60);
+        if bind {
+            return Some(count as u32);
+        }
+        self.some_local(rng, |ty| ty == top)
+    }
+
+    /// Writes one instruction that doesn't jump.
+    pub fn simple(&mut self, rng: &mut Rng) {
+        if self.lists.operands.len() < 2 && rng.percent(50) {
+            let ty = rng.pick(&crate::types::SIX);
+            self.produce(rng, ty);
+            return;
+        }
+        let mut fits = Vec::new();
+        for (op, _) in ALL {
+            if let Some(operand) = self.fitting(rng, op) {
+                fits.push((op, operand));
+            }
+        }
+        let (op, operand) = rng.pick(&fits);
+        if matches!(op, Op::Div | Op::Idiv | Op::Mod | Op::Imod) && rng.percent(75) {
+            self.new_divisor(rng);
+        }
+        self.emit(op, operand);
+    }
+
+    /// Puts a constant that is not 0 in the divisor's place.
+    fn new_divisor(&mut self, rng: &mut Rng) {
+        let ty = self.lists.operands.last().copied().unwrap_or(0);
+        let fits: Vec<u32> = (0..self.shared.constants.len() as u32)
+            .filter(|&n| {
+                let constant = self.shared.constants[n as usize];
+                constant.ty == u32::from(ty) && constant.payload != 0
+            })
+            .collect();
+        if !fits.is_empty() {
+            self.emit(Op::Pop, 0);
+            let n = rng.pick(&fits);
+            self.emit(Op::Push, n);
+        }
+    }
+
+    /// Puts a value of this type on top, if one can be had.
+    pub fn produce(&mut self, rng: &mut Rng, ty: u8) -> bool {
+        while self.lists.operands.len() >= MOST_OPERANDS {
+            self.emit(Op::Pop, 0);
+        }
+        let mut ways = Vec::new();
+        for (n, constant) in self.shared.constants.iter().enumerate() {
+            if constant.ty == u32::from(ty) {
+                ways.push((Op::Push, n as u32));
+            }
+        }
+        let constants = ways.len();
+        for (n, &local) in self.lists.locals.iter().enumerate() {
+            if local == ty {
+                ways.push((Op::Load, n as u32));
+            }
+            if pointee(ty) == Some(local) {
+                ways.push((Op::Lea, n as u32));
+            }
+        }
+        if ways.is_empty() {
+            return false;
+        }
+        // as often from the locals as from the constants
+        let from = if constants < ways.len() && rng.percent(50) {
+            constants
+        } else {
+            0
+        };
+        let (op, operand) = rng.pick(&ways[from..]);
+        self.emit(op, operand);
+        true
+    }
+
+    /// Brings the lists to the target, if that is possible.
+    pub fn convert(&mut self, rng: &mut Rng, target: &Lists) -> bool {
+        if !target.locals.starts_with(&self.lists.locals) {
+            return false;
+        }
+        while self.lists.locals.len() < target.locals.len() {
+            let n = self.lists.locals.len();
+            let ty = target.locals[n];
+            let there = self.lists.operands.last() == Some(&ty) && rng.percent(50);
+            if !there && !self.produce(rng, ty) {
+                return false;
+            }
+            self.emit(Op::Store, n as u32);
+        }
+        let pairs = self.lists.operands.iter().zip(&target.operands);
+        let common = pairs.take_while(|(a, b)| a == b).count();
+        while self.lists.operands.len() > common {
+            self.emit(Op::Pop, 0);
+        }
+        (common..target.operands.len()).all(|n| self.produce(rng, target.operands[n]))
+    }
+
+    pub fn new_label(&mut self) -> u32 {
+        self.marks.push(usize::MAX);
+        self.marks.len() as u32 - 1
+    }
+
+    /// Puts the label on the next instruction.
+    pub fn place(&mut self, label: u32) {
+        self.marks[label as usize] = self.items.len();
+    }
+}

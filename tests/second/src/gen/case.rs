@@ -1,0 +1,140 @@
+//! A case: one module, one check of it, some runs.
+
+use super::rng::Rng;
+use super::{calls, damage, expression, limits, loose, mixed, near, pointers, typed};
+use crate::check::RECORD;
+use crate::memory::{CheckMemory, Lent, RunMemory};
+use crate::program::Program;
+use crate::reader::{read, LONGEST};
+use crate::rules::Rules;
+
+/// One run to be made.
+#[derive(Clone, Debug)]
+pub struct RunCall {
+    pub function: u32,
+    pub arg_types: Vec<u8>,
+    pub arg_payloads: Vec<u8>,
+    pub allowance: u64,
+    /// What the lent slices hold before the run.
+    pub payloads: Vec<u8>,
+    pub types: Vec<u8>,
+    /// How far the lent slices are off alignment.
+    pub shift: usize,
+}
+
+#[derive(Clone, Debug)]
+pub struct Case {
+    /// Which generator made the module.
+    pub kind: &'static str,
+    pub module: Vec<u8>,
+    /// What the lent room holds before the check.
+    pub room: Vec<u8>,
+    pub runs: Vec<RunCall>,
+    pub shift: usize,
+}
+
+/// Values of the out-parameters before a call: they stay where nothing is to be written.
+pub const BODY_BEFORE: u32 = 0xB0D1_B0D1;
+pub const STEPS_BEFORE: u64 = 0x57E9_57E9_57E9_57E9;
+pub const HEIGHT_BEFORE: u64 = 0x4E16_4E16_4E16_4E16;
+
+impl Case {
+    /// The case of this number; it depends on nothing but seed and number.
+    pub fn new(seed: u64, number: u64) -> Case {
+        let mut rng = Rng::for_case(seed, number);
+        let (kind, module) = module(&mut rng);
+        let room = room(&mut rng, &module);
+        let runs = calls::runs(&mut rng, &module);
+        let shift = rng.below(8);
+        Case {
+            kind,
+            module,
+            room,
+            runs,
+            shift,
+        }
+    }
+
+    pub fn check_memory(&self) -> CheckMemory {
+        CheckMemory {
+            module: Lent::new(&self.module, self.shift),
+            room: Lent::new(&self.room, self.shift / 2),
+            body: BODY_BEFORE,
+        }
+    }
+
+    pub fn run_memory(&self, run: &RunCall) -> RunMemory {
+        RunMemory {
+            module: Lent::new(&self.module, self.shift),
+            arg_types: Lent::new(&run.arg_types, run.shift),
+            arg_payloads: Lent::new(&run.arg_payloads, run.shift + 1),
+            payloads: Lent::new(&run.payloads, run.shift + 2),
+            types: Lent::new(&run.types, run.shift + 3),
+            steps: STEPS_BEFORE,
+            height: HEIGHT_BEFORE,
+        }
+    }
+}
+
+/// A module file, and the name of its generator.
+pub fn module(rng: &mut Rng) -> (&'static str, Vec<u8>) {
+    match rng.below(100) {
+        0..=25 => ("typed", well_typed(rng).file()),
+        26..=43 => {
+            let mut program = well_typed(rng);
+            near::change(rng, &mut program);
+            ("near miss", program.file())
+        }
+        44..=45 => ("pointers", pointers::program(rng).file()),
+        46..=55 => ("expression", expression::program(rng).file()),
+        56..=67 => ("mixed operands", mixed::program(rng).file()),
+        68..=75 => ("loose", loose::program(rng).file()),
+        76..=80 => ("stale pointer", loose::stale(rng).file()),
+        81..=84 => ("limit", limits::program(rng).file()),
+        85..=87 => ("random code", loose::random(rng).file()),
+        88 => ("random bytes", random_bytes(rng)),
+        _ => {
+            let program = well_typed(rng);
+            ("damaged", damage::file(rng, &program))
+        }
+    }
+}
+
+fn well_typed(rng: &mut Rng) -> Program {
+    let size = typed::size(rng);
+    typed::program(rng, size)
+}
+
+/// Any bytes, of any length up to more than the longest module.
+fn random_bytes(rng: &mut Rng) -> Vec<u8> {
+    let len = match rng.below(8) {
+        0 => rng.range(LONGEST - 1, LONGEST + 3),
+        1 => 48,
+        _ => rng.below(100),
+    };
+    let mut bytes = rng.bytes(len);
+    if rng.percent(60) {
+        for (byte, wanted) in bytes.iter_mut().zip([3, 0, 0, 0]) {
+            *byte = wanted;
+        }
+        let len = (len as u32).to_le_bytes();
+        for (byte, wanted) in bytes.iter_mut().skip(4).zip(len) {
+            *byte = wanted;
+        }
+    }
+    bytes
+}
+
+/// A room that is enough, or now and then not quite.
+fn room(rng: &mut Rng, module: &[u8]) -> Vec<u8> {
+    let labels = read(Rules::PLAIN, module).map_or(2, |m| m.labels as usize);
+    let needed = RECORD * labels;
+    let len = match rng.below(12) {
+        0 => needed.saturating_sub(1),
+        1 => rng.below(needed + 1),
+        2 => needed + rng.range(1, 63),
+        3 => needed + RECORD,
+        _ => needed,
+    };
+    rng.bytes(len)
+}

@@ -1,0 +1,311 @@
+//! Code that mostly runs but need not have a typing: pointers to pointers, operands of
+//! different pointer types, now and then an instruction that doesn't fit.
+
+use super::constants::pool;
+use super::rng::Rng;
+use super::typed::signature;
+use crate::opcode::{Op, ALL};
+use crate::program::{Instr, Mark, Program, Routine};
+use crate::types::{run_time, DOUBLE, INT, LONG, POINTER};
+
+/// A slot's run-time type and, for a pointer, the slot that it is known to name.
+type Known = (u8, Option<usize>);
+
+/// What is known of the frame while its code is written.
+struct Track<'a> {
+    program: &'a Program,
+    stack: Vec<Known>,
+    locals: Vec<usize>,
+}
+
+pub fn program(rng: &mut Rng) -> Program {
+    let extra = rng.range(0, 4);
+    let mut program = Program {
+        constants: pool(rng, extra),
+        ..Program::default()
+    };
+    for _ in 0..rng.pick(&[0, 1, 1, 2, 3]) {
+        let (parameters, returns) = signature(rng);
+        program.functions.push(Routine {
+            parameters,
+            returns,
+            code: Vec::new(),
+        });
+    }
+    let strict = rng.pick(&[70, 90, 97, 100]);
+    for owner in program.owners() {
+        let code = body(rng, &program, owner, strict);
+        *program.body_mut(owner) = code;
+    }
+    for _ in 0..rng.pick(&[0, 2, 4]) {
+        let owners = program.owners();
+        let owner = rng.pick(&owners);
+        let length = program.body(owner).len();
+        if length > 0 {
+            let index = rng.below(length);
+            program.labels.push(Mark { owner, index });
+        }
+    }
+    program
+}
+
+fn body(rng: &mut Rng, program: &Program, owner: u32, strict: usize) -> Vec<Instr> {
+    let routine = program.functions.get(owner as usize);
+    let parameters: &[u8] = routine.map_or(&[], |r| &r.parameters);
+    let mut track = Track {
+        program,
+        stack: parameters.iter().map(|&ty| (run_time(ty), None)).collect(),
+        locals: (0..parameters.len()).collect(),
+    };
+    let length = rng.pick(&[1, 4, 8, 16, 30]);
+    let mut code = Vec::new();
+    while code.len() < length {
+        let (op, _) = rng.pick(&ALL);
+        let operand = track.operand(rng, op);
+        let instr = Instr { op, operand };
+        if track.fits(instr) {
+            track.apply(instr);
+            code.push(instr);
+        } else if !rng.percent(strict) && rng.one_in(8) {
+            code.push(instr);
+        }
+    }
+    if let Some(routine) = routine {
+        if rng.percent(90) {
+            let want = u32::from(routine.returns);
+            let n = program.constants.iter().position(|c| c.ty == want);
+            code.extend(n.map(|n| Instr {
+                op: Op::Push,
+                operand: n as u32,
+            }));
+            let (op, operand) = (Op::Ret, 0);
+            code.push(Instr { op, operand });
+        }
+    }
+    code
+}
+
+impl Track<'_> {
+    fn own(&self) -> usize {
+        let base = self.locals.last().map_or(0, |&slot| slot + 1);
+        self.stack.len() - base
+    }
+
+    /// A number that is in range more often than not.
+    fn operand(&self, rng: &mut Rng, op: Op) -> u32 {
+        let count = match op {
+            Op::Push => self.program.constants.len(),
+            Op::Load | Op::Lea => self.locals.len(),
+            Op::Store => self.locals.len() + 1,
+            Op::Call => self.program.functions.len(),
+            _ => 4,
+        };
+        let beyond = usize::from(rng.one_in(8));
+        rng.below(count + beyond) as u32
+    }
+
+    fn fits(&self, instr: Instr) -> bool {
+        let n = instr.operand as usize;
+        let top = self.stack.last().map_or(0, |known| known.0);
+        let under = self.stack.iter().nth_back(1).map_or(0, |known| known.0);
+        let number = matches!(top, INT | LONG | DOUBLE);
+        match instr.op {
+            Op::Push => n < self.program.constants.len(),
+            Op::Load | Op::Lea => n < self.locals.len(),
+            Op::Store => {
+                self.own() > 0 && n <= self.locals.len() && n < 16 && self.storable(n, top)
+            }
+            Op::Pop | Op::Copy => self.own() > 0,
+            Op::Tload | Op::Inc | Op::Dec => self.own() > 0 && top == POINTER,
+            Op::Neg | Op::Toi | Op::Tol | Op::Tod => self.own() > 0 && number,
+            Op::Not => self.own() > 0 && number && top != DOUBLE,
+            Op::Tstore => self.own() > 1 && under == POINTER,
+            Op::Swap | Op::Cmp | Op::Icmp => self.own() > 1 && top == under,
+            Op::Call => n < self.program.functions.len() && self.callable(n),
+            op if op.is_conditional() => self.own() > 0 && top == INT,
+            Op::Jmp | Op::Ret => false,
+            _ => self.own() > 1 && top == under && number && top != DOUBLE,
+        }
+    }
+
+    fn storable(&self, n: usize, top: u8) -> bool {
+        n == self.locals.len() || self.stack[self.locals[n]].0 == top
+    }
+
+    fn callable(&self, n: usize) -> bool {
+        let parameters = &self.program.functions[n].parameters;
+        let count = parameters.len();
+        if self.own() < count {
+            return false;
+        }
+        let arguments = &self.stack[self.stack.len() - count..];
+        let mut pairs = parameters.iter().zip(arguments);
+        pairs.all(|(&ty, known)| run_time(ty) == known.0)
+    }
+
+    fn apply(&mut self, instr: Instr) {
+        let n = instr.operand as usize;
+        let top = self.stack.last().copied().unwrap_or((0, None));
+        match instr.op {
+            Op::Push => self.stack.push((self.program.constants[n].ty as u8, None)),
+            Op::Load => self.stack.push(self.stack[self.locals[n]]),
+            Op::Lea => self.stack.push((POINTER, Some(self.locals[n]))),
+            Op::Store if n == self.locals.len() => self.locals.push(self.stack.len() - 1),
+            Op::Store => {
+                self.stack[self.locals[n]] = top;
+                self.stack.pop();
+            }
+            Op::Copy => self.stack.push(top),
+            Op::Tload => {
+                let target = top.1.and_then(|slot| self.stack.get(slot).copied());
+                self.replace(1, target.unwrap_or((INT, None)));
+            }
+            Op::Toi => self.replace(1, (INT, None)),
+            Op::Tol => self.replace(1, (LONG, None)),
+            Op::Tod => self.replace(1, (DOUBLE, None)),
+            Op::Cmp | Op::Icmp => self.replace(2, (INT, None)),
+            Op::Neg | Op::Not | Op::Swap => {}
+            Op::Tstore => self.drop_top(2),
+            Op::Call => {
+                let routine = &self.program.functions[n];
+                let (count, returns) = (routine.parameters.len(), routine.returns);
+                self.drop_top(count);
+                if returns != 0 {
+                    self.stack.push((returns, None));
+                }
+            }
+            _ => self.drop_top(1),
+        }
+    }
+
+    fn drop_top(&mut self, count: usize) {
+        self.stack.truncate(self.stack.len() - count);
+    }
+
+    fn replace(&mut self, count: usize, known: Known) {
+        self.drop_top(count);
+        self.stack.push(known);
+    }
+}
+
+/// A pointer that outlives the frame it points into: a function writes the address of one of
+/// its locals into a pointer local of its caller. Then the caller uses it.
+pub fn stale(rng: &mut Rng) -> Program {
+    let mut program = Program {
+        constants: pool(rng, 2),
+        ..Program::default()
+    };
+    let returns = rng.pick(&[0, 0, INT, LONG, DOUBLE]);
+    program.functions.push(Routine {
+        parameters: vec![0x80 | INT],
+        returns,
+        code: leak(rng, &program, returns),
+    });
+    program.entry = instrs(&uses(rng, returns));
+    program
+}
+
+/// The caller, which uses the pointer after the call.
+fn uses(rng: &mut Rng, returns: u8) -> Vec<(Op, u32)> {
+    let push = |rng: &mut Rng| (Op::Push, rng.below(8) as u32);
+    let mut code = vec![push(rng), (Op::Store, 0), (Op::Lea, 0), (Op::Store, 1)];
+    for _ in 0..rng.below(4) {
+        code.push(push(rng));
+    }
+    code.extend([(Op::Lea, 1), (Op::Call, 0)]);
+    for _ in 0..rng.below(3) {
+        code.push(push(rng));
+    }
+    if returns != 0 && rng.percent(50) {
+        code.push((Op::Pop, 0));
+    }
+    code.push((Op::Load, 1));
+    for _ in 0..rng.below(2) {
+        code.push(rng.pick(&[(Op::Push, 0), (Op::Load, 0), (Op::Load, 1), (Op::Copy, 0)]));
+    }
+    for _ in 0..rng.range(1, 4) {
+        let next = [
+            Op::Tload,
+            Op::Tstore,
+            Op::Inc,
+            Op::Dec,
+            Op::Tload,
+            Op::Tstore,
+            Op::Cmp,
+        ];
+        code.push((rng.pick(&next), 0));
+        code.push(rng.pick(&[(Op::Load, 1), (Op::Load, 0), (Op::Push, 1)]));
+    }
+    code
+}
+
+/// The function that leaks a pointer to one of its own slots.
+fn leak(rng: &mut Rng, program: &Program, returns: u8) -> Vec<Instr> {
+    let mut code = Vec::new();
+    let bound = rng.below(4) as u32;
+    for n in 1..=bound {
+        let constant = rng.below(program.constants.len()) as u32;
+        code.extend([(Op::Push, constant), (Op::Store, n)]);
+    }
+    let leaked = rng.below(bound as usize + 1) as u32;
+    code.extend([(Op::Load, 0), (Op::Lea, leaked), (Op::Tstore, 0)]);
+    let want = u32::from(returns);
+    if let Some(n) = program.constants.iter().position(|c| c.ty == want) {
+        code.push((Op::Push, n as u32));
+    }
+    code.push((Op::Ret, 0));
+    instrs(&code)
+}
+
+pub fn instrs(code: &[(Op, u32)]) -> Vec<Instr> {
+    code.iter()
+        .map(|&(op, operand)| Instr { op, operand })
+        .collect()
+}
+
+/// Any instructions at all, with small operands.
+pub fn random(rng: &mut Rng) -> Program {
+    let mut program = Program {
+        constants: pool(rng, 0),
+        ..Program::default()
+    };
+    for _ in 0..rng.below(3) {
+        let (parameters, returns) = signature(rng);
+        let code = random_code(rng, 1);
+        program.functions.push(Routine {
+            parameters,
+            returns,
+            code,
+        });
+    }
+    program.entry = random_code(rng, 0);
+    for _ in 0..rng.below(4) {
+        let owners = program.owners();
+        let owner = rng.pick(&owners);
+        let length = program.body(owner).len();
+        if length > 0 {
+            let index = rng.below(length);
+            program.labels.push(Mark { owner, index });
+        }
+    }
+    program
+}
+
+fn random_code(rng: &mut Rng, least: usize) -> Vec<Instr> {
+    let length = rng.range(least, 12);
+    (0..length)
+        .map(|_| {
+            let op = if rng.percent(40) {
+                rng.pick(&[Op::Push, Op::Push, Op::Load, Op::Lea, Op::Store])
+            } else {
+                rng.pick(&ALL).0
+            };
+            let operand = if rng.one_in(30) {
+                rng.any() as u32
+            } else {
+                rng.below(6) as u32
+            };
+            Instr { op, operand }
+        })
+        .collect()
+}

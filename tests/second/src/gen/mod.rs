@@ -1,0 +1,16 @@
+//! Seeded generators of modules and calls.
+
+pub mod body;
+pub mod calls;
+pub mod case;
+pub mod constants;
+pub mod damage;
+pub mod expression;
+pub mod limits;
+pub mod loose;
+pub mod mixed;
+pub mod near;
+pub mod pointers;
+pub mod rng;
+pub mod shapes;
+pub mod typed;

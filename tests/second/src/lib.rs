@@ -1,0 +1,40 @@
+//! An independent second program for Limpetskein: reader, check and run, written from the
+//! sentences of the paper (document 01, the exact rules; 003 where it says so). Each rule
+//! stands beside the sentence that it comes from. The main
+//! program is compared with this one on generated modules and calls.
+//!
+//! * The rules: `reader`, `check` (with `worklist` and `judge`), `run` (with `machine`,
+//!   `step`, `integer`, `double`, `convert`), `show` for the small program's output.
+//! * `rules`: the deliberately wrong variants that test the tests.
+//! * The tools: `program` and `asm` write modules, `gen` makes cases, `memory`, `subject` and
+//!   `compare` run two programs side by side, `coverage` counts what the cases reach.
+
+#![forbid(unsafe_code)]
+
+pub mod args;
+pub mod asm;
+pub mod check;
+pub mod claims;
+pub mod compare;
+pub mod convert;
+pub mod coverage;
+pub mod double;
+pub mod gen;
+pub mod hex;
+pub mod integer;
+pub mod judge;
+pub mod machine;
+pub mod memory;
+pub mod opcode;
+pub mod possible;
+pub mod program;
+pub mod reader;
+pub mod rules;
+pub mod run;
+pub mod samples;
+pub mod show;
+pub mod step;
+pub mod subject;
+pub mod types;
+pub mod words;
+pub mod worklist;

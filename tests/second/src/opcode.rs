@@ -1,0 +1,146 @@
+//! The 42 opcodes: "opcodes 01 to 05, 07 to 28, 2B, 2C, 2E (hex), 42 in all".
+
+#[derive(Clone, Copy, Debug, PartialEq, Eq, PartialOrd, Ord, Hash)]
+#[repr(u8)]
+pub enum Op {
+    Push = 0x01,
+    Pop = 0x02,
+    Load = 0x03,
+    Store = 0x04,
+    Lea = 0x05,
+    Tload = 0x07,
+    Tstore = 0x08,
+    Copy = 0x09,
+    Swap = 0x0A,
+    Add = 0x0B,
+    Sub = 0x0C,
+    Mul = 0x0D,
+    Imul = 0x0E,
+    Div = 0x0F,
+    Idiv = 0x10,
+    Mod = 0x11,
+    Imod = 0x12,
+    Neg = 0x13,
+    Inc = 0x14,
+    Dec = 0x15,
+    And = 0x16,
+    Or = 0x17,
+    Xor = 0x18,
+    Not = 0x19,
+    Shl = 0x1A,
+    Sal = 0x1B,
+    Shr = 0x1C,
+    Sar = 0x1D,
+    Cmp = 0x1E,
+    Icmp = 0x1F,
+    Jmp = 0x20,
+    Je = 0x21,
+    /// "22 hex is `jne`."
+    Jne = 0x22,
+    Ja = 0x23,
+    Jae = 0x24,
+    Jb = 0x25,
+    Jbe = 0x26,
+    Call = 0x27,
+    Ret = 0x28,
+    Toi = 0x2B,
+    Tol = 0x2C,
+    Tod = 0x2E,
+}
+
+/// Every opcode with its mnemonic.
+pub const ALL: [(Op, &str); 42] = [
+    (Op::Push, "push"),
+    (Op::Pop, "pop"),
+    (Op::Load, "load"),
+    (Op::Store, "store"),
+    (Op::Lea, "lea"),
+    (Op::Tload, "tload"),
+    (Op::Tstore, "tstore"),
+    (Op::Copy, "copy"),
+    (Op::Swap, "swap"),
+    (Op::Add, "add"),
+    (Op::Sub, "sub"),
+    (Op::Mul, "mul"),
+    (Op::Imul, "imul"),
+    (Op::Div, "div"),
+    (Op::Idiv, "idiv"),
+    (Op::Mod, "mod"),
+    (Op::Imod, "imod"),
+    (Op::Neg, "neg"),
+    (Op::Inc, "inc"),
+    (Op::Dec, "dec"),
+    (Op::And, "and"),
+    (Op::Or, "or"),
+    (Op::Xor, "xor"),
+    (Op::Not, "not"),
+    (Op::Shl, "shl"),
+    (Op::Sal, "sal"),
+    (Op::Shr, "shr"),
+    (Op::Sar, "sar"),
+    (Op::Cmp, "cmp"),
+    (Op::Icmp, "icmp"),
+    (Op::Jmp, "jmp"),
+    (Op::Je, "je"),
+    (Op::Jne, "jne"),
+    (Op::Ja, "ja"),
+    (Op::Jae, "jae"),
+    (Op::Jb, "jb"),
+    (Op::Jbe, "jbe"),
+    (Op::Call, "call"),
+    (Op::Ret, "ret"),
+    (Op::Toi, "toi"),
+    (Op::Tol, "tol"),
+    (Op::Tod, "tod"),
+];
+
+impl Op {
+    /// The opcode of a byte, or nothing for "an unknown opcode".
+    pub fn from_byte(byte: u8) -> Option<Op> {
+        let index = match byte {
+            0x01..=0x05 => byte - 0x01,
+            0x07..=0x28 => byte - 0x07 + 5,
+            0x2B | 0x2C => byte - 0x2B + 39,
+            0x2E => 41,
+            _ => return None,
+        };
+        Some(ALL[index as usize].0)
+    }
+
+    /// The opcode of a mnemonic.
+    pub fn from_name(name: &str) -> Option<Op> {
+        ALL.iter().find(|(_, n)| *n == name).map(|&(op, _)| op)
+    }
+
+    pub fn name(self) -> &'static str {
+        ALL.iter()
+            .find(|&&(op, _)| op == self)
+            .map_or("", |&(_, n)| n)
+    }
+
+    /// 003: some instructions need a 4-byte operand. "`ret` has no operand, whatever 003's
+    /// table says."
+    pub fn has_operand(self) -> bool {
+        matches!(self, Op::Push | Op::Load | Op::Store | Op::Lea)
+            || self.has_label()
+            || self == Op::Call
+    }
+
+    /// Does the operand name a label?
+    pub fn has_label(self) -> bool {
+        self == Op::Jmp || self.is_conditional()
+    }
+
+    pub fn is_conditional(self) -> bool {
+        matches!(self, Op::Je | Op::Jne | Op::Ja | Op::Jae | Op::Jb | Op::Jbe)
+    }
+
+    /// 003: an instruction is 1 byte, with its operand 5.
+    pub fn size(self) -> usize {
+        if self.has_operand() {
+            5
+        } else {
+            1
+        }
+    }
+}

@@ -1,0 +1,85 @@
+//! What the paper makes possible: every exception of every opcode, every type an opcode can
+//! work on, every reason for a body to have no typing.
+
+use crate::opcode::{Op, ALL};
+use crate::types::{DOUBLE, INT, LONG, POINTER};
+use crate::worklist::Reason;
+
+const SUMS: [Op; 6] = [Op::Add, Op::Sub, Op::Mul, Op::Imul, Op::Div, Op::Idiv];
+
+/// The exceptions that an instruction can raise in a run, in the paper's order.
+pub fn exceptions(op: Op) -> &'static [u32] {
+    match op {
+        Op::Push => &[23, 20],
+        Op::Pop => &[21],
+        Op::Load | Op::Lea => &[25, 20],
+        Op::Store => &[26, 21, 22],
+        Op::Tload => &[21, 31, 33],
+        Op::Tstore => &[21, 31, 33, 22],
+        Op::Copy => &[21, 20],
+        Op::Swap | Op::Cmp | Op::Icmp => &[21, 22],
+        Op::Add | Op::Sub | Op::Mul | Op::Imul => &[21, 32, 22],
+        Op::Div | Op::Idiv => &[21, 32, 22, 24],
+        Op::Mod | Op::Imod => &[21, 32, 22, 34, 24],
+        Op::And | Op::Or | Op::Xor | Op::Shl | Op::Sal | Op::Shr | Op::Sar => &[21, 32, 22, 34],
+        Op::Neg | Op::Toi | Op::Tol | Op::Tod => &[21, 32],
+        Op::Not => &[21, 32, 34],
+        Op::Inc | Op::Dec => &[21, 31, 33, 32],
+        Op::Jmp => &[27],
+        Op::Je | Op::Jne | Op::Ja | Op::Jae | Op::Jb | Op::Jbe => &[27, 21, 22],
+        Op::Call => &[28, 21, 22, 20],
+        Op::Ret => &[30, 21, 22],
+    }
+}
+
+/// The exceptions that leave a body without typing: those of a run other than 20 and 24, other
+/// than 33 ("every pointer taken as live") and than 32 for `inc` and `dec` (no pointer points
+/// to a pointer); and `lea` of a local that holds no number, shown as 32.
+pub fn typing_exceptions(op: Op) -> Vec<u32> {
+    let mut numbers: Vec<u32> = exceptions(op).to_vec();
+    numbers.retain(|number| ![20, 24, 33].contains(number));
+    match op {
+        Op::Inc | Op::Dec => numbers.retain(|&number| number != 32),
+        Op::Lea => numbers.push(32),
+        _ => {}
+    }
+    numbers
+}
+
+/// All reasons for a body to have no typing.
+pub fn reasons() -> Vec<Reason> {
+    let mut reasons = vec![Reason::Differ, Reason::TooLong, Reason::FunctionEnd];
+    for (op, _) in ALL {
+        let numbers = typing_exceptions(op);
+        reasons.extend(numbers.into_iter().map(|number| Reason::Raises(op, number)));
+    }
+    reasons
+}
+
+/// The variants in which an instruction can be executed: for most the type that it works on;
+/// for a conditional branch 1 if taken and 0 if not; for `ret` the return type.
+pub fn executions(op: Op) -> &'static [u8] {
+    match op {
+        Op::Push | Op::Neg | Op::Toi | Op::Tol | Op::Tod | Op::Inc | Op::Dec => {
+            &[INT, LONG, DOUBLE]
+        }
+        Op::Jmp | Op::Call => &[0],
+        Op::Ret => &[0, INT, LONG, DOUBLE],
+        op if op.is_conditional() => &[0, 1],
+        op if SUMS.contains(&op) => &[INT, LONG, DOUBLE],
+        Op::Pop | Op::Load | Op::Store | Op::Lea | Op::Tload | Op::Tstore | Op::Copy => {
+            &[INT, LONG, DOUBLE, POINTER]
+        }
+        Op::Swap | Op::Cmp | Op::Icmp => &[INT, LONG, DOUBLE, POINTER],
+        _ => &[INT, LONG],
+    }
+}
+
+/// The answers that a check can give.
+pub const CHECK_ANSWERS: [u32; 12] = [0, 1, 2, 3, 4, 5, 6, 7, 8, 9, 10, 11];
+
+/// The answers that a run can give.
+pub const RUN_ANSWERS: [u32; 28] = [
+    0, 1, 2, 3, 4, 5, 6, 7, 8, 9, 12, 13, 15, 20, 21, 22, 23, 24, 25, 26, 27, 28, 29, 30, 31, 32,
+    33, 34,
+];

@@ -1,0 +1,314 @@
+//! The reader: answers 1 to 9, and the view of a module that can be read.
+
+use crate::opcode::Op;
+use crate::rules::{Fault, Rules};
+use crate::types::{is_number, pointee, INT};
+use crate::words::{payload, word};
+use std::ops::Range;
+
+/// "FFFFFFFF names the entry".
+pub const ENTRY: u32 = 0xFFFF_FFFF;
+pub const HEADER: usize = 48;
+pub const CONSTANT: usize = 12;
+pub const FUNCTION: usize = 20;
+pub const LABEL: usize = 8;
+pub const MAX_CONSTANTS: u32 = 1024;
+pub const MAX_FUNCTIONS: u32 = 128;
+pub const MAX_LABELS: u32 = 256;
+pub const MAX_CODE: u32 = 16_384;
+
+/// The longest module possible.
+pub const LONGEST: usize = HEADER
+    + CONSTANT * MAX_CONSTANTS as usize
+    + FUNCTION * MAX_FUNCTIONS as usize
+    + LABEL * MAX_LABELS as usize
+    + MAX_CODE as usize;
+
+/// "An opened module is a view of the lent file and its counts."
+#[derive(Clone, Copy, Debug)]
+pub struct Module<'a> {
+    file: &'a [u8],
+    pub constants: u32,
+    pub functions: u32,
+    pub labels: u32,
+    pub code_length: u32,
+    pub entry_length: u32,
+}
+
+#[derive(Clone, Debug, PartialEq, Eq)]
+pub struct Function {
+    pub start: u32,
+    pub length: u32,
+    /// Parameter types, parameter 0 first.
+    pub parameters: Vec<u8>,
+    pub returns: u8,
+}
+
+#[derive(Clone, Copy, Debug, PartialEq, Eq)]
+pub struct Instruction {
+    pub op: Op,
+    pub operand: u32,
+    /// The place right after the instruction.
+    pub next: usize,
+}
+
+/// Reads a module file. "The first in number order is given."
+pub fn read(rules: Rules, file: &[u8]) -> Result<Module<'_>, u32> {
+    // 1: "under 48 bytes"
+    if file.len() < HEADER {
+        return Err(1);
+    }
+    // 2: "edition is not 3"
+    if word(file, 0) != 3 {
+        return Err(2);
+    }
+    // 3: "total length word differs from the lent length"
+    if u64::from(word(file, 4)) != file.len() as u64 {
+        return Err(3);
+    }
+    let module = Module {
+        file,
+        constants: word(file, 8),
+        functions: word(file, 16),
+        labels: word(file, 24),
+        code_length: word(file, 32),
+        entry_length: word(file, 40),
+    };
+    module.limits()?;
+    module.layout(rules)?;
+    module.constant_records(rules)?;
+    if rules.wrong(Fault::FunctionsOneByOne) {
+        module.functions_one_by_one(rules)?;
+    }
+    module.function_records(rules)?;
+    if rules.wrong(Fault::LabelsBeforeCode) {
+        module.label_records(rules)?;
+    }
+    module.bodies_cut()?;
+    module.label_records(rules)?;
+    Ok(module)
+}
+
+impl<'a> Module<'a> {
+    /// 4: "a count or the code length is over its limit, or word 44 is not zero"
+    fn limits(&self) -> Result<(), u32> {
+        let over = self.constants > MAX_CONSTANTS
+            || self.functions > MAX_FUNCTIONS
+            || self.labels > MAX_LABELS
+            || self.code_length > MAX_CODE;
+        refuse(over || word(self.file, 44) != 0, 4)
+    }
+
+    fn functions_at(&self) -> usize {
+        HEADER + CONSTANT * self.constants as usize
+    }
+
+    fn labels_at(&self) -> usize {
+        self.functions_at() + FUNCTION * self.functions as usize
+    }
+
+    fn code_at(&self) -> usize {
+        self.labels_at() + LABEL * self.labels as usize
+    }
+
+    /// 5: "an offset is not the packed one, the sections' sum is not the total, or the entry
+    /// is longer than the code"
+    fn layout(&self, rules: Rules) -> Result<(), u32> {
+        let offset = |at| word(self.file, at) as usize;
+        let unlabelled = self.labels == 0 && rules.wrong(Fault::EmptySectionOffset);
+        let packed = offset(12) == HEADER
+            && offset(20) == self.functions_at()
+            && (offset(28) == self.labels_at() || unlabelled)
+            && offset(36) == self.code_at();
+        let sum = self.code_at() + self.code_length as usize;
+        let fits = sum == self.file.len() && self.entry_length <= self.code_length;
+        refuse(!(packed && fits), 5)
+    }
+
+    /// 6: "a constant of another type, or an int with upper bytes set"
+    fn constant_records(&self, rules: Rules) -> Result<(), u32> {
+        for n in 0..self.constants {
+            let at = HEADER + CONSTANT * n as usize;
+            // "type word (3, 4 or 6)": all 32 bits of it
+            let mut ty = word(self.file, at);
+            if rules.wrong(Fault::ConstantTypeByte) {
+                ty &= 0xFF;
+            }
+            let known = u8::try_from(ty).is_ok_and(is_number);
+            let upper = word(self.file, at + 8);
+            refuse(!known || (ty == u32::from(INT) && upper != 0), 6)?;
+        }
+        Ok(())
+    }
+
+    /// 7: "a bad function record, or bodies that don't fill the code"
+    fn function_records(&self, rules: Rules) -> Result<(), u32> {
+        // "Code begins with the entry's body; function bodies follow in number order without
+        // gaps and fill the section."
+        let mut end = u64::from(self.entry_length);
+        for n in 0..self.functions {
+            end = self.function_record(rules, n, end)?;
+        }
+        refuse(end != u64::from(self.code_length), 7)
+    }
+
+    /// One function record whose body must start at `packed`; gives the body's end.
+    fn function_record(&self, rules: Rules, n: u32, packed: u64) -> Result<u64, u32> {
+        let at = self.functions_at() + FUNCTION * n as usize;
+        let record = &self.file[at..at + FUNCTION];
+        let (start, length) = (word(record, 0), word(record, 4));
+        // "start, length (≥ 1)"
+        refuse(u64::from(start) != packed || length < 1, 7)?;
+        // "parameter count (0 to 8, one byte), return type (one byte: 0, 3, 4, 6)"
+        let (count, returns) = (record[8] as usize, record[9]);
+        refuse(count > 8 || !(returns == 0 || is_number(returns)), 7)?;
+        // "eight parameter type bytes (3, 4, 6, or 83, 84, 86 hex for pointer to one; unused
+        // are 0), two zero bytes"
+        let (used, unused) = record[10..18].split_at(count);
+        let known = |&ty: &u8| is_number(ty) || pointee(ty).is_some();
+        refuse(!used.iter().all(known), 7)?;
+        if !rules.wrong(Fault::UnusedParameterBytes) {
+            refuse(unused.iter().any(|&byte| byte != 0), 7)?;
+        }
+        refuse(record[18] != 0 || record[19] != 0, 7)?;
+        Ok(packed + u64::from(length))
+    }
+
+    /// 8: "an unknown opcode, or an instruction crossing its body's end"
+    fn bodies_cut(&self) -> Result<(), u32> {
+        for body in self.bodies() {
+            refuse(!self.starts(body).1, 8)?;
+        }
+        Ok(())
+    }
+
+    /// 9: "a label with no such owner, or not on an instruction start of its owner"
+    fn label_records(&self, rules: Rules) -> Result<(), u32> {
+        for n in 0..self.labels {
+            let at = self.labels_at() + LABEL * n as usize;
+            let (owner, place) = (word(self.file, at), word(self.file, at + 4) as usize);
+            refuse(owner != ENTRY && owner >= self.functions, 9)?;
+            let mut places = self.starts(owner).0;
+            if rules.wrong(Fault::LabelOnBodyEnd) {
+                places.push(self.range(owner).end);
+            }
+            refuse(!places.contains(&place), 9)?;
+        }
+        Ok(())
+    }
+
+    /// Wrong on purpose: a body's instructions before the records of later functions.
+    fn functions_one_by_one(&self, rules: Rules) -> Result<(), u32> {
+        let mut end = u64::from(self.entry_length);
+        for n in 0..self.functions {
+            end = self.function_record(rules, n, end)?;
+            refuse(end > u64::from(self.code_length), 7)?;
+            refuse(!self.starts(n).1, 8)?;
+        }
+        Ok(())
+    }
+
+    /// The bodies: "entry first, as FFFFFFFF, then functions in order".
+    pub fn bodies(&self) -> impl Iterator<Item = u32> {
+        std::iter::once(ENTRY).chain(0..self.functions)
+    }
+
+    /// The places of a body, from its start to its end. "Places count from the start of the
+    /// code."
+    pub fn range(&self, body: u32) -> Range<usize> {
+        if body >= self.functions {
+            return 0..self.entry_length as usize;
+        }
+        let at = self.functions_at() + FUNCTION * body as usize;
+        let start = word(self.file, at) as usize;
+        start..start + word(self.file, at + 4) as usize
+    }
+
+    /// The instruction starts of a body, cut from its own start; and whether the cutting came
+    /// out at the body's end.
+    pub fn starts(&self, body: u32) -> (Vec<usize>, bool) {
+        let range = self.range(body);
+        let mut starts = Vec::new();
+        let mut place = range.start;
+        while place < range.end {
+            let Some(op) = Op::from_byte(self.code()[place]) else {
+                return (starts, false);
+            };
+            if place + op.size() > range.end {
+                return (starts, false);
+            }
+            starts.push(place);
+            place += op.size();
+        }
+        (starts, true)
+    }
+
+    fn code(&self) -> &'a [u8] {
+        &self.file[self.code_at()..]
+    }
+
+    /// The instruction at an instruction start.
+    pub fn instruction(&self, place: usize) -> Option<Instruction> {
+        let op = Op::from_byte(*self.code().get(place)?)?;
+        let operand = if op.has_operand() {
+            word(self.code(), place + 1)
+        } else {
+            0
+        };
+        let next = place + op.size();
+        Some(Instruction { op, operand, next })
+    }
+
+    /// Type and payload of a constant, if there is one of this number.
+    pub fn constant(&self, n: u32) -> Option<(u8, u64)> {
+        let at = HEADER + CONSTANT * n as usize;
+        (n < self.constants).then(|| (self.file[at], payload(self.file, at + 4)))
+    }
+
+    /// The function of this number, if there is one.
+    pub fn function(&self, n: u32) -> Option<Function> {
+        if n >= self.functions {
+            return None;
+        }
+        let at = self.functions_at() + FUNCTION * n as usize;
+        let record = &self.file[at..at + FUNCTION];
+        Some(Function {
+            start: word(record, 0),
+            length: word(record, 4),
+            parameters: record[10..10 + record[8] as usize].to_vec(),
+            returns: record[9],
+        })
+    }
+
+    /// Owner and place of a label, if there is one of this number.
+    pub fn label(&self, n: u32) -> Option<(u32, usize)> {
+        let at = self.labels_at() + LABEL * n as usize;
+        (n < self.labels).then(|| (word(self.file, at), word(self.file, at + 4) as usize))
+    }
+
+    /// Where a branch in `body` to label `n` goes. "A label of another body is 27."
+    pub fn branch_place(&self, rules: Rules, body: u32, n: u32) -> Result<usize, u32> {
+        match self.label(n) {
+            Some((_, place)) if rules.wrong(Fault::AnyLabel) => Ok(place),
+            Some((owner, place)) if owner == body => Ok(place),
+            _ => Err(27),
+        }
+    }
+
+    /// The parameter types as a call matches them: "Parameter 0 is the deepest argument".
+    pub fn signature(&self, rules: Rules, n: u32) -> Option<Function> {
+        let mut function = self.function(n)?;
+        if rules.wrong(Fault::ParametersReversed) {
+            function.parameters.reverse();
+        }
+        Some(function)
+    }
+}
+
+fn refuse(fault: bool, number: u32) -> Result<(), u32> {
+    if fault {
+        Err(number)
+    } else {
+        Ok(())
+    }
+}

@@ -1,0 +1,374 @@
+//! Deliberately wrong variants of the second program, to test the tests with.
+//!
+//! `Rules::PLAIN` is the paper. Every other value changes one rule in one place; the place
+//! asks `rules.wrong(Fault::...)`.
+
+#[derive(Clone, Copy, Debug, PartialEq, Eq)]
+pub enum Fault {
+    BranchKeepsValue,
+    BindingPops,
+    DeadCodeTyped,
+    FirstTypingKept,
+    ParametersReversed,
+    ArgumentSlotsReversed,
+    TypeBeforePointer,
+    AddressAgainstFullHeight,
+    NanPayloadInSum,
+    ToiRounds,
+    TodRoundsTwice,
+    ExceptionCountsStep,
+    SlotsNotCleared,
+    LabelOnBodyEnd,
+    LabelsBeforeCode,
+    FunctionsOneByOne,
+    OperandLimitForgotten,
+    EntryEndNotJudged,
+    LastBadBody,
+    CapacityLimitForgotten,
+    AllowanceBeforeEnd,
+    SixtyFiveFrames,
+    FrameLimitFirst,
+    MisfitKeepsMemory,
+    NegKeepsNan,
+    SarMasksCount,
+    NanGreater,
+    RoomKeptWithEleven,
+    UnreachedRecordKept,
+    BuriedOperandsKept,
+    AnyLabel,
+    PointersAlike,
+    LeaOfPointerTyped,
+    LowestByMinusOneRaises,
+    TolOfIntSigned,
+    IncCarries,
+    RetLeavesArguments,
+    UpperBitsAdmitted,
+    FunctionEndGiven,
+    UnusedParameterBytes,
+    LeaOfPointerRaises,
+    TstoreOfPointerRaises,
+    EmptySectionOffset,
+    ConstantTypeByte,
+    EntryArgumentsTwelve,
+    PointersShownAsSeven,
+    PointerFromFrame,
+    LastRetUncounted,
+    TloadOfPointerRaises,
+    PointeesCompared,
+    EmptyBeforeLabel,
+    LabelWhenTaken,
+    DoubleBeforeType,
+    CmpSigned,
+    ToiSignedRange,
+    RoomAllZeroed,
+    PastCapacityCleared,
+    JaeSigned,
+}
+
+/// Every wrong variant with its name and what is wrong.
+pub const FAULTS: [(Fault, &str, &str); 58] = [
+    (
+        Fault::BranchKeepsValue,
+        "branch-keeps-value",
+        "branch value removed only when taken",
+    ),
+    (Fault::BindingPops, "binding-pops", "binding store pops"),
+    (
+        Fault::DeadCodeTyped,
+        "dead-code-typed",
+        "code after jmp and ret is typed",
+    ),
+    (
+        Fault::FirstTypingKept,
+        "first-typing-kept",
+        "first lists at a place kept, next not compared",
+    ),
+    (
+        Fault::ParametersReversed,
+        "parameters-reversed",
+        "parameter types taken in reverse",
+    ),
+    (
+        Fault::ArgumentSlotsReversed,
+        "argument-slots-reversed",
+        "local 0 is the topmost argument",
+    ),
+    (
+        Fault::TypeBeforePointer,
+        "22-before-32",
+        "different types before invalid pointer",
+    ),
+    (
+        Fault::AddressAgainstFullHeight,
+        "33-full-height",
+        "address held against the full height",
+    ),
+    (
+        Fault::NanPayloadInSum,
+        "nan-payload-in-sum",
+        "NaN payload survives a sum",
+    ),
+    (Fault::ToiRounds, "toi-rounds", "toi rounds to nearest"),
+    (
+        Fault::TodRoundsTwice,
+        "tod-rounds-twice",
+        "tod of a long rounds twice",
+    ),
+    (
+        Fault::ExceptionCountsStep,
+        "exception-counts-step",
+        "an exception counts a step",
+    ),
+    (
+        Fault::SlotsNotCleared,
+        "slots-not-cleared",
+        "slots above the height not cleared",
+    ),
+    (
+        Fault::LabelOnBodyEnd,
+        "label-on-body-end",
+        "label allowed on a body's end",
+    ),
+    (
+        Fault::LabelsBeforeCode,
+        "labels-before-code",
+        "9 before 8, the order in the file",
+    ),
+    (
+        Fault::FunctionsOneByOne,
+        "functions-one-by-one",
+        "7 and 8 function by function",
+    ),
+    (
+        Fault::OperandLimitForgotten,
+        "operand-limit-forgotten",
+        "more than 32 operands in a list",
+    ),
+    (
+        Fault::EntryEndNotJudged,
+        "entry-end-not-judged",
+        "lists at the entry's end not limited or compared",
+    ),
+    (
+        Fault::LastBadBody,
+        "last-bad-body",
+        "last body without typing named",
+    ),
+    (
+        Fault::CapacityLimitForgotten,
+        "capacity-limit-forgotten",
+        "capacity over 4,096",
+    ),
+    (
+        Fault::AllowanceBeforeEnd,
+        "allowance-before-end",
+        "15 before the end of a body",
+    ),
+    (
+        Fault::SixtyFiveFrames,
+        "sixty-five-frames",
+        "65 frames live",
+    ),
+    (
+        Fault::FrameLimitFirst,
+        "frame-limit-first",
+        "65th frame before 21 and 22",
+    ),
+    (
+        Fault::MisfitKeepsMemory,
+        "misfit-keeps-memory",
+        "arguments that don't fit leave memory",
+    ),
+    (
+        Fault::NegKeepsNan,
+        "neg-keeps-nan",
+        "neg flips a NaN's sign",
+    ),
+    (
+        Fault::SarMasksCount,
+        "sar-masks-count",
+        "sar takes its count modulo the width",
+    ),
+    (
+        Fault::NanGreater,
+        "nan-greater",
+        "comparison with NaN gives 1",
+    ),
+    (
+        Fault::RoomKeptWithEleven,
+        "room-kept-with-11",
+        "room not zeroed with 11",
+    ),
+    (
+        Fault::UnreachedRecordKept,
+        "unreached-record-kept",
+        "record of an unreached label not zeroed",
+    ),
+    (
+        Fault::BuriedOperandsKept,
+        "buried-operands-kept",
+        "binding keeps the operands in the list",
+    ),
+    (
+        Fault::AnyLabel,
+        "any-label",
+        "branch to another body's label",
+    ),
+    (
+        Fault::PointersAlike,
+        "pointers-alike",
+        "typing takes all pointers as one type",
+    ),
+    (
+        Fault::LeaOfPointerTyped,
+        "lea-of-pointer-typed",
+        "typing lets lea take a pointer local",
+    ),
+    (
+        Fault::LowestByMinusOneRaises,
+        "lowest-by-minus-one",
+        "lowest by -1 raises 24",
+    ),
+    (
+        Fault::TolOfIntSigned,
+        "tol-of-int-signed",
+        "tol of an int extends the sign",
+    ),
+    (
+        Fault::IncCarries,
+        "inc-carries",
+        "inc of an int carries into the upper bytes",
+    ),
+    (
+        Fault::RetLeavesArguments,
+        "ret-leaves-arguments",
+        "ret drops the operands only",
+    ),
+    (
+        Fault::UpperBitsAdmitted,
+        "upper-bits-admitted",
+        "int argument with upper bits admitted",
+    ),
+    (
+        Fault::FunctionEndGiven,
+        "function-end-given",
+        "typing lets a function run into its end",
+    ),
+    (
+        Fault::UnusedParameterBytes,
+        "unused-parameter-bytes",
+        "unused parameter bytes not looked at",
+    ),
+    (
+        Fault::LeaOfPointerRaises,
+        "lea-of-pointer-raises",
+        "lea of a pointer local raises 32 at run time",
+    ),
+    (
+        Fault::TstoreOfPointerRaises,
+        "tstore-pointer-raises",
+        "tstore of a pointer raises 32",
+    ),
+    (
+        Fault::EmptySectionOffset,
+        "empty-section-offset",
+        "offset of an empty section not looked at",
+    ),
+    (
+        Fault::ConstantTypeByte,
+        "constant-type-byte",
+        "constant type compared by its low byte",
+    ),
+    (
+        Fault::EntryArgumentsTwelve,
+        "entry-arguments-12",
+        "arguments for the entry are 12",
+    ),
+    (
+        Fault::PointersShownAsSeven,
+        "pointers-shown-as-7",
+        "label records show 7 for every pointer",
+    ),
+    (
+        Fault::PointerFromFrame,
+        "pointer-from-frame",
+        "pointer counted from its frame's first slot",
+    ),
+    (
+        Fault::LastRetUncounted,
+        "last-ret-uncounted",
+        "the ret that finishes counts no step",
+    ),
+    (
+        Fault::TloadOfPointerRaises,
+        "tload-of-pointer-raises",
+        "tload of a pointer raises 32",
+    ),
+    (
+        Fault::PointeesCompared,
+        "pointees-compared",
+        "comparison of pointers to different types raises 22",
+    ),
+    (
+        Fault::EmptyBeforeLabel,
+        "21-before-27",
+        "a branch raises 21 before 27",
+    ),
+    (
+        Fault::LabelWhenTaken,
+        "27-when-taken",
+        "a branch raises 27 only when taken",
+    ),
+    (
+        Fault::DoubleBeforeType,
+        "34-before-22",
+        "invalid for double before different types",
+    ),
+    (Fault::CmpSigned, "cmp-signed", "cmp compares signed"),
+    (
+        Fault::ToiSignedRange,
+        "toi-signed-range",
+        "toi takes nothing from 2^31 on",
+    ),
+    (
+        Fault::RoomAllZeroed,
+        "room-all-zeroed",
+        "11 zeroes the whole room",
+    ),
+    (
+        Fault::PastCapacityCleared,
+        "past-capacity-cleared",
+        "entries past the capacity are cleared",
+    ),
+    (
+        Fault::JaeSigned,
+        "jae-signed",
+        "jae jumps on every int that is not negative",
+    ),
+];
+
+/// Which rules hold: the paper's, or the paper's with one fault.
+#[derive(Clone, Copy, Debug, PartialEq, Eq)]
+pub struct Rules {
+    fault: Option<Fault>,
+}
+
+impl Rules {
+    pub const PLAIN: Rules = Rules { fault: None };
+
+    pub fn with(fault: Fault) -> Rules {
+        Rules { fault: Some(fault) }
+    }
+
+    /// The rules of a fault's name.
+    pub fn named(name: &str) -> Option<Rules> {
+        FAULTS
+            .iter()
+            .find(|(_, n, _)| *n == name)
+            .map(|&(fault, _, _)| Rules::with(fault))
+    }
+
+    pub fn wrong(self, fault: Fault) -> bool {
+        self.fault == Some(fault)
+    }
+}

@@ -1,0 +1,540 @@
+//! The samples: W1 to W12 of the paper and more modules that show a rule each.
+
+use crate::asm;
+use crate::hex;
+
+/// One sample module.
+pub struct Sample {
+    pub name: &'static str,
+    /// What it shows, one line.
+    pub shows: &'static str,
+    source: Source,
+}
+
+enum Source {
+    /// The whole file in hex.
+    Hex(&'static str),
+    /// Assembled.
+    Text(&'static str),
+    /// Assembled, then bytes replaced at an offset.
+    Patched(&'static str, usize, &'static [u8]),
+    /// Assembled, then cut to a length.
+    Cut(&'static str, usize),
+}
+
+impl Sample {
+    pub fn file(&self) -> Vec<u8> {
+        match self.source {
+            Source::Hex(digits) => hex::decode(digits).expect("hex digits"),
+            Source::Text(text) => asm::file(text),
+            Source::Patched(text, at, bytes) => {
+                let mut file = asm::file(text);
+                file[at..at + bytes.len()].copy_from_slice(bytes);
+                file
+            }
+            Source::Cut(text, len) => {
+                let mut file = asm::file(text);
+                file.truncate(len);
+                file
+            }
+        }
+    }
+}
+
+const fn text(name: &'static str, shows: &'static str, text: &'static str) -> Sample {
+    let source = Source::Text(text);
+    Sample {
+        name,
+        shows,
+        source,
+    }
+}
+
+/// Seven and five, added; the module that the damaged samples start from.
+const PLAIN: &str = "int 7; int 5; entry: push 0; push 1; add; function int (int): load 0; ret";
+
+const fn patched(
+    name: &'static str,
+    shows: &'static str,
+    at: usize,
+    bytes: &'static [u8],
+) -> Sample {
+    let source = Source::Patched(PLAIN, at, bytes);
+    Sample {
+        name,
+        shows,
+        source,
+    }
+}
+
+/// The paper's whole file of W1.
+pub const W1: &str = "03000000 53000000 02000000 30000000 00000000 48000000 00000000 48000000 \
+    0B000000 48000000 0B000000 00000000 03000000 07000000 00000000 03000000 05000000 00000000 \
+    0100000000 0101000000 0B";
+
+/// W1 to W12.
+pub const W_SAMPLES: [Sample; 18] = [
+    Sample {
+        name: "w01",
+        shows: "7 + 5 = 12, the paper's whole file",
+        source: Source::Hex(W1),
+    },
+    text(
+        "w02",
+        "int 4294967295 + 1 wraps to 0",
+        "int 4294967295; int 1; entry: push 0; push 1; add",
+    ),
+    text(
+        "w03",
+        "long lowest idiv -1 is lowest",
+        "long -9223372036854775808; long -1; entry: push 0; push 1; idiv",
+    ),
+    text(
+        "w04",
+        "7 div 0 is exception 24 after 2 steps; the operands stay",
+        "int 7; int 0; entry: push 0; push 1; div",
+    ),
+    text(
+        "w05-cmp",
+        "1 and 4294967295 compared unsigned: -1",
+        "int 1; int 4294967295; entry: push 0; push 1; cmp",
+    ),
+    text(
+        "w05-icmp",
+        "1 and 4294967295 compared signed: 1",
+        "int 1; int 4294967295; entry: push 0; push 1; icmp",
+    ),
+    text(
+        "w06-sar",
+        "80000000 hex sar 40 is the sign in every bit",
+        "int 2147483648; int 40; entry: push 0; push 1; sar",
+    ),
+    text(
+        "w06-shr",
+        "8 shr 32 is 0",
+        "int 8; int 32; entry: push 0; push 1; shr",
+    ),
+    text(
+        "w07-below-minus-one",
+        "toi of -1.5 is FFFFFFFF",
+        "double -1.5; entry: push 0; toi",
+    ),
+    text(
+        "w07-below-zero",
+        "toi of -0.5 is 0",
+        "double -0.5; entry: push 0; toi",
+    ),
+    text(
+        "w07-too-large",
+        "toi of 4294967296.0 is 80000000 hex",
+        "double 4294967296.0; entry: push 0; toi",
+    ),
+    text(
+        "w08",
+        "tod of 9007199254740993 is 9007199254740992.0, shown as its bits",
+        "long 9007199254740993; entry: push 0; tod",
+    ),
+    text(
+        "w09",
+        "a bound local is no operand: pop after store 0 has no typing (a run raises 21)",
+        "int 1; entry: push 0; store 0; pop",
+    ),
+    text(
+        "w10",
+        "store 1 without local 0 has no typing (a run raises 26)",
+        "int 1; entry: push 0; store 1",
+    ),
+    text(
+        "w11-jae",
+        "jae jumps on int 5: 3 steps",
+        "int 5; int 1; int 2; entry: push 0; jae 0; push 1; pop; @0; push 2",
+    ),
+    text(
+        "w11-ja",
+        "ja doesn't jump on int 5: 5 steps",
+        "int 5; int 1; int 2; entry: push 0; ja 0; push 1; pop; @0; push 2",
+    ),
+    text(
+        "w12-growing",
+        "a loop that leaves one more operand each time has no typing: 11",
+        "int 1; entry: @0; push 0; jmp 0",
+    ),
+    text(
+        "w12-dead",
+        "the same loop without push; pop after it is dead code: accepted, uses up its allowance",
+        "entry: @0; jmp 0; pop",
+    ),
+];
+
+/// Programs that compute something.
+pub const PROGRAMS: [Sample; 9] = [
+    text(
+        "factorial",
+        "a counted loop with long locals: 20!",
+        "long 1; long 20; long 0
+         entry:
+         push 0; store 0
+         push 1; store 1
+         @0
+         load 0; load 1; mul; store 0
+         lea 1; dec
+         load 1; push 2; cmp; ja 0
+         load 0",
+    ),
+    text(
+        "fibonacci",
+        "recursion: the 15th Fibonacci number",
+        "int 15; int 2; int 1
+         entry:
+         push 0; call 0
+         function int (int):
+         load 0; push 1; cmp; jb 0
+         load 0; push 2; sub; call 0
+         load 0; push 1; sub; call 0
+         add; ret
+         @0
+         load 0; ret",
+    ),
+    text(
+        "gcd",
+        "greatest common divisor of 462 and 1071 by remainders",
+        "long 462; long 1071; long 0
+         entry:
+         push 0; push 1; call 0
+         function long (long, long):
+         @0
+         load 1; push 2; cmp; je 1
+         load 1
+         load 0; load 1; mod; store 1
+         store 0
+         jmp 0
+         @1
+         load 0; ret",
+    ),
+    text(
+        "collatz",
+        "steps of the Collatz sequence from 27, with a join of two ways",
+        "long 27; long 1; long 2; long 3; int 0
+         entry:
+         push 0; store 0
+         push 4; store 1
+         @0
+         load 0; push 1; cmp; je 3
+         lea 1; inc
+         load 0; push 2; mod; push 1; cmp; je 1
+         load 0; push 2; div; jmp 2
+         @1
+         load 0; push 3; mul; push 1; add
+         @2
+         store 0
+         jmp 0
+         @3
+         load 1",
+    ),
+    text(
+        "newton",
+        "square root of 2.0 in five rounds on doubles",
+        "double 2.0; double 1.0; double 0.5; int 5
+         entry:
+         push 3; store 0
+         push 1; store 1
+         @0
+         push 0; load 1; div
+         load 1; add
+         push 2; mul
+         store 1
+         lea 0; dec
+         load 0; jne 0
+         load 1",
+    ),
+    text(
+        "by-pointer",
+        "a function changes its caller's locals through pointer parameters",
+        "int 10; double 1.5; int 32
+         entry:
+         push 0; store 0
+         push 1; store 1
+         lea 0; lea 1; call 0
+         function void (*int, *double):
+         load 0; inc
+         load 1; dec
+         load 0; load 0; tload; push 2; add; tstore
+         ret",
+    ),
+    text(
+        "exchange",
+        "two locals exchanged through pointers",
+        "long 1; long -1
+         entry:
+         push 0; store 0
+         push 1; store 1
+         lea 0; lea 1; call 0
+         function void (*long, *long):
+         load 0; tload; store 2
+         load 0; load 1; tload; tstore
+         load 1; load 2; tstore
+         ret",
+    ),
+    text(
+        "parameters",
+        "parameter 0 is the deepest argument: 100 - 1, then times 2",
+        "int 100; int 1; int 2
+         entry:
+         push 0; push 1; push 2; call 0
+         function int (int, int, int):
+         load 0; load 1; sub; load 2; mul; ret",
+    ),
+    text(
+        "left-under-ret",
+        "operands left under the returned value are dropped with the frame",
+        "int 1; int 2; int 3
+         entry:
+         push 0; call 0; push 0
+         function int ():
+         push 2; push 2; push 1; ret",
+    ),
+];
+
+/// Doubles, conversions, comparisons.
+pub const NUMBERS: [Sample; 10] = [
+    text(
+        "double-sum",
+        "0.1 + 0.2 rounded once",
+        "double 0.1; double 0.2; entry: push 0; push 1; add",
+    ),
+    text(
+        "double-by-zero",
+        "1.0/0.0 is infinity, 0.0/0.0 is 7FF8000000000000: no exception",
+        "double 1.0; double 0.0; entry: push 0; push 1; div; push 1; push 1; idiv",
+    ),
+    text(
+        "nan-moved",
+        "a NaN that is only moved keeps its bits, also by tod; a sum gives 7FF8000000000000",
+        "double #FFF00000DEADBEEF; double 1.0
+         entry:
+         push 0; store 0
+         load 0; copy; tod
+         load 0; push 1; add",
+    ),
+    text(
+        "nan-neg",
+        "neg flips the sign of -0.0; of a NaN it gives 7FF8000000000000",
+        "double -0.0; double #7FF8000000000001; entry: push 0; neg; push 1; neg",
+    ),
+    text(
+        "double-compare",
+        "-0.0 equals 0.0; a NaN on either side gives -1",
+        "double -0.0; double 0.0; double #7FF8000000000000
+         entry:
+         push 0; push 1; cmp
+         push 2; push 1; cmp
+         push 1; push 2; icmp",
+    ),
+    text(
+        "toi-edges",
+        "4294967295.9 and -2147483648.9 are in range once cut; 1e300 and NaN are not",
+        "double 4294967295.9; double -2147483648.9; double 1e300; double #7FF8000000000000
+         entry: push 0; toi; push 1; toi; push 2; toi; push 3; toi",
+    ),
+    text(
+        "tol-edges",
+        "tol of 2^64 - 2048, of 2^64, of -2^63, and of an int, which fills with zeros",
+        "double 18446744073709549568.0; double 18446744073709551616.0
+         double -9223372036854775808.0; int 4294967295
+         entry: push 0; tol; push 1; tol; push 2; tol; push 3; tol",
+    ),
+    text(
+        "tod-once",
+        "tod of 9223372036854776833 rounds once, up; two roundings would go down",
+        "long 9223372036854776833; long 18446744073709551615; int 4294967295
+         entry: push 0; tod; push 1; tod; push 2; tod",
+    ),
+    text(
+        "shifts",
+        "counts of the width or more, on int and long",
+        "int 2147483649; int 31; int 32; long -2; long 63; long 64
+         entry:
+         push 0; push 1; shl; push 0; push 2; sal; push 0; push 1; shr; push 0; push 1; sar
+         push 3; push 4; shl; push 3; push 5; shr; push 3; push 5; sar",
+    ),
+    text(
+        "remainders",
+        "signed remainders have the dividend's sign; lowest imod -1 is 0",
+        "int -7; int 2; int -2147483648; int -1
+         entry:
+         push 0; push 1; imod; push 0; push 1; idiv; push 0; push 1; mod
+         push 2; push 3; imod; push 2; push 3; idiv",
+    ),
+];
+
+/// Limits, ends of runs, typings.
+pub const LIMITS: [Sample; 17] = [
+    text("empty", "48 bytes are a module: nothing in it, accepted, ends at once", "entry:"),
+    text(
+        "operands-32",
+        "32 operands at the entry's end: accepted",
+        "int 1; entry: push 0; copy; copy; copy; copy; copy; copy; copy; copy; copy; copy; copy
+         copy; copy; copy; copy; copy; copy; copy; copy; copy; copy; copy; copy; copy; copy; copy
+         copy; copy; copy; copy; copy",
+    ),
+    text(
+        "operands-33",
+        "33 operands at the entry's end: no typing, 11",
+        "int 1; entry: push 0; copy; copy; copy; copy; copy; copy; copy; copy; copy; copy; copy
+         copy; copy; copy; copy; copy; copy; copy; copy; copy; copy; copy; copy; copy; copy; copy
+         copy; copy; copy; copy; copy; copy",
+    ),
+    text(
+        "frames-64",
+        "the 64th frame still lives: recursion 62 deep returns",
+        "int 62; int 1; entry: push 0; call 0
+         function int (int): load 0; je 0; load 0; push 1; sub; call 0; ret; @0; load 0; ret",
+    ),
+    text(
+        "frames-65",
+        "a 65th frame is exception 20",
+        "int 63; int 1; entry: push 0; call 0
+         function int (int): load 0; je 0; load 0; push 1; sub; call 0; ret; @0; load 0; ret",
+    ),
+    text(
+        "stack-full",
+        "an accepted module that fills 4,096 slots: exception 20",
+        "int 1; entry: call 0
+         function void ():
+         push 0; copy; copy; copy; copy; copy; copy; copy; copy; copy; copy; copy; copy; store 0
+         push 0; copy; copy; copy; copy; copy; copy; copy; copy; copy; copy; copy; copy; store 1
+         push 0; copy; copy; copy; copy; copy; copy; copy; copy; copy; copy; copy; copy; store 2
+         push 0; copy; copy; copy; copy; copy; copy; copy; copy; copy; copy; copy; copy; store 3
+         push 0; copy; copy; copy; copy; copy; copy; copy; copy; copy; copy; copy; copy; store 4
+         push 0; copy; copy; copy; copy; copy; copy; copy; copy; copy; copy; copy; copy; store 5
+         call 0; ret",
+    ),
+    text(
+        "burying",
+        "a binding store buries what lies under it; ways that buried different things join",
+        "int 0; long 5; double 2.5
+         entry:
+         push 0; je 0
+         push 1; push 0; store 0; jmp 1
+         @0
+         push 2; push 2; push 0; store 0
+         @1
+         load 0",
+    ),
+    text(
+        "join-differs",
+        "an int on one way and a long on the other: no typing, 11",
+        "int 0; long 5; entry: push 0; je 0; push 0; jmp 1; @0; push 1; @1; pop",
+    ),
+    text(
+        "dead-code",
+        "after jmp and ret anything may stand that is cut into instructions",
+        "int 1
+         entry: jmp 0; ret; pop; push 99; call 7; store 9; jmp 55; @0; call 0
+         function int (): push 0; ret; add; tload",
+    ),
+    text(
+        "function-end",
+        "a function that runs into its end has no typing, 11",
+        "int 1; entry: call 0; function void (): push 0; pop",
+    ),
+    text("ret-in-entry", "ret in the entry has no typing, 11", "entry: ret"),
+    text(
+        "pointer-to-pointer",
+        "lea of a pointer local has no typing, 11",
+        "int 1; entry: push 0; store 0; lea 0; store 1; lea 1",
+    ),
+    text(
+        "pointer-kinds",
+        "pointers to int and to long are different types in a typing: 11",
+        "int 1; long 1; entry: push 0; store 0; push 1; store 1; lea 0; lea 1; cmp",
+    ),
+    text(
+        "both-ways",
+        "a branch on a constant still has both ways in a typing: 11",
+        "int 0; entry: push 0; je 0; pop; @0; push 0",
+    ),
+    text(
+        "foreign-label",
+        "a label of another body has no typing, 11",
+        "int 1; entry: jmp 0; function void (): @0; ret",
+    ),
+    text(
+        "never-returns",
+        "a call goes past itself in a typing, also where the callee never returns",
+        "int 1; entry: push 0; call 0; add; function int (): @0; jmp 0",
+    ),
+    text(
+        "callee-loops",
+        "a callee that never returns uses up the allowance; the pointer argument shows its slot",
+        "int 1; entry: push 0; store 0; lea 0; call 0; function void (*int): @0; load 0; inc; jmp 0",
+    ),
+];
+
+/// Files that can't be read.
+pub const REFUSED: [Sample; 11] = [
+    Sample {
+        name: "refused-1",
+        shows: "under 48 bytes",
+        source: Source::Cut(PLAIN, 47),
+    },
+    patched("refused-2", "edition 2", 0, &[2]),
+    Sample {
+        name: "refused-3",
+        shows: "one byte is missing at the end",
+        source: Source::Cut(PLAIN, 108),
+    },
+    patched("refused-4", "word 44 is not zero", 44, &[1]),
+    patched(
+        "refused-5",
+        "the offset of the empty label section is not the packed one",
+        28,
+        &[0],
+    ),
+    patched(
+        "refused-6",
+        "an int constant with upper bytes set",
+        56,
+        &[1],
+    ),
+    patched(
+        "refused-7",
+        "an unused parameter type byte that is not 0",
+        72 + 11,
+        &[3],
+    ),
+    patched("refused-8", "opcode 2F (top) is left out", 92 + 10, &[0x2F]),
+    Sample {
+        name: "refused-9",
+        shows: "a label on its body's end",
+        source: Source::Text("int 1; entry: push 0; @0"),
+    },
+    Sample {
+        name: "refused-7-first",
+        shows: "an unknown opcode in the entry and a bad function record: 7, the smaller number",
+        source: Source::Patched(
+            "int 1; entry: push 0; function void (): ret",
+            60 + 18,
+            &[1, 0, 0xFF],
+        ),
+    },
+    Sample {
+        name: "refused-8-crossing",
+        shows: "an instruction that crosses its body's end",
+        source: Source::Patched(
+            "int 1; entry: push 0; pop; function void (): ret",
+            60 + 20 + 5,
+            &[1],
+        ),
+    },
+];
+
+/// All samples.
+pub fn all() -> impl Iterator<Item = &'static Sample> {
+    W_SAMPLES
+        .iter()
+        .chain(&PROGRAMS)
+        .chain(&NUMBERS)
+        .chain(&LIMITS)
+        .chain(&REFUSED)
+}

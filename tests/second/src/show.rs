@@ -1,0 +1,52 @@
+//! What the small program prints.
+
+use crate::check::{check, Checked, RECORD};
+use crate::reader::{ENTRY, LONGEST, MAX_LABELS};
+use crate::rules::Rules;
+use crate::run::{run, Call, LentStack, Ran};
+use crate::words::payload;
+use std::fmt::Write;
+
+/// "reads a module from standard input (at most one byte past the longest module possible)"
+pub const MOST_READ: usize = LONGEST + 1;
+
+/// "checks it, runs its entry with allowance 1,000,000 and 4,096 slots, and prints outcome,
+/// steps and height on one line, then each slot's type and payload in unsigned decimal,
+/// deepest first, a line each ... A refused module prints only the refusal number."
+pub fn small(rules: Rules, input: &[u8]) -> String {
+    let file = &input[..input.len().min(MOST_READ)];
+    let mut room = vec![0; RECORD * MAX_LABELS as usize];
+    match check(rules, file, &mut room) {
+        Checked::Accepted => entry(rules, file),
+        Checked::Refused(number) => format!("{number}\n"),
+        Checked::NoTyping { .. } => "11\n".to_string(),
+    }
+}
+
+fn entry(rules: Rules, file: &[u8]) -> String {
+    let (mut payloads, mut types) = (vec![0; 8 * 4096], vec![0; 4096]);
+    let call = Call {
+        function: ENTRY,
+        arg_types: &[],
+        arg_payloads: &[],
+        allowance: 1_000_000,
+    };
+    let stack = LentStack {
+        payloads: &mut payloads,
+        types: &mut types,
+    };
+    match run(rules, file, call, stack) {
+        Ran::Refused(number) => format!("{number}\n"),
+        Ran::Ended {
+            outcome,
+            steps,
+            height,
+        } => {
+            let mut text = format!("{outcome} {steps} {height}\n");
+            for (n, ty) in types[..height].iter().enumerate() {
+                let _ = writeln!(text, "{ty} {}", payload(&payloads, 8 * n));
+            }
+            text
+        }
+    }
+}

@@ -1,0 +1,399 @@
+//! One instruction on the machine.
+//!
+//! "Within one instruction the order is: 30; number out of range; 21; 31; 33; 32; 22; 34; 24;
+//! 20." Every function here tests in this order and changes the state only after its last
+//! test: an instruction that raises "leaves the state as before it".
+
+use crate::machine::{Frame, Machine, Slot};
+use crate::opcode::Op;
+use crate::reader::{Instruction, ENTRY};
+use crate::rules::{Fault, Rules};
+use crate::types::{run_time, DOUBLE, INT, LONG, POINTER};
+use crate::{convert, double, integer};
+
+#[derive(Clone, Copy, Debug, PartialEq, Eq)]
+pub enum Flow {
+    Goes,
+    /// "In a function run by the host's own call it finishes."
+    Finished,
+}
+
+/// "At most 64 frames live, the first included."
+const FRAMES: usize = 64;
+const LOCALS: usize = 16;
+
+pub fn step(m: &mut Machine<'_>, at: Instruction) -> Result<Flow, u32> {
+    match at.op {
+        Op::Push => push(m, at.operand)?,
+        Op::Pop => pop(m)?,
+        Op::Load => load(m, at.operand)?,
+        Op::Store => store(m, at.operand)?,
+        Op::Lea => lea(m, at.operand)?,
+        Op::Copy => copy(m)?,
+        Op::Swap => swap(m)?,
+        Op::Tload => tload(m)?,
+        Op::Tstore => tstore(m)?,
+        Op::Inc | Op::Dec => by_one(m, at.op)?,
+        Op::Neg | Op::Not => unary(m, at.op)?,
+        Op::Toi | Op::Tol | Op::Tod => conversion(m, at.op)?,
+        Op::Cmp | Op::Icmp => compare(m, at.op)?,
+        Op::Call => return call(m, at),
+        Op::Ret => return ret(m),
+        op if op.has_label() => return branch(m, at),
+        op => arithmetic(m, op)?,
+    }
+    m.place = at.next;
+    Ok(Flow::Goes)
+}
+
+fn raise(fault: bool, number: u32) -> Result<(), u32> {
+    if fault {
+        Err(number)
+    } else {
+        Ok(())
+    }
+}
+
+/// The `count` topmost operands, deepest first. "21: too few operands in the frame."
+fn operands(m: &Machine<'_>, count: usize) -> Result<Vec<Slot>, u32> {
+    let own = m.stack.len() - m.frame().operands();
+    raise(own < count, 21)?;
+    Ok(m.stack[m.stack.len() - count..].to_vec())
+}
+
+fn drop_operands(m: &mut Machine<'_>, count: usize) {
+    m.stack.truncate(m.stack.len() - count);
+}
+
+/// Takes operands away and puts one value in their place.
+fn replace(m: &mut Machine<'_>, count: usize, value: Slot) {
+    drop_operands(m, count);
+    m.stack.push(value);
+}
+
+/// 20 where no slot is left.
+fn room(m: &Machine<'_>) -> Result<(), u32> {
+    raise(m.stack.len() >= m.capacity, 20)
+}
+
+/// 003: puts a constant on top.
+fn push(m: &mut Machine<'_>, n: u32) -> Result<(), u32> {
+    let (ty, payload) = m.module.constant(n).ok_or(23u32)?;
+    room(m)?;
+    m.stack.push(Slot { ty, payload });
+    Ok(())
+}
+
+/// 003: removes the top.
+fn pop(m: &mut Machine<'_>) -> Result<(), u32> {
+    operands(m, 1)?;
+    drop_operands(m, 1);
+    Ok(())
+}
+
+/// The slot of local `n`. "`load`, `lea` outside the locals: 25."
+fn local(m: &Machine<'_>, n: u32) -> Result<usize, u32> {
+    m.frame().locals.get(n as usize).copied().ok_or(25)
+}
+
+/// 003: copies a local's value to the top.
+fn load(m: &mut Machine<'_>, n: u32) -> Result<(), u32> {
+    let slot = local(m, n)?;
+    room(m)?;
+    m.stack.push(m.stack[slot]);
+    Ok(())
+}
+
+/// 003: puts a pointer to a local on top; "a pointer with its slot".
+fn lea(m: &mut Machine<'_>, n: u32) -> Result<(), u32> {
+    let slot = local(m, n)?;
+    if m.rules.wrong(Fault::LeaOfPointerRaises) {
+        raise(m.stack[slot].ty == POINTER, 32)?;
+    }
+    room(m)?;
+    let mut payload = slot as u64;
+    if m.rules.wrong(Fault::PointerFromFrame) {
+        payload -= m.frame().first as u64;
+    }
+    m.stack.push(Slot {
+        ty: POINTER,
+        payload,
+    });
+    Ok(())
+}
+
+/// "`store` n: n below the local count moves the top there (same type); n equal to it and
+/// below 16 binds the top slot, which stays and buries those under it; else 26."
+fn store(m: &mut Machine<'_>, n: u32) -> Result<(), u32> {
+    let (n, count) = (n as usize, m.frame().locals.len());
+    raise(n > count || n >= LOCALS, 26)?;
+    let top = operands(m, 1)?[0];
+    if n < count {
+        let slot = m.frame().locals[n];
+        raise(m.stack[slot].ty != top.ty, 22)?;
+        m.stack[slot] = top;
+        drop_operands(m, 1);
+        return Ok(());
+    }
+    let slot = m.stack.len() - 1;
+    m.frame_mut().locals.push(slot);
+    if m.rules.wrong(Fault::BindingPops) && slot > 0 {
+        // the local is then the slot below
+        m.frame_mut().locals[n] = slot - 1;
+        drop_operands(m, 1);
+    }
+    Ok(())
+}
+
+/// 003: copies the top onto itself.
+fn copy(m: &mut Machine<'_>) -> Result<(), u32> {
+    let top = operands(m, 1)?[0];
+    room(m)?;
+    m.stack.push(top);
+    Ok(())
+}
+
+/// 003: exchanges the two topmost values, which must have the same type.
+fn swap(m: &mut Machine<'_>) -> Result<(), u32> {
+    let pair = operands(m, 2)?;
+    raise(pair[0].ty != pair[1].ty, 22)?;
+    let height = m.stack.len();
+    m.stack.swap(height - 1, height - 2);
+    Ok(())
+}
+
+/// The slot that a pointer operand reaches, `taken` operands being taken. "an address not
+/// below the height left after the operands are taken is 33"
+fn reached(m: &Machine<'_>, pointer: Slot, taken: usize) -> Result<usize, u32> {
+    raise(pointer.ty != POINTER, 31)?;
+    let height = if m.rules.wrong(Fault::AddressAgainstFullHeight) {
+        m.stack.len()
+    } else {
+        m.stack.len() - taken
+    };
+    raise(pointer.payload >= height as u64, 33)?;
+    Ok(pointer.payload as usize)
+}
+
+/// 003: copies what the pointer on top points to, in place of the pointer.
+fn tload(m: &mut Machine<'_>) -> Result<(), u32> {
+    let pointer = operands(m, 1)?[0];
+    let slot = reached(m, pointer, 1)?;
+    if m.rules.wrong(Fault::TloadOfPointerRaises) {
+        raise(m.stack[slot].ty == POINTER, 32)?;
+    }
+    replace(m, 1, m.stack[slot]);
+    Ok(())
+}
+
+/// 003: the top goes where the pointer under it points; both are removed.
+/// "`tstore` needs a value of the type of what it writes to (22)."
+fn tstore(m: &mut Machine<'_>) -> Result<(), u32> {
+    let pair = operands(m, 2)?;
+    let slot = reached(m, pair[0], 2)?;
+    if m.rules.wrong(Fault::TstoreOfPointerRaises) {
+        raise(pair[1].ty == POINTER, 32)?;
+    }
+    raise(m.stack[slot].ty != pair[1].ty, 22)?;
+    m.stack[slot] = pair[1];
+    drop_operands(m, 2);
+    Ok(())
+}
+
+/// "`inc`, `dec` work through the pointer, by 1 wrapping or by 1.0 rounded once; a pointer
+/// there is 32."
+fn by_one(m: &mut Machine<'_>, op: Op) -> Result<(), u32> {
+    let pointer = operands(m, 1)?[0];
+    let slot = reached(m, pointer, 1)?;
+    let Slot { ty, payload } = m.stack[slot];
+    raise(ty == POINTER, 32)?;
+    let one = if op == Op::Inc { 1 } else { -1 };
+    m.stack[slot].payload = match width(ty) {
+        Some(_) if m.rules.wrong(Fault::IncCarries) => integer::wrap(64, i128::from(payload) + one),
+        Some(width) => integer::wrap(width, i128::from(payload) + one),
+        None => double::by_one(op, payload),
+    };
+    drop_operands(m, 1);
+    Ok(())
+}
+
+/// Bits of an int or a long.
+fn width(ty: u8) -> Option<u32> {
+    match ty {
+        INT => Some(32),
+        LONG => Some(64),
+        _ => None,
+    }
+}
+
+/// The binary operations other than the comparisons: 21, 32, 22, 34, 24.
+fn arithmetic(m: &mut Machine<'_>, op: Op) -> Result<(), u32> {
+    let pair = operands(m, 2)?;
+    let (a, b) = (pair[0], pair[1]);
+    if m.rules.wrong(Fault::TypeBeforePointer) {
+        raise(a.ty != b.ty, 22)?;
+    }
+    // "Pointers are refused (32) by the other arithmetic and by conversions."
+    raise(a.ty == POINTER || b.ty == POINTER, 32)?;
+    if m.rules.wrong(Fault::DoubleBeforeType) && b.ty == DOUBLE {
+        double::binary(m.rules, op, b.payload, b.payload)?;
+    }
+    raise(a.ty != b.ty, 22)?;
+    let payload = match width(a.ty) {
+        Some(width) => integer::binary(m.rules, op, width, a.payload, b.payload)?,
+        None => double::binary(m.rules, op, a.payload, b.payload)?,
+    };
+    replace(m, 2, Slot { ty: a.ty, payload });
+    Ok(())
+}
+
+/// `neg` and `not`: 21, 32, 34.
+fn unary(m: &mut Machine<'_>, op: Op) -> Result<(), u32> {
+    let Slot { ty, payload } = operands(m, 1)?[0];
+    raise(ty == POINTER, 32)?;
+    raise(op == Op::Not && ty == DOUBLE, 34)?;
+    let payload = match (op, width(ty)) {
+        (Op::Not, Some(width)) => integer::not(width, payload),
+        (_, Some(width)) => integer::neg(width, payload),
+        (_, None) => double::neg(m.rules, payload),
+    };
+    replace(m, 1, Slot { ty, payload });
+    Ok(())
+}
+
+/// `toi`, `tol`, `tod`: 21, 32.
+fn conversion(m: &mut Machine<'_>, op: Op) -> Result<(), u32> {
+    let Slot { ty, payload } = operands(m, 1)?[0];
+    raise(ty == POINTER, 32)?;
+    let value = match op {
+        Op::Toi => (INT, convert::toi(m.rules, ty, payload)),
+        Op::Tol => (LONG, convert::tol(m.rules, ty, payload)),
+        _ => (DOUBLE, convert::tod(m.rules, ty, payload)),
+    };
+    let (ty, payload) = value;
+    replace(m, 1, Slot { ty, payload });
+    Ok(())
+}
+
+/// "`cmp`, `icmp`: A > B gives 1, equal 0, anything else -1. Pointers compare by slot."
+fn compare(m: &mut Machine<'_>, op: Op) -> Result<(), u32> {
+    let pair = operands(m, 2)?;
+    let (a, b) = (pair[0], pair[1]);
+    raise(a.ty != b.ty, 22)?;
+    if m.rules.wrong(Fault::PointeesCompared) && a.ty == POINTER {
+        let target = |slot: Slot| m.stack.get(slot.payload as usize).map(|slot| slot.ty);
+        raise(target(a) != target(b), 22)?;
+    }
+    let signed = op == Op::Icmp || m.rules.wrong(Fault::CmpSigned);
+    let order = match (signed, width(a.ty)) {
+        _ if a.ty == DOUBLE => double::compare(m.rules, a.payload, b.payload),
+        (true, Some(width)) => order(
+            integer::signed(width, a.payload),
+            integer::signed(width, b.payload),
+        ),
+        _ => order(i128::from(a.payload), i128::from(b.payload)),
+    };
+    let payload = u64::from(order as u32);
+    replace(m, 2, Slot { ty: INT, payload });
+    Ok(())
+}
+
+fn order(a: i128, b: i128) -> i32 {
+    match a.cmp(&b) {
+        std::cmp::Ordering::Greater => 1,
+        std::cmp::Ordering::Equal => 0,
+        std::cmp::Ordering::Less => -1,
+    }
+}
+
+/// "A label of another body is 27. Conditional branches need an int (22) and remove it
+/// whether taken or not."
+fn branch(m: &mut Machine<'_>, at: Instruction) -> Result<Flow, u32> {
+    if m.rules.wrong(Fault::EmptyBeforeLabel) && at.op.is_conditional() {
+        operands(m, 1)?;
+    }
+    let place = match m.module.branch_place(m.rules, m.frame().body, at.operand) {
+        Err(_) if m.rules.wrong(Fault::LabelWhenTaken) && untaken(m, at.op) => at.next,
+        place => place?,
+    };
+    let mut taken = true;
+    if at.op.is_conditional() {
+        let top = operands(m, 1)?[0];
+        raise(top.ty != INT, 22)?;
+        taken = holds(m.rules, at.op, top.payload);
+        if taken || !m.rules.wrong(Fault::BranchKeepsValue) {
+            drop_operands(m, 1);
+        }
+    }
+    m.place = if taken { place } else { at.next };
+    Ok(Flow::Goes)
+}
+
+/// "`je` 0, `jne` not 0, `ja` 1, `jae` not -1, `jb` -1, `jbe` not 1."
+fn holds(rules: Rules, op: Op, value: u64) -> bool {
+    const MINUS_ONE: u64 = 0xFFFF_FFFF;
+    match op {
+        Op::Jae if rules.wrong(Fault::JaeSigned) => value < 1 << 31,
+        Op::Je => value == 0,
+        Op::Jne => value != 0,
+        Op::Ja => value == 1,
+        Op::Jae => value != MINUS_ONE,
+        Op::Jb => value == MINUS_ONE,
+        _ => value != 1,
+    }
+}
+
+/// Is an int on top on which the branch doesn't jump? (For a wrong variant.)
+fn untaken(m: &Machine<'_>, op: Op) -> bool {
+    let stays = |top: Vec<Slot>| top[0].ty == INT && !holds(m.rules, op, top[0].payload);
+    op.is_conditional() && operands(m, 1).is_ok_and(stays)
+}
+
+/// "`call`: argument type numbers must match (22; a pointer only as a pointer); a 65th frame
+/// is 20."
+fn call(m: &mut Machine<'_>, at: Instruction) -> Result<Flow, u32> {
+    let function = m.module.signature(m.rules, at.operand).ok_or(28u32)?;
+    let limit = FRAMES + usize::from(m.rules.wrong(Fault::SixtyFiveFrames));
+    if m.rules.wrong(Fault::FrameLimitFirst) {
+        raise(m.frames.len() >= limit, 20)?;
+    }
+    let count = function.parameters.len();
+    let arguments = operands(m, count)?;
+    for (argument, &parameter) in arguments.iter().zip(&function.parameters) {
+        raise(argument.ty != run_time(parameter), 22)?;
+    }
+    raise(m.frames.len() >= limit, 20)?;
+    let first = m.stack.len() - count;
+    let frame = Frame::new(m.rules, at.operand, first, count, at.next);
+    m.frames.push(frame);
+    m.place = function.start as usize;
+    Ok(Flow::Goes)
+}
+
+/// "it needs a top operand of the return type (none for 0), drops the frame and its
+/// arguments, and pushes that value. In the entry, 30."
+fn ret(m: &mut Machine<'_>) -> Result<Flow, u32> {
+    let body = m.frame().body;
+    raise(body == ENTRY, 30)?;
+    let returns = m.module.function(body).map_or(0, |f| f.returns);
+    let mut value = None;
+    if returns != 0 {
+        let top = operands(m, 1)?[0];
+        raise(top.ty != returns, 22)?;
+        value = Some(top);
+    }
+    let frame = m.frame().clone();
+    let kept = if m.rules.wrong(Fault::RetLeavesArguments) {
+        frame.operands()
+    } else {
+        frame.first
+    };
+    m.stack.truncate(kept);
+    m.stack.extend(value);
+    if m.frames.len() == 1 {
+        return Ok(Flow::Finished);
+    }
+    m.frames.pop();
+    m.place = frame.back;
+    Ok(Flow::Goes)
+}

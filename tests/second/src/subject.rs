@@ -1,0 +1,84 @@
+//! What is compared: something that answers the two calls of the C interface.
+
+use crate::check::{check, Checked};
+use crate::machine::{Unwatched, Watch};
+use crate::memory::{CheckMemory, RunMemory};
+use crate::rules::Rules;
+use crate::run::{run_watched, Call, LentStack, Ran};
+
+pub trait Subject {
+    /// The paper's number; the out-parameter `body` is written with 11 only.
+    fn check(&mut self, memory: &mut CheckMemory) -> u32;
+
+    /// The paper's number; `steps` and `height` are written with 0, 15 and 20 to 34 only.
+    fn run(&mut self, function: u32, allowance: u64, memory: &mut RunMemory) -> u32;
+}
+
+/// The second program with these rules.
+pub struct Second(pub Rules);
+
+impl Subject for Second {
+    fn check(&mut self, memory: &mut CheckMemory) -> u32 {
+        checked_number(self.checked(memory), &mut memory.body)
+    }
+
+    fn run(&mut self, function: u32, allowance: u64, memory: &mut RunMemory) -> u32 {
+        self.run_watched(function, allowance, memory, &mut Unwatched)
+    }
+}
+
+impl Second {
+    /// The check with its reasons.
+    pub fn checked(&self, memory: &mut CheckMemory) -> Checked {
+        check(self.0, memory.module.slice(), memory.room.slice_mut())
+    }
+
+    pub fn run_watched(
+        &self,
+        function: u32,
+        allowance: u64,
+        memory: &mut RunMemory,
+        watch: &mut dyn Watch,
+    ) -> u32 {
+        let call = Call {
+            function,
+            arg_types: memory.arg_types.slice(),
+            arg_payloads: memory.arg_payloads.slice(),
+            allowance,
+        };
+        let stack = LentStack {
+            payloads: memory.payloads.slice_mut(),
+            types: memory.types.slice_mut(),
+        };
+        let ran = run_watched(self.0, memory.module.slice(), call, stack, watch);
+        ran_number(ran, &mut memory.steps, &mut memory.height)
+    }
+}
+
+/// The number of a check's answer; `body` is written with 11 only.
+pub fn checked_number(answer: Checked, out: &mut u32) -> u32 {
+    match answer {
+        Checked::Accepted => 0,
+        Checked::Refused(number) => number,
+        Checked::NoTyping { body, .. } => {
+            *out = body;
+            11
+        }
+    }
+}
+
+/// The number of a run's answer; a refusal returns only its number.
+pub fn ran_number(answer: Ran, steps_out: &mut u64, height_out: &mut u64) -> u32 {
+    match answer {
+        Ran::Refused(number) => number,
+        Ran::Ended {
+            outcome,
+            steps,
+            height,
+        } => {
+            *steps_out = steps;
+            *height_out = height as u64;
+            outcome
+        }
+    }
+}

@@ -1,0 +1,92 @@
+//! The second program behind the C interface: a stand-in for the library, to try the
+//! differential test with. Built with `STANDIN_FAULT` set to a wrong variant's name, it is
+//! that wrong variant; set to a name in `misuse`, it misuses the interface.
+
+mod misuse;
+
+use second::check::check;
+use second::rules::Rules;
+use second::run::{run, Call, LentStack};
+use second::subject::{checked_number, ran_number};
+
+const FAULT: &str = match option_env!("STANDIN_FAULT") {
+    Some(name) => name,
+    None => "",
+};
+
+fn rules() -> Rules {
+    if FAULT.is_empty() || misuse::NAMES.contains(&FAULT) {
+        return Rules::PLAIN;
+    }
+    Rules::named(FAULT).expect("the name of a wrong variant")
+}
+
+/// # Safety
+/// Pointer and length are those of a slice, or the length is 0.
+unsafe fn lent<'a>(pointer: *const u8, len: usize) -> &'a [u8] {
+    if len == 0 {
+        return &[];
+    }
+    std::slice::from_raw_parts(pointer, len)
+}
+
+/// # Safety
+/// Pointer and length are those of a slice lent to nobody else, or the length is 0.
+unsafe fn lent_mut<'a>(pointer: *mut u8, len: usize) -> &'a mut [u8] {
+    if len == 0 {
+        return &mut [];
+    }
+    std::slice::from_raw_parts_mut(pointer, len)
+}
+
+/// # Safety
+/// As the C interface says: slices that don't overlap, valid out-parameters.
+#[no_mangle]
+pub unsafe extern "C" fn limpetskein_check(
+    module: *const u8,
+    module_len: usize,
+    room: *mut u8,
+    room_len: usize,
+    body: *mut u32,
+) -> u32 {
+    let answer = check(rules(), lent(module, module_len), lent_mut(room, room_len));
+    let number = checked_number(answer, &mut *body);
+    misuse::after_check(FAULT, module.cast_mut(), room, room_len, body);
+    number
+}
+
+/// # Safety
+/// As the C interface says: slices that don't overlap, valid out-parameters.
+#[no_mangle]
+#[allow(clippy::too_many_arguments)]
+pub unsafe extern "C" fn limpetskein_run(
+    module: *const u8,
+    module_len: usize,
+    function: u32,
+    arg_types: *const u8,
+    arg_types_len: usize,
+    arg_payloads: *const u8,
+    arg_payloads_len: usize,
+    allowance: u64,
+    payloads: *mut u8,
+    payloads_len: usize,
+    types: *mut u8,
+    types_len: usize,
+    steps: *mut u64,
+    height: *mut u64,
+) -> u32 {
+    let call = Call {
+        function,
+        arg_types: lent(arg_types, arg_types_len),
+        arg_payloads: lent(arg_payloads, arg_payloads_len),
+        allowance,
+    };
+    let stack = LentStack {
+        payloads: lent_mut(payloads, payloads_len),
+        types: lent_mut(types, types_len),
+    };
+    let answer = run(rules(), lent(module, module_len), call, stack);
+    let number = ran_number(answer, &mut *steps, &mut *height);
+    misuse::after_run(FAULT, types, types_len, steps);
+    number
+}

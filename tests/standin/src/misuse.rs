@@ -1,0 +1,40 @@
+//! Ways of misusing the C interface, which the differential test must notice: a byte written
+//! past a lent slice, an out-parameter written that must stay, the module changed, a crash.
+
+/// The names that `STANDIN_FAULT` knows besides those of the wrong variants.
+pub const NAMES: [&str; 6] = [
+    "misuse-past-room",
+    "misuse-before-types",
+    "misuse-body-written",
+    "misuse-steps-written",
+    "misuse-module-changed",
+    "misuse-crash",
+];
+
+/// # Safety
+/// As for the check; and there are bytes around the slices.
+pub unsafe fn after_check(
+    fault: &str,
+    module: *mut u8,
+    room: *mut u8,
+    room_len: usize,
+    body: *mut u32,
+) {
+    match fault {
+        "misuse-past-room" if room_len > 0 => *room.add(room_len) = 0,
+        "misuse-body-written" => *body = 0,
+        "misuse-module-changed" if room_len > 0 && !module.is_null() => *module ^= 1,
+        "misuse-crash" if room_len > 200 => std::process::abort(),
+        _ => {}
+    }
+}
+
+/// # Safety
+/// As for the run; and there are bytes around the slices.
+pub unsafe fn after_run(fault: &str, types: *mut u8, types_len: usize, steps: *mut u64) {
+    match fault {
+        "misuse-before-types" if types_len > 0 => *types.sub(1) = 0,
+        "misuse-steps-written" => *steps = 0,
+        _ => {}
+    }
+}
