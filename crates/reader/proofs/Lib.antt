@@ -1,0 +1,6 @@
+-- Laws that the proofs share.
+pub mod Table
+pub mod Records
+pub mod Cuts
+pub mod Bodies
+pub mod Opening

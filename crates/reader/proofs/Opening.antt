@@ -1,0 +1,73 @@
+-- The answer of opening a file, from the rows; and what an opened module is known to have.
+use Prim.Native.Nat.{ℕ, zero, suc}
+use native.Mathlib.Omega.{arith}
+use mathlib.Core.Path.{_≡_, refl, sym, ap, _∙_, subst}
+use mathlib.Core.Bool.{false}
+use mathlib.Core.List.{List}
+use Rattle.rules.specs.ModuleFile.{firstOf, refusal, badConstants, badFunctions, badCode, badLabels}
+use Rattle.format.specs.declared.Sections.{Sections}
+use Rattle.format.specs.Layout.{sectionsOf, headerTests, Packed}
+use Rattle.format.proofs.Rows.{Header, header-of, packed-of, first-hit, first-miss, first-none}
+use Rattle.reader.specs.declared.Opened.the-variants.{Refused, Module}
+use Rattle.reader.specs.Answers.{contentTests, answer, openedOf}
+
+refused : (n : ℕ) (c : Sections) → (n ≡ 0 → ⊥) → Refused n ≡ answer n c
+refused zero c h = absurd (h refl)
+refused (suc n) c h = refl
+
+-- rows 6 to 9 decide where rows 1 to 5 don't hold
+later : (s : List ℕ) → Header s → firstOf 6 (contentTests s) ≡ refusal s
+unfolding refusal firstOf
+later s h = simp (h .long, h .third, h .total, h .limits, h .packed)
+
+module _ (s : List ℕ) (n : ℕ) where
+  pub refused-first : n ≡ firstOf 1 (headerTests s) → (n ≡ 0 → ⊥) → Refused n ≡ openedOf s
+  unfolding refusal
+  refused-first e h =
+      refused n (sectionsOf s) h
+      ∙ ap (λ (k : ℕ). answer k (sectionsOf s)) (e ∙ sym (first-hit 0 (headerTests s) (contentTests s) (λ z. h (e ∙ z))))
+
+  pub refused-later : Header s → n ≡ firstOf 6 (contentTests s) → (n ≡ 0 → ⊥) → Refused n ≡ openedOf s
+  refused-later k e h = refused n (sectionsOf s) h ∙ ap (λ (k : ℕ). answer k (sectionsOf s)) (e ∙ later s k)
+
+  pub not-refused : Header s → n ≡ firstOf 6 (contentTests s) → n ≡ 0 → (c : Sections) → c ≡ sectionsOf s → Module c ≡ openedOf s
+  not-refused k e h c g =
+      let z : refusal s ≡ 0 = sym (later s k) ∙ sym e ∙ h in
+      ap Module g ∙ ap (λ (k : ℕ). answer k (sectionsOf s)) (sym z)
+
+-- ---- an answer, taken apart
+
+pub opened-refused : (s : List ℕ) (n : ℕ) → Refused n ≡ openedOf s → n ≡ refusal s
+opened-refused s n opened = go (refusal s) refl
+  where
+    go : (k : ℕ) → refusal s ≡ k → n ≡ refusal s
+    go zero e =
+        let g : Refused n ≡ answer zero (sectionsOf s) = opened ∙ ap (λ (k : ℕ). answer k (sectionsOf s)) e in
+        let z : _≡_ {A = ℕ} 0 1 = cc in
+        absurd (omega arith)
+    go (suc k) e = let g : Refused n ≡ answer (suc k) (sectionsOf s) = opened ∙ ap (λ (k : ℕ). answer k (sectionsOf s)) e in cc
+
+module _ (s : List ℕ) (c : Sections) (opened : Module c ≡ openedOf s) where
+  pub opened-sections : (refusal s ≡ 0) × (c ≡ sectionsOf s)
+  opened-sections = go (refusal s) refl
+    where
+      go : (n : ℕ) → refusal s ≡ n → (refusal s ≡ 0) × (c ≡ sectionsOf s)
+      go zero e = (e, let g : Module c ≡ answer zero (sectionsOf s) = opened ∙ ap (λ (k : ℕ). answer k (sectionsOf s)) e in cc)
+      go (suc n) e =
+          let g : Module c ≡ answer (suc n) (sectionsOf s) = opened ∙ ap (λ (k : ℕ). answer k (sectionsOf s)) e in
+          let z : _≡_ {A = ℕ} 0 1 = cc in
+          absurd (omega arith)
+
+  pub opened-packed : Packed s c
+  unfolding refusal
+  opened-packed =
+      subst (λ (x : Sections). Packed s x) (sym (opened-sections .1)) (packed-of s (header-of s (first-none 0 (headerTests s) (contentTests s) (opened-sections .0))))
+
+  pub opened-rows : (badConstants s ≡ false) × (badFunctions s ≡ false) × (badCode s ≡ false) × (badLabels s ≡ false)
+  unfolding refusal
+  opened-rows =
+      let h = header-of s (first-none 0 (headerTests s) (contentTests s) (opened-sections .0)) in
+      let a = first-miss 5 _ _ (later s h ∙ opened-sections .0) in
+      let b = first-miss 6 _ _ (a .1) in
+      let d = first-miss 7 _ _ (b .1) in
+      (a .0, b .0, d .0, first-miss 8 _ _ (d .1) .0)

@@ -1,0 +1,64 @@
+-- What the answers of this crate mean in the rules.
+use Prim.Native.Nat.{ℕ, zero, suc, _+_, _<_}
+use mathlib.Core.Path.{_≡_}
+use mathlib.Core.Bool.{Bool}
+use mathlib.Core.List.{List, [], _∷_}
+use mathlib.Core.Option.{Option, none, some}
+use Rattle.rules.specs.Bytes.{byte}
+use Rattle.rules.specs.declared.Instruction.{Instruction}
+use Rattle.rules.specs.declared.Slot.{Slot}
+use Rattle.rules.specs.Instructions.{numOf, tyOf}
+use Rattle.rules.specs.ModuleFile.{refusal, badConstants, badFunctions, badCode, badLabels, Function, Body, bodyOf, paramsFrom, functionAt, functionOf}
+use Rattle.rules.specs.Stack.{at}
+use Rattle.format.specs.declared.Sections.{Sections}
+use Rattle.format.specs.Layout.{sectionsOf}
+use Rattle.reader.specs.declared.Opened.{Opened}
+use Rattle.reader.specs.declared.Opened.the-variants.{Refused, Module}
+use Rattle.reader.specs.declared.entries.FoundConstant.{FoundConstant}
+use Rattle.reader.specs.declared.entries.FoundFunction.{FoundFunction}
+use Rattle.reader.specs.declared.entries.FoundLabel.{FoundLabel}
+use Rattle.reader.specs.declared.decode.Decoded.{Decoded}
+use Rattle.reader.specs.declared.decode.Decoded.the-variants.{Known, Unknown}
+use Rattle.reader.specs.declared.entries.FoundConstant.the-variants as FoundConstant
+use Rattle.reader.specs.declared.entries.FoundFunction.the-variants as FoundFunction
+use Rattle.reader.specs.declared.entries.FoundLabel.the-variants as FoundLabel
+
+-- rows 8 and 9, and 6 to 9
+abbrev pub codeTests : List ℕ → List Bool
+codeTests s = badCode s ∷ badLabels s ∷ []
+
+abbrev pub contentTests : List ℕ → List Bool
+contentTests s = badConstants s ∷ badFunctions s ∷ codeTests s
+
+-- a refusal by its number; the sections where there is none
+abbrev pub answer : ℕ → Sections → Opened
+answer zero c = Module c
+answer (suc n) c = Refused (suc n)
+
+abbrev pub openedOf : List ℕ → Opened
+openedOf s = answer (refusal s) (sectionsOf s)
+
+-- ---- by number
+
+abbrev pub slotIn : FoundConstant → Option Slot
+slotIn (FoundConstant.Constant v) = some v
+slotIn FoundConstant.Nothing = none
+
+-- a function record of the file s, at byte a
+abbrev pub functionIn : List ℕ → ℕ → FoundFunction → Option Function
+functionIn s a (FoundFunction.Record f) =
+    some (record { start = f .start; end = f .end; params = paramsFrom s (a + 10) (f .params); result = numOf (f .result) })
+functionIn s a FoundFunction.Nothing = none
+
+-- r is the type byte of parameter j of function k
+abbrev pub ParamIs : List ℕ → ℕ → ℕ → ℕ → Type 0
+ParamIs s k j r =
+    (r ≡ byte s (functionAt s k + 10 + j)) × (j < byte s (functionAt s k + 8) → at (functionOf s (functionAt s k) .params) j ≡ some (tyOf r))
+
+abbrev pub labelIn : FoundLabel → Option (Body × ℕ)
+labelIn (FoundLabel.Record l) = some (bodyOf (l .owner), l .place)
+labelIn FoundLabel.Nothing = none
+
+abbrev pub decodedOf : Decoded → Option Instruction
+decodedOf (Known i) = some i
+decodedOf Unknown = none

@@ -1,0 +1,44 @@
+-- The code cut into instructions, and a table of places that marks where one begins.
+use Prim.Native.Nat.{ℕ, _≤_, _<_}
+use mathlib.Core.Path.{_≡_}
+use mathlib.Core.Bool.{Bool, true, false, cond, _||_}
+use mathlib.Core.List.{List}
+use lib.ListN.{length, getD}
+use lib.Dec.{eqb}
+use Rattle.rules.specs.Bytes.{some-below}
+use Rattle.rules.specs.Instructions.{Opcode, absent, bare, wide}
+use Rattle.rules.specs.ModuleFile.{due, unknownAt, codeLength, differs}
+
+-- the bytes of an opcode's instruction; 0 for none
+abbrev pub sizeIn : Opcode → ℕ
+sizeIn absent = 0
+sizeIn (bare i) = 1
+sizeIn (wide i) = 5
+
+-- 1 at a place that begins an instruction, else 0
+unfoldable pub mark : List ℕ → ℕ → ℕ
+mark s p = cond (eqb (due s p) 0) 1 0
+
+-- a table with no mark
+abbrev pub Blank : List ℕ → Type 0
+Blank t = (q : ℕ) → getD t q 0 ≡ 0
+
+-- an instruction begins at p, all before it are known, and the table is marked below p, as far as it goes
+pub record Cut (s : List ℕ) (p : ℕ) (t : List ℕ) : Type 0 where
+  pub begins : due s p ≡ 0
+  pub known : some-below p (unknownAt s) ≡ false
+  pub marked : (q : ℕ) → q < p → q < length t → getD t q 0 ≡ mark s q
+  pub clear : (q : ℕ) → p ≤ q → getD t q 0 ≡ 0
+
+-- an instruction before p is unknown, or one crosses p
+abbrev pub Fails : List ℕ → ℕ → Type 0
+Fails s p = (some-below p (unknownAt s) || differs (due s p) 0) ≡ true
+
+-- what a walk up to p says
+abbrev pub Walked : Bool → List ℕ → ℕ → List ℕ → Type 0
+Walked true s p t = Cut s p t
+Walked false s p t = Fails s p
+
+-- the whole code is marked, its end too, as far as the table goes
+abbrev pub Marked : List ℕ → List ℕ → Type 0
+Marked s t = (q : ℕ) → q ≤ codeLength s → q < length t → getD t q 0 ≡ mark s q

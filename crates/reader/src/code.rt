@@ -1,0 +1,93 @@
+// Row 8: one pass over the code, by instruction and body by body.
+ghost use mathlib.Core.Path.{_≡_};
+ghost use mathlib.Core.Bool.{false};
+ghost use Prim.Native.Nat.{_≤_};
+ghost use lib.ListN.{length, set};
+ghost use Rattle.rules.specs.Instructions.{edition3, opcodeOf};
+ghost use Rattle.rules.specs.ModuleFile.{badFunctions, badCode};
+ghost use Rattle.format.specs.Layout.{Packed};
+ghost use Rattle.reader.specs.Cut.{sizeIn, Blank, Cut, Walked, Marked};
+use format::Sections;
+
+// A bit for each opcode that a word follows: 01, 03 to 05, 20 to 27 hex.
+const WIDE: u64 = 0x00ff_0000_003a;
+
+// A bit for each opcode that stands alone: 02, 07 to 1F, 28, 2B, 2C, 2E hex.
+const BARE: u64 = 0x5900_ffff_ff84;
+
+// The bytes of an opcode's instruction; 0 for no opcode.
+fn opcode_size(b: u8) -> usize
+    ensures { λ r. ⌜ (r ≡ sizeIn (opcodeOf edition3 b)) × (r ≤ 5) ⌝ }
+{
+    if 46 < b {
+        return 0;
+    }
+    let k = b as u64;
+    if (WIDE >> k) % 2 == 1 {
+        return 5;
+    }
+    if (BARE >> k) % 2 == 1 {
+        return 1;
+    }
+    0
+}
+
+// Marks a place, where the table has it.
+fn mark(starts: &mut [u8], p: usize)
+    ensures { λ r. ⌜ now (starts .exit) ≡ set (now (starts .entry)) p 1 ⌝ }
+{
+    if p < starts.len() {
+        starts[p] = 1;
+        return;
+    }
+}
+
+// Walks a body; false where an instruction is unknown or crosses the body's end.
+fn walk_body(file: &[u8], c: Sections, from: usize, to: usize, starts: &mut [u8]) -> bool
+    requires { ⌜ Packed (now file) c ⌝ }
+    requires { ⌜ (from ≤ to) × (to ≤ c .extent) ⌝ }
+    requires { ⌜ Cut (now file) from (now starts) ⌝ }
+    ensures { λ r. ⌜ length (now (starts .exit)) ≡ length (now (starts .entry)) ⌝ }
+    ensures { λ r. ⌜ Walked r (now (file .entry)) to (now (starts .exit)) ⌝ }
+{
+    let code = c.code;
+    let mut p = from;
+    while p < to {
+        let size = opcode_size(file[code + p]);
+        if size == 0 {
+            return false;
+        }
+        mark(starts, p);
+        p += size;
+    }
+    p == to
+}
+
+// Row 8. A blank table gets a mark at each place that begins an instruction, and at the end.
+pub(crate) fn bad_code(file: &[u8], c: Sections, starts: &mut [u8]) -> bool
+    requires { ⌜ Packed (now file) c × (badFunctions (now file) ≡ false) ⌝ }
+    requires { ⌜ Blank (now starts) ⌝ }
+    ensures { λ r. ⌜ length (now (starts .exit)) ≡ length (now (starts .entry)) ⌝ }
+    ensures { λ r. ⌜ r ≡ badCode (now (file .entry)) ⌝ }
+    ensures { λ r. ⌜ (r ≡ false → Marked (now (file .entry)) (now (starts .exit))) ⌝ }
+{
+    let n = c.functions;
+    let mut end = c.entry;
+    let entry = walk_body(file, c, 0, end, starts);
+    if !entry {
+        return true;
+    }
+    let mut i = 0;
+    while i < n {
+        let at = c.records + 20 * i;
+        let next = end + format::word(file, at + 4);
+        let whole = walk_body(file, c, end, next, starts);
+        if !whole {
+            return true;
+        }
+        end = next;
+        i += 1;
+    }
+    mark(starts, end);
+    false
+}
