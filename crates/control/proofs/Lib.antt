@@ -1,0 +1,4 @@
+pub mod Frames
+pub mod Jumps
+pub mod Calls
+pub mod Returns

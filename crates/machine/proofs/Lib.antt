@@ -1,0 +1,4 @@
+pub mod Turns
+pub mod Final
+pub mod Entry
+pub mod Steps

@@ -1,0 +1,4 @@
+-- Laws that the proofs cite.
+pub mod OperandLaws
+pub mod LocalLaws
+pub mod PointerLaws

@@ -1,0 +1,44 @@
+-- The proof of `moves::operands::pushed`.
+use native.Mathlib.Omega.{arith}
+use borrow.Author.Needs.{needs}
+use Rattle.moves.proofs.OperandLaws.{pushed-full, pushed-top}
+use Rattle.moves.proofs.operands.pushed.Statement.{statement}
+use Rattle.moves.proofs.operands.pushed.Tie as tie
+
+returns : tie.Need-returns
+returns c = λ f k. pushed-full _ _ _ _ f k _ _ (omega (arith, c .if1 .taken))
+
+put-slot-requires : tie.Need-put-slot-requires
+put-slot-requires c κs = search needs
+
+add-moved : tie.Need-add-moved
+add-moved c = search needs
+
+moved-requires : tie.Need-moved-requires
+moved-requires c κs = search needs
+
+same-length : tie.Need-same-length
+same-length c = search needs
+
+same-length-2 : tie.Need-same-length-2
+same-length-2 c = search needs
+
+returns-2 : tie.Need-returns-2
+returns-2 c =
+    let at-put-slot = c .before .before .before .before .before in
+    let at-if1 = at-put-slot .before .before .before in
+    let start = at-if1 .before .before .before in
+    λ f k. rw (c .moved .ensures) (pushed-top _ _ _ _ f k _ _ _ _ (at-put-slot .put-slot .ensures .0) (at-put-slot .put-slot .ensures .1)
+    (omega (arith, start .good .1 .1 .1 .0)) (at-if1 .if1 .left))
+
+pub pushed-spec : {M : Type 1} → statement M
+pushed-spec =
+    tie.close
+    (tie.spec
+    returns
+    put-slot-requires
+    add-moved
+    moved-requires
+    same-length
+    same-length-2
+    returns-2)

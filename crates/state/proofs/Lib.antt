@@ -1,0 +1,4 @@
+-- Laws for the proofs of instructions.
+pub mod Stack
+pub mod Outcomes
+pub mod Locals
