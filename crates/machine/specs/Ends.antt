@@ -14,9 +14,12 @@ use Rattle.rules.specs.Stack.{capacity, slotsOf}
 use Rattle.state.specs.declared.Registers.{Registers}
 use Rattle.machine.specs.declared.Ended.{Ended}
 
+abbrev pub endOf : ℕ → ℕ → Registers → Ended
+endOf n k r = record { number = n; steps = k; last = r }
+
 -- at the end of a body
 unfoldable pub endedAs : Registers → ℕ → Ended
-endedAs r k = cond (eqb (r .body) 65535) (record { number = 0; steps = k; last = r }) (record { number = 29; steps = k; last = r })
+endedAs r k = cond (eqb (r .body) 65535) (endOf 0 k r) (endOf 29 k r)
 
 -- the run ended as o says; its stack is in the first slots, and what lies past the capacity is as it was
 pub record Ran (cap : ℕ) (e : Ended) (p t p′ t′ : List ℕ) (o : Outcome) : Type 0 where

@@ -9,7 +9,7 @@ ghost use Rattle.rules.specs.Machine as Machine;
 ghost use Rattle.rules.specs.ModuleFile.{badFunctions, read, refusal};
 ghost use Rattle.format.specs.Layout.{Packed};
 ghost use Rattle.state.specs.State.{stateOf, Ready, Does};
-ghost use Rattle.machine.specs.Ends.{endedAs, Ran, slotsIn, tallied, clearedTo, RunIs};
+ghost use Rattle.machine.specs.Ends.{endOf, endedAs, Ran, slotsIn, tallied, clearedTo, RunIs};
 use format::Sections;
 use reader::Opened;
 use reader::decode::Decoded;
@@ -85,22 +85,24 @@ pub fn step(
     perform(file, c, cap, r, i, p, t, f)
 }
 
+fn ending(number: u32, steps: u64, last: Registers) -> Ended
+    ensures { λ e. ⌜ e ≡ endOf number steps last ⌝ }
+{
+    Ended {
+        number,
+        steps,
+        last,
+    }
+}
+
 // At the end of the entry, 0; at the end of a function, 29.
 fn at_end(r: Registers, steps: u64) -> Ended
     ensures { λ e. ⌜ e ≡ endedAs r steps ⌝ }
 {
     if r.body == 65535 {
-        return Ended {
-            number: 0,
-            steps,
-            last: r,
-        };
+        return ending(0, steps, r);
     }
-    Ended {
-        number: FUNCTION_NORETINSTRUCTION,
-        steps,
-        last: r,
-    }
+    ending(FUNCTION_NORETINSTRUCTION, steps, r)
 }
 
 // The run from a state: moment after moment, until it ends or the allowance is used up.
@@ -125,31 +127,20 @@ pub fn run_from(
             return at_end(r, steps);
         }
         if steps == allowance {
-            return Ended {
-                number: ALLOWANCE_USED_UP,
-                steps,
-                last: r,
-            };
+            return ending(ALLOWANCE_USED_UP, steps, r);
         }
+        let next = steps + 1;
         let a = step(file, c, cap, r, p, t, f);
         match a {
             Progress::Goes(q) => {
                 r = q;
-                steps += 1;
+                steps = next;
             }
             Progress::Finishes(q) => {
-                return Ended {
-                    number: 0,
-                    steps: steps + 1,
-                    last: q,
-                };
+                return ending(0, next, q);
             }
             Progress::Stops(e) => {
-                return Ended {
-                    number: e,
-                    steps,
-                    last: r,
-                };
+                return ending(e, steps, r);
             }
         }
     }

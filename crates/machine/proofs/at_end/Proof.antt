@@ -1,16 +1,26 @@
-use mathlib.Core.Path.{refl}
-use borrow.Author.Tests.{eq-eqb, ne-eqb}
 use Rattle.machine.specs.Ends.{endedAs}
+use borrow.Author.Tests.{eq-eqb, ne-eqb}
+use mathlib.Core.Path.{_∙_, sym}
+use borrow.Author.Needs.{needs}
 use Rattle.machine.proofs.at_end.Statement.{statement}
 use Rattle.machine.proofs.at_end.Tie as tie
+use Rattle.machine.proofs.at_end.Reads as reads
+use Rattle.machine.proofs.at_end.Lts as lts
+use Rattle.machine.proofs.ending.Reads as ending-reads
+
+ending-requires : tie.Need-ending-requires
+ending-requires c κs = search needs
 
 returns : tie.Need-returns
 unfolding endedAs
-returns c = rw (eq-eqb _ _ ((c .if1) .taken)) refl
+returns c = rw (eq-eqb _ _ ((c .before .if1) .taken)) ((c .ending) .ensures)
+
+ending-requires-2 : tie.Need-ending-requires-2
+ending-requires-2 c κs = search needs
 
 returns-2 : tie.Need-returns-2
 unfolding endedAs
-returns-2 c = rw (ne-eqb _ _ ((c .if1) .left)) refl
+returns-2 c = rw (ne-eqb _ _ ((c .before .if1) .left)) ((c .ending2) .ensures)
 
 pub at-end-spec : {M : Type 1} → statement M
-at-end-spec = tie.close (tie.spec returns returns-2)
+at-end-spec = tie.close (tie.spec ending-requires returns ending-requires-2 returns-2)
