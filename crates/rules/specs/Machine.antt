@@ -148,7 +148,7 @@ own m (fn k) = m .function k
 module _ (m : Module) (cap : ℕ) (M : Memory) where
   -- "`load`, `lea` outside the locals: 25." "`store` n: n below the local count moves the top there (same type); n equal to it
   -- and below 16 binds the top slot, ..; else 26." A local's slot is below the height at every moment of a run that the host
-  -- can start, so the inner 25 and 26 are never met (`started` of the crate soundness).
+  -- can start, so the inner 25 and 26 are never met (`locals-live` of `Claims`).
   abbrev pub exec : Instruction → List Slot → Frame → List Frame → Next
   exec (push k) st f cs = maybe (m .constant k) (stops constant-pool-out-of-range) (λ c. pushing M cap (c ∷ []) st f cs)
   exec (load n) st f cs =
@@ -175,8 +175,8 @@ module _ (m : Module) (cap : ℕ) (M : Memory) where
 unfoldable pub execIn : Module → ℕ → Instruction → State → Next
 execIn m cap i s = exec m cap (s .memory) i (s .memory .stack) (goto (s .top .place + size i) (s .top)) (s .callers)
 
--- the instruction at the place. Short of its body's end every place that a run comes to has one (`started` of the crate
--- soundness), so the 29 here is never met.
+-- the instruction at the place. Short of its body's end every place that a run comes to has one (`found` of `Claims`), so the
+-- 29 here is never met.
 unfoldable pub step : Module → ℕ → State → Next
 step m cap s = maybe (m .code (s .top .place)) (stops function-no-ret-instruction) (λ i. execIn m cap i s)
 

@@ -137,7 +137,7 @@ abbrev pub opcodeAt : List ℕ → ℕ → Opcode
 opcodeAt s p = opcodeOf (opcodes (edition s)) (codeByte s p)
 
 -- The code is cut into instructions from its start: operand bytes still due at place p. An instruction begins where none
--- is due. Where no instruction crosses a body's end this is each body's own cut (`cut-from` of the crate soundness).
+-- is due. Where no instruction crosses a body's end this is each body's own cut (`cut-from` of `Claims`).
 abbrev pub dueAfter : ℕ → Opcode → ℕ
 dueAfter zero h = operandBytes h
 dueAfter (suc d) h = d

@@ -23,7 +23,7 @@ use Rattle.soundness.specs.Invariant.{ValOk, Ops, Local, LocalsOk, resul
 use Rattle.soundness.specs.Foot.{Foot, foot-refl}
 use Rattle.soundness.specs.Sound.{Shift, same, opens, leaves, Moved, Fine, exec-good}
 
--- ---- one advance
+-- ---- one moment
 
 module _ (m : Module) (acc : WellTyped m) (cap : ℕ) where
   starts : (k : ℕ) (F : Function) → m .function k ≡ some F → acc .typing (fn k) (F .start) ≡ some (lists (F .params) [])
@@ -41,7 +41,7 @@ module _ (m : Module) (acc : WellTyped m) (cap : ℕ) where
   end-ok T entry h = finished
   end-ok T (fn k) h = absurd h
 
-  -- at every advance the run goes on with the invariant, or raises with one of the ends
+  -- at every moment the run goes on with the invariant, or stops with one of the ends
   advance-fine : (s : State) → Inv m (acc .typing) s → Fine m (acc .typing) (s .top .base) (s .callers) (s .memory .stack) (advance m cap s)
   unfolding advance step execIn
   advance-fine s I =
@@ -101,7 +101,7 @@ run-moment m cap s₀ first n = ap (λ x. run m cap x 0 s₀) (omega arith)
 run-moment m cap s₀ (next {k = k} {s = s} {s′ = s′} r e) n =
     let q : suc k + n ≡ k + suc n = omega arith in ap (λ x. run m cap x 0 s₀) q ∙ run-moment m cap s₀ r (suc n) ∙ run-next m cap n k s s′ e
 
--- arguments that are declared are values of the declared types, none a pointer
+-- arguments as declared are values of these types, none a pointer
 args-locals₀ : (H : List Slot) (ts : List Ty) (vs : List Slot) → ((s : ℕ) (v : Slot) → at vs s ≡ some v → at H s ≡ some v) → declared ts vs ≡ true
     → LocalsOk H 0 (argumentSlots 0 (length vs)) ts
 args-locals₀ H [] [] w h = tt
@@ -183,7 +183,7 @@ above-shift B d b cs f cs′ h a (same p q) = rw q ((λ l. omega arith), a)
 above-shift B d b cs f cs′ h a (opens g p l q) = rw q ((λ k. omega arith), ((λ k. omega arith), a))
 above-shift B d b cs f cs′ h a (leaves q) = rw q at a
 
--- what holds at each advance of a call: B is the called frame's first slot, st the stack at the call
+-- what holds at each moment of a call: B is the called frame's first slot, st the stack at the call
 record Guard (m : Module) (𝓣 : Body → Typing) (B d : ℕ) (st : List Slot) (t : State) : Type 0 where
   inv : Inv m 𝓣 t
   below : (x : ℕ) → x < B → (at (t .memory .stack) x ≡ at st x) ⊎ Named B st x

@@ -1,4 +1,4 @@
--- One instruction of a typed body keeps the invariant, or stops 20 or 24: by families.
+-- One instruction of a typed body keeps the invariant, or raises 20 or 24: by families.
 use mathlib.Core.Path.{_≡_, refl, sym, ap, _∙_, subst}
 use mathlib.Core.Logic.{_≢_, _⊎_, inl, inr}
 use Prim.Native.Nat.{ℕ, zero, suc, _+_, _-_, _≤_, _<_}
@@ -373,7 +373,7 @@ module _ (m : Module) (𝓣 : Body → Typing) (cap : ℕ) (M : Memory) (f : Fra
       inj : (x y : Slot) → some x ≡ some y → x ≡ y
       inj x y q = cc
 
-  -- the top becomes M a local, and buries the operands under it
+  -- the top becomes a local, and buries the operands under it
   bind-good : (t : Ty) (O : List Ty) (r : List Slot) (v : Slot) → Held v t → At O r → 𝓣 (f .body) (f .place) ≡ some (lists (t ∷ L) [])
       → Good (becomes M (v ∷ r) (bind (length r) f) cs)
   bind-good t O r v hv ar e =
