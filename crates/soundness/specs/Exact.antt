@@ -1,26 +1,25 @@
 -- Demand 3, first part: a body is accepted exactly when it has a consistent typing, and the table is the least one.
 use mathlib.Core.Path.{_≡_, refl, sym, ap, _∙_, subst}
-use mathlib.Core.Logic.{_≢_, _⊎_, inl, inr}
-use Prim.Native.Nat.{ℕ, zero, suc, _+_, _-_, _*_, _≤_, _<_}
+use mathlib.Core.Logic.{_⊎_, inl, inr}
+use Prim.Native.Nat.{ℕ, zero, suc, _+_, _*_, _≤_, _<_}
 use native.Mathlib.Omega.{arith}
-use native.Mathlib.Nat.{suc-inj}
-use mathlib.Core.Bool.{Bool, true, false, not, cond, _&&_}
+use mathlib.Core.Bool.{Bool, true, false, cond, _&&_}
 use mathlib.Core.Option.{Option, none, some}
 use mathlib.Core.List.{List, [], _∷_, _++_}
-use lib.ListN.{length, getD, set, replicate, length-set, length-append, length-replicate, getD-replicate, List·getD-eq-default}
+use lib.ListN.{length, getD, set, replicate, length-set, length-append, length-replicate}
 use lib.Seq.{getD-set-same, getD-set-other}
-use lib.Dec.{T, leb, ltb, eqb, leb→le}
+use lib.Dec.{leb, ltb, eqb}
 use Rattle.soundness.specs.Names.{Num, int, Instruction, push, load, store, lea, one, two, tload, tstore, bump, jmp, branch, call, ret}
 use Rattle.rules.specs.Bytes.{maybe}
-use Rattle.rules.specs.Instructions.{Ty, num, ptr, kindOf, numOf, eqNum, eqTy, size}
-use Rattle.rules.specs.ModuleFile.{Body, entry, fn, Function, Module}
+use Rattle.rules.specs.Instructions.{Ty, num, ptr, kindOf, numOf, eqTy, size}
+use Rattle.rules.specs.ModuleFile.{Body, entry, fn, Module}
 use Rattle.rules.specs.Stack.{at}
 use Rattle.rules.specs.Operations.{refuse, class1, class2}
 use Rattle.rules.specs.Machine.{owned, own}
 use Rattle.rules.specs.Typing.{Lists, lists, Flow, to, operand, asPtr, asNum, only, strip, withResult, judgeRet, judge, judgeAt, gives1, gives2, Typing, AllNext, Flows, Gives, endFlow, placeFlow, startOf, StartOk, endOf, past, Consistent, Reached}
 use Rattle.rules.specs.Check.{eqTys, eqLists, small, allowed, Table, Worklist, Visit, known, new, wrong, visit, solve, startWork, checkBody}
-use Rattle.soundness.specs.Tests.{decide, none-some, eqb-is, eqb-isnt, ltb-is, ltb-yes, leb-yes, test-true, and-both, and-intro}
-use Rattle.soundness.specs.Invariant.{eqTy-is, eqNum-same}
+use Rattle.soundness.specs.Tests.{decide, none-some, some-inj, eqb-is, eqb-isnt, ltb-is, ltb-yes, leb-is, leb-yes, and-both, and-intro}
+use Rattle.soundness.specs.Invariant.{eqTy-is, eqNum-same, owned-is}
 
 -- ---- equality of lists
 
@@ -52,9 +51,18 @@ eqLists-is k l e =
 eqLists-same : (l : Lists) → eqLists l l ≡ true
 eqLists-same l = and-intro (eqTys (l .locals) (l .locals)) (eqTys (l .operands) (l .operands)) (eqTys-same (l .locals)) (eqTys-same (l .operands))
 
+pub few-of : (l : Lists) → small l ≡ true → (length (l .locals) ≤ 16) × (length (l .operands) ≤ 32)
+few-of l h =
+    let a : (leb (length (l .locals)) 16 ≡ true) × (leb (length (l .operands)) 32 ≡ true) = and-both (leb (length (l .locals)) 16) (leb (length (l .operands)) 32) h in
+    (leb-is (length (l .locals)) 16 (a .0), leb-is (length (l .operands)) 32 (a .1))
+
 -- ---- flows
 
-flows-map : (K K′ : ℕ → Lists → Type 0) → ((q : ℕ) (l : Lists) → K q l → K′ q l) → (w : Flow) → Flows K w → Flows K′ w
+pub start-given : (𝓣 : Typing) (s : Option (ℕ × List Ty)) → StartOk 𝓣 s → (p : ℕ) (ts : List Ty) → s ≡ some (p, ts) → 𝓣 p ≡ some (lists ts [])
+start-given 𝓣 none h p ts e = none-some e
+start-given 𝓣 (some x) h p ts e = subst (λ (y : ℕ × List Ty). 𝓣 (y .0) ≡ some (lists (y .1) [])) (some-inj x (p, ts) e) h
+
+pub flows-map : (K K′ : ℕ → Lists → Type 0) → ((q : ℕ) (l : Lists) → K q l → K′ q l) → (w : Flow) → Flows K w → Flows K′ w
 flows-map K K′ g none h = h
 flows-map K K′ g (some ns) h = go ns h
   where
@@ -62,77 +70,113 @@ flows-map K K′ g (some ns) h = go ns h
     go [] h = tt
     go (x ∷ ns) h = (g (x .0) (x .1) (h .0), go ns (h .1))
 
+-- a worklist has the lists l for the place q
+abbrev pub In : ℕ → Lists → Worklist → Type 0
+In q l [] = ⊥
+In q l (x ∷ xs) = ((x .0 ≡ q) × (x .1 ≡ l)) ⊎ In q l xs
+
+-- P holds of the five forms that a flow has, where the places of After may come after and Lab may be jumped to
+pub record Forms (After Lab : ℕ → Type 0) (P : Flow → Type 0) : Type 0 where
+  pub refused : P none
+  pub stops : P (some [])
+  pub goes-on : (q : ℕ) (L O : List Ty) → After q → P (to q L O)
+  pub jumps : (q : ℕ) (L O : List Ty) → Lab q → P (to q L O)
+  pub forks : (p q : ℕ) (L O : List Ty) → Lab p → After q → P (some ((p, lists L O) ∷ (q, lists L O) ∷ []))
+
+module _ (P : Flow → Type 0) (no : P none) where
+  by-maybe : {A : Type 0} (o : Option A) (k : A → Flow) → ((a : A) → o ≡ some a → P (k a)) → P (maybe o none k)
+  by-maybe none k h = no
+  by-maybe (some a) k h = h a refl
+
+  by-no : {A : Type 0} (o : Option A) (w : Flow) → P w → P (maybe o w (λ e. none))
+  by-no none w h = h
+  by-no (some a) w h = no
+
+  by-operand : (O : List Ty) (k : Ty → List Ty → Flow) → ((t : Ty) (O′ : List Ty) → P (k t O′)) → P (operand O k)
+  by-operand [] k h = no
+  by-operand (t ∷ O) k h = h t O
+
+  by-only : (b : Bool) (w : Flow) → P w → P (only b w)
+  by-only true w h = h
+  by-only false w h = no
+
+  by-ptr : (t : Ty) (k : Num → Flow) → ((τ : Num) → P (k τ)) → P (asPtr t k)
+  by-ptr (num τ) k h = no
+  by-ptr (ptr τ) k h = h τ
+
+  by-num : (t : Ty) (k : Num → Flow) → ((τ : Num) → P (k τ)) → P (asNum t k)
+  by-num (num τ) k h = h τ
+  by-num (ptr τ) k h = no
+
+  by-strip : (ps O : List Ty) (k : List Ty → Flow) → ((O′ : List Ty) → P (k O′)) → P (strip ps O k)
+  by-strip [] O k h = h O
+  by-strip (p ∷ ps) [] k h = no
+  by-strip (p ∷ ps) (t ∷ O) k h = by-only (eqTy t p) (strip ps O k) (by-strip ps O k h)
+
+  by-ret : P (some []) → (r : Option Num) (O : List Ty) → P (judgeRet r O)
+  by-ret h none O = h
+  by-ret h (some τ) O = by-operand O _ (λ t O′. by-only (eqTy t (num τ)) (some []) h)
+
+module _ (m : Module) (b : Body) where
+  abbrev pub Labelled : ℕ → Type 0
+  Labelled q = (k : ℕ) × (m .label k ≡ some (b, q))
+
+  -- q is the place after the instruction at p
+  abbrev pub After : ℕ → ℕ → Type 0
+  After p q = (i : Instruction) × (m .code p ≡ some i) × (q ≡ p + size i)
+
+  labelled : (l q : ℕ) → owned b (m .label l) ≡ some q → Labelled q
+  labelled l q e = (l, owned-is b (m .label l) q e)
+
+  judge-forms : (K : ℕ → Type 0) (P : Flow → Type 0) → Forms K Labelled P → (i : Instruction) (q : ℕ) → K q → (L O : List Ty) → P (judge m b i q L O)
+  judge-forms K P f (push k) q a L O =
+      by-maybe P (f .refused) (m .constant k) _ (λ c u. by-maybe P (f .refused) (numOf (c .kind)) _ (λ τ v. f .goes-on q L (num τ ∷ O) a))
+  judge-forms K P f (load n) q a L O = by-maybe P (f .refused) (at L n) _ (λ t u. f .goes-on q L (t ∷ O) a)
+  judge-forms K P f (store n) q a L O = go (at L n)
+    where
+      go : (o : Option Ty) → P (maybe o (operand O (λ t O′. only (eqb n (length L) && ltb n 16) (to q (t ∷ L) []))) (λ u. operand O (λ t O′. only (eqTy t u) (to q L O′))))
+      go none = by-operand P (f .refused) O _ (λ t O′. by-only P (f .refused) (eqb n (length L) && ltb n 16) _ (f .goes-on q (t ∷ L) [] a))
+      go (some u) = by-operand P (f .refused) O _ (λ t O′. by-only P (f .refused) (eqTy t u) _ (f .goes-on q L O′ a))
+  judge-forms K P f (lea n) q a L O = by-maybe P (f .refused) (at L n) _ (λ t u. by-num P (f .refused) t _ (λ τ. f .goes-on q L (ptr τ ∷ O) a))
+  judge-forms K P f (one o) q a L O =
+      by-operand P (f .refused) O _ (λ t O′. by-no P (f .refused) (refuse (class1 o) (kindOf t) (kindOf t)) _ (f .goes-on q L (gives1 o t ++ O′) a))
+  judge-forms K P f (two o) q a L O =
+      by-operand P (f .refused) O _
+      (λ t O′. by-operand P (f .refused) O′ _
+      (λ u O″. by-only P (f .refused) (eqTy t u) _ (by-no P (f .refused) (refuse (class2 o) (kindOf u) (kindOf t)) _ (f .goes-on q L (gives2 o t ++ O″) a))))
+  judge-forms K P f tload q a L O = by-operand P (f .refused) O _ (λ t O′. by-ptr P (f .refused) t _ (λ τ. f .goes-on q L (num τ ∷ O′) a))
+  judge-forms K P f tstore q a L O =
+      by-operand P (f .refused) O _
+      (λ t O′. by-operand P (f .refused) O′ _ (λ u O″. by-ptr P (f .refused) u _ (λ τ. by-only P (f .refused) (eqTy t (num τ)) _ (f .goes-on q L O″ a))))
+  judge-forms K P f (bump d) q a L O = by-operand P (f .refused) O _ (λ t O′. by-ptr P (f .refused) t _ (λ τ. f .goes-on q L O′ a))
+  judge-forms K P f (jmp l) q a L O = by-maybe P (f .refused) (owned b (m .label l)) _ (λ p e. f .jumps p L O (labelled l p e))
+  judge-forms K P f (branch c l) q a L O =
+      by-maybe P (f .refused) (owned b (m .label l)) _
+      (λ p e. by-operand P (f .refused) O _ (λ t O′. by-only P (f .refused) (eqTy t (num int)) _ (f .forks p q L O′ (labelled l p e) a)))
+  judge-forms K P f (call k) q a L O =
+      by-maybe P (f .refused) (m .function k) _ (λ F u. by-strip P (f .refused) (F .params) O _ (λ O′. f .goes-on q L (withResult (F .result) O′) a))
+  judge-forms K P f ret q a L O = by-maybe P (f .refused) (own m b) _ (λ F u. by-ret P (f .refused) (f .stops) (F .result) O)
+
+  pub place-forms : (p : ℕ) (P : Flow → Type 0) → Forms (After p) Labelled P → (l : Lists) → P (placeFlow m b p l)
+  place-forms p P f l = go (past p (endOf m b))
+    where
+      at-end : (c : Body) → P (endFlow c)
+      at-end entry = f .stops
+      at-end (fn k) = f .refused
+
+      go : (e : Bool) → P (cond e (endFlow b) (judgeAt m b p l))
+      go true = at-end b
+      go false = by-maybe P (f .refused) (m .code p) _ (λ i e. judge-forms (After p) P f i (p + size i) (i, e, refl) (l .locals) (l .operands))
+
 -- an instruction goes to two places at most
 abbrev Short : Flow → Type 0
 Short none = Unit {0}
 Short (some ns) = length ns ≤ 2
 
-short-maybe : {A : Type 0} (o : Option A) (k : A → Flow) → ((a : A) → Short (k a)) → Short (maybe o none k)
-short-maybe none k h = tt
-short-maybe (some a) k h = h a
-
-short-no : {A : Type 0} (o : Option A) (w : Flow) → Short w → Short (maybe o w (λ e. none))
-short-no none w h = h
-short-no (some a) w h = tt
-
-short-operand : (O : List Ty) (k : Ty → List Ty → Flow) → ((t : Ty) (O′ : List Ty) → Short (k t O′)) → Short (operand O k)
-short-operand [] k h = tt
-short-operand (t ∷ O) k h = h t O
-
-short-only : (b : Bool) (w : Flow) → Short w → Short (only b w)
-short-only true w h = h
-short-only false w h = tt
-
-short-ptr : (t : Ty) (k : Num → Flow) → ((τ : Num) → Short (k τ)) → Short (asPtr t k)
-short-ptr (num τ) k h = tt
-short-ptr (ptr τ) k h = h τ
-
-short-num : (t : Ty) (k : Num → Flow) → ((τ : Num) → Short (k τ)) → Short (asNum t k)
-short-num (num τ) k h = h τ
-short-num (ptr τ) k h = tt
-
-short-strip : (ps O : List Ty) (k : List Ty → Flow) → ((O′ : List Ty) → Short (k O′)) → Short (strip ps O k)
-short-strip [] O k h = h O
-short-strip (p ∷ ps) [] k h = tt
-short-strip (p ∷ ps) (t ∷ O) k h = short-only (eqTy t p) (strip ps O k) (short-strip ps O k h)
-
-short-to : (q : ℕ) (L O : List Ty) → Short (to q L O)
-short-to q L O = omega arith
-
-short-ret : (r : Option Num) (O : List Ty) → Short (judgeRet r O)
-short-ret none O = omega arith
-short-ret (some τ) O = short-operand O _ (λ t O′. short-only (eqTy t (num τ)) (some []) (omega arith))
-
-short-judge : (m : Module) (b : Body) (i : Instruction) (q : ℕ) (L O : List Ty) → Short (judge m b i q L O)
-short-judge m b (push k) q L O = short-maybe (m .constant k) _ (λ c. short-maybe (numOf (c .kind)) _ (λ τ. short-to q L (num τ ∷ O)))
-short-judge m b (load n) q L O = short-maybe (at L n) _ (λ t. short-to q L (t ∷ O))
-short-judge m b (store n) q L O = go (at L n)
-  where
-    go : (o : Option Ty) → Short (maybe o (operand O (λ t O′. only (eqb n (length L) && ltb n 16) (to q (t ∷ L) []))) (λ u. operand O (λ t O′. only (eqTy t u) (to q L O′))))
-    go none = short-operand O _ (λ t O′. short-only (eqb n (length L) && ltb n 16) (to q (t ∷ L) []) (short-to q (t ∷ L) []))
-    go (some u) = short-operand O _ (λ t O′. short-only (eqTy t u) (to q L O′) (short-to q L O′))
-short-judge m b (lea n) q L O = short-maybe (at L n) _ (λ t. short-num t _ (λ τ. short-to q L (ptr τ ∷ O)))
-short-judge m b (one o) q L O = short-operand O _ (λ t O′. short-no (refuse (class1 o) (kindOf t) (kindOf t)) _ (short-to q L (gives1 o t ++ O′)))
-short-judge m b (two o) q L O =
-    short-operand O _ (λ t O′. short-operand O′ _ (λ u O″. short-only (eqTy t u) _ (short-no (refuse (class2 o) (kindOf u) (kindOf t)) _ (short-to q L (gives2 o t ++ O″)))))
-short-judge m b tload q L O = short-operand O _ (λ t O′. short-ptr t _ (λ τ. short-to q L (num τ ∷ O′)))
-short-judge m b tstore q L O = short-operand O _ (λ t O′. short-operand O′ _ (λ u O″. short-ptr u _ (λ τ. short-only (eqTy t (num τ)) _ (short-to q L O″))))
-short-judge m b (bump d) q L O = short-operand O _ (λ t O′. short-ptr t _ (λ τ. short-to q L O′))
-short-judge m b (jmp l) q L O = short-maybe (owned b (m .label l)) _ (λ p. short-to p L O)
-short-judge m b (branch c l) q L O = short-maybe (owned b (m .label l)) _ (λ p. short-operand O _ (λ t O′. short-only (eqTy t (num int)) _ (omega arith)))
-short-judge m b (call k) q L O = short-maybe (m .function k) _ (λ F. short-strip (F .params) O _ (λ O′. short-to q L (withResult (F .result) O′)))
-short-judge m b ret q L O = short-maybe (own m b) _ (λ F. short-ret (F .result) O)
-
-short-end : (b : Body) → Short (endFlow b)
-short-end entry = omega arith
-short-end (fn k) = tt
-
 short-place : (m : Module) (b : Body) (p : ℕ) (l : Lists) → Short (placeFlow m b p l)
-short-place m b p l = go (past p (endOf m b))
-  where
-    go : (e : Bool) → Short (cond e (endFlow b) (judgeAt m b p l))
-    go true = short-end b
-    go false = short-maybe (m .code p) _ (λ i. short-judge m b i (p + size i) (l .locals) (l .operands))
+short-place m b p =
+    place-forms m b p Short
+    (record { refused = tt; stops = omega arith; goes-on = λ q L O a. omega arith; jumps = λ q L O a. omega arith; forks = λ p q L O a c. omega arith })
 
 -- ---- the table
 
@@ -160,10 +204,6 @@ getD-blank (suc n) zero l e = none-some e
 getD-blank (suc n) (suc p) l e = getD-blank n p l e
 
 module _ (m : Module) (b : Body) where
-  abbrev In : ℕ → Lists → Worklist → Type 0
-  In q l [] = ⊥
-  In q l (x ∷ xs) = ((x .0 ≡ q) × (x .1 ≡ l)) ⊎ In q l xs
-
   abbrev Pending : Table → Worklist → ℕ → Lists → Type 0
   Pending tab work q l = (getD tab q none ≡ some l) ⊎ In q l work
 
@@ -217,11 +257,8 @@ module _ (m : Module) (b : Body) where
   unfolding solve
   solve-closed zero tab work out c e = none-some e
   solve-closed (suc n) tab [] out c e =
-      let p : tab ≡ out = inj tab out e in
+      let p : tab ≡ out = some-inj tab out e in
       (subst (λ t. Closed t []) p c, (λ q l. elim [ inl h ↦ subst (λ t. getD t q none ≡ some l) p h | inr h ↦ absurd h ]), ap length (sym p))
-    where
-      inj : (x y : Table) → some x ≡ some y → x ≡ y
-      inj x y q = cc
   solve-closed (suc n) tab (x ∷ work) out c e =
       go (visit m b tab (x .0) (x .1)) (found tab (x .0) (x .1)) e (λ t w. solve-closed n t w out)
     where
@@ -265,9 +302,6 @@ module _ (m : Module) (b : Body) where
           }) e′ in
           (r .0, (λ q k h. r .1 q k (more q k h)), r .2 ∙ length-set tab p (some l))
         where
-          some-inj : (y z : Lists) → some y ≡ some z → y ≡ z
-          some-inj y z q = cc
-
           pick-fits : (q : ℕ) (k : Lists) → ((q ≡ p) × (l ≡ k)) ⊎ (getD tab q none ≡ some k) → allowed m b q k ≡ true
           pick-fits q k (inl h) = rw (h .0, ← h .1) (f .2)
           pick-fits q k (inr h) = c .fits q k h
@@ -310,48 +344,48 @@ module _ (m : Module) (b : Body) where
       start none h = tt
       start (some x) h = h (x .0) (lists (x .1) []) (inr (inl (refl, refl)))
 
-      few-of : (l : Lists) → small l ≡ true → (length (l .locals) ≤ 16) × (length (l .operands) ≤ 32)
-      few-of l h =
-          let a : (leb (length (l .locals)) 16 ≡ true) × (leb (length (l .operands)) 32 ≡ true) = and-both (leb (length (l .locals)) 16) (leb (length (l .operands)) 32) h in
-          (leb→le (length (l .locals)) 16 (test-true (a .0)), leb→le (length (l .operands)) 32 (test-true (a .1)))
-
   -- ---- a body with a typing is accepted, and every typing gives what the table gives
 
-  module _ (𝓣 : Typing) (con : Consistent m b 𝓣) where
+  -- a typing as a relation: it has the start's lists and what flows from lists that it has, and never two lists for a place
+  pub record Related (G : ℕ → Lists → Type 0) : Type 0 where
+    pub starts : (p : ℕ) (ts : List Ty) → startOf m b ≡ some (p, ts) → G p (lists ts [])
+    pub once : (p : ℕ) (k l : Lists) → G p k → G p l → k ≡ l
+    pub few : (p : ℕ) (l : Lists) → G p l → (length (l .locals) ≤ 16) × (length (l .operands) ≤ 32)
+    pub inside : (p : ℕ) (l : Lists) → G p l → (p ≤ m .extent) × (m .isPlace b p ≡ true)
+    pub flows : (p : ℕ) (l : Lists) → G p l → Flows G (placeFlow m b p l)
+
+  module _ (G : ℕ → Lists → Type 0) (rel : Related G) where
     abbrev GivenTable : Table → Type 0
-    GivenTable tab = (p : ℕ) (l : Lists) → getD tab p none ≡ some l → 𝓣 p ≡ some l
+    GivenTable tab = (p : ℕ) (l : Lists) → getD tab p none ≡ some l → G p l
 
     abbrev Follows : Visit → Type 0
     Follows known = Unit {0}
-    Follows (new ns) = AllNext (Gives 𝓣) ns × (length ns ≤ 2)
+    Follows (new ns) = AllNext G ns × (length ns ≤ 2)
     Follows wrong = ⊥
 
-    follows : (tab : Table) (p : ℕ) (l : Lists) → GivenTable tab → length tab ≡ 1 + m .extent → 𝓣 p ≡ some l → Follows (visit m b tab p l)
+    follows : (tab : Table) (p : ℕ) (l : Lists) → GivenTable tab → length tab ≡ 1 + m .extent → G p l → Follows (visit m b tab p l)
     follows tab p l g n e = go (getD tab p none) refl
       where
-        some-inj : (y z : Lists) → some y ≡ some z → y ≡ z
-        some-inj y z q = cc
-
         room : (ltb p (length tab) && allowed m b p l) ≡ true
         room =
-            let k : p ≤ m .extent = con .inside p l e .0 in
-            and-intro (ltb p (length tab)) (allowed m b p l) (ltb-yes p (length tab) (omega arith)) (and-intro (m .isPlace b p) (small l) (con .inside p l e .1)
-            (and-intro (leb (length (l .locals)) 16) (leb (length (l .operands)) 32) (leb-yes (length (l .locals)) 16 (con .few p l e .0)) (leb-yes (length (l .operands)) 32 (con .few p l e .1))))
+            let k : p ≤ m .extent = rel .inside p l e .0 in
+            and-intro (ltb p (length tab)) (allowed m b p l) (ltb-yes p (length tab) (omega arith)) (and-intro (m .isPlace b p) (small l) (rel .inside p l e .1)
+            (and-intro (leb (length (l .locals)) 16) (leb (length (l .operands)) 32) (leb-yes (length (l .locals)) 16 (rel .few p l e .0)) (leb-yes (length (l .operands)) 32 (rel .few p l e .1))))
 
-        fresh : (w : Flow) → Flows (Gives 𝓣) w → Short w → Follows (maybe w wrong (λ ns. new ns))
+        fresh : (w : Flow) → Flows G w → Short w → Follows (maybe w wrong (λ ns. new ns))
         fresh none f s = absurd f
         fresh (some ns) f s = (f, s)
 
         go : (o : Option Lists) → getD tab p none ≡ o
             → Follows (maybe o (cond (ltb p (length tab) && allowed m b p l) (maybe (placeFlow m b p l) wrong (λ ns. new ns)) wrong) (λ k. cond (eqLists k l) known wrong))
-        go none q = rw room (fresh (placeFlow m b p l) (con .flows p l e) (short-place m b p l))
-        go (some k) q = let z : k ≡ l = some-inj k l (sym (g p k q) ∙ e) in rw (z, eqLists-same l) tt
+        go none q = rw room (fresh (placeFlow m b p l) (rel .flows p l e) (short-place m b p l))
+        go (some k) q = let z : k ≡ l = rel .once p k l (g p k q) e in rw (z, eqLists-same l) tt
 
-    all-append : (ns work : Worklist) → AllNext (Gives 𝓣) ns → AllNext (Gives 𝓣) work → AllNext (Gives 𝓣) (ns ++ work)
+    all-append : (ns work : Worklist) → AllNext G ns → AllNext G work → AllNext G (ns ++ work)
     all-append [] work h k = k
     all-append (x ∷ ns) work h k = (h .0, all-append ns work (h .1) k)
 
-    solve-given : (n : ℕ) (tab : Table) (work : Worklist) → length work + 2 * blanks tab < n → length tab ≡ 1 + m .extent → GivenTable tab → AllNext (Gives 𝓣) work
+    solve-given : (n : ℕ) (tab : Table) (work : Worklist) → length work + 2 * blanks tab < n → length tab ≡ 1 + m .extent → GivenTable tab → AllNext G work
         → (out : Table) × (solve m b n tab work ≡ some out) × GivenTable out
     unfolding solve
     solve-given zero tab work l k g a = absurd (omega arith)
@@ -363,7 +397,7 @@ module _ (m : Module) (b : Body) where
         p = x .0
 
         go : (v : Visit) → Found tab p (x .1) v → Follows v
-            → ((t : Table) (w : Worklist) → length w + 2 * blanks t < n → length t ≡ 1 + m .extent → GivenTable t → AllNext (Gives 𝓣) w → (out : Table) × (solve m b n t w ≡ some out) × GivenTable out)
+            → ((t : Table) (w : Worklist) → length w + 2 * blanks t < n → length t ≡ 1 + m .extent → GivenTable t → AllNext G w → (out : Table) × (solve m b n t w ≡ some out) × GivenTable out)
             → (out : Table)
             × ((elim v as (λ z. Option Table) [ known ↦ solve m b n tab work | new ns ↦ solve m b n (set tab p (some (x .1))) (ns ++ work) | wrong ↦ none ]) ≡ some out)
             × GivenTable out
@@ -376,26 +410,38 @@ module _ (m : Module) (b : Body) where
             ih (set tab p (some (x .1))) (ns ++ work) (omega arith) (length-set tab p (some (x .1)) ∙ k)
             (λ q y h. decide (eqb q p)
             (λ z. let w : q ≡ p = eqb-is q p z in
-            ap 𝓣 w ∙ a .0 ∙ sym (getD-set-same tab p (some (x .1)) none (f .1)) ∙ ap (λ v. getD (set tab p (some (x .1))) v none) (sym w) ∙ h)
+            let u : x .1 ≡ y = some-inj (x .1) y (sym (getD-set-same tab p (some (x .1)) none (f .1)) ∙ ap (λ v. getD (set tab p (some (x .1))) v none) (sym w) ∙ h) in
+            rw (w, ← u) (a .0))
             (λ z. g q y (sym (getD-set-other tab p q (some (x .1)) none (eqb-isnt q p z)) ∙ h)))
             (all-append ns work (s .0) (a .1))
 
-    -- EXACTNESS, the other way: where there is a typing, the check finds a table, and the typing gives all that the table gives
-    pub check-complete : (out : Table) × (checkBody m b ≡ some out) × ((p : ℕ) (l : Lists) → getD out p none ≡ some l → 𝓣 p ≡ some l)
+    pub related-complete : (out : Table) × (checkBody m b ≡ some out) × ((p : ℕ) (l : Lists) → getD out p none ≡ some l → G p l)
     unfolding checkBody
-    check-complete =
+    related-complete =
         let c : blanks (replicate (1 + m .extent) none) ≡ 1 + m .extent = blanks-all (1 + m .extent) in
         let w : length (startWork (startOf m b)) ≤ 1 = short-start (startOf m b) in
         solve-given (3 + 2 * (1 + m .extent)) (replicate (1 + m .extent) none) (startWork (startOf m b)) (omega arith) (length-replicate (1 + m .extent) none)
-        (λ p l h. absurd (getD-blank (1 + m .extent) p l h)) (start (startOf m b) (con .starts))
+        (λ p l h. absurd (getD-blank (1 + m .extent) p l h)) (start (startOf m b) (rel .starts))
       where
         short-start : (s : Option (ℕ × List Ty)) → length (startWork s) ≤ 1
         short-start none = omega arith
         short-start (some y) = omega arith
 
-        start : (s : Option (ℕ × List Ty)) → StartOk 𝓣 s → AllNext (Gives 𝓣) (startWork s)
+        start : (s : Option (ℕ × List Ty)) → ((p : ℕ) (ts : List Ty) → s ≡ some (p, ts) → G p (lists ts [])) → AllNext G (startWork s)
         start none h = tt
-        start (some y) h = (h, tt)
+        start (some y) h = (h (y .0) (y .1) refl, tt)
+
+  -- EXACTNESS, the other way: where there is a typing, the check finds a table, and the typing gives all that the table gives
+  pub check-complete : (𝓣 : Typing) → Consistent m b 𝓣 → (out : Table) × (checkBody m b ≡ some out) × ((p : ℕ) (l : Lists) → getD out p none ≡ some l → 𝓣 p ≡ some l)
+  check-complete 𝓣 con =
+      related-complete (Gives 𝓣)
+      (record {
+        starts = start-given 𝓣 (startOf m b) (con .starts);
+        once = λ p k l e f. some-inj k l (sym e ∙ f);
+        few = con .few;
+        inside = con .inside;
+        flows = con .flows;
+      })
 
   -- the lists of a reached place are the same in all typings
   pub reached-lists : (p : ℕ) → Reached m b p → (𝓣 𝓤 : Typing) → Consistent m b 𝓣 → Consistent m b 𝓤 → 𝓣 p ≡ 𝓤 p
@@ -403,8 +449,5 @@ module _ (m : Module) (b : Body) where
       let x : (out : Table) × (checkBody m b ≡ some out) × ((p : ℕ) (l : Lists) → getD out p none ≡ some l → 𝓣 p ≡ some l) = check-complete 𝓣 c in
       let y : (out : Table) × (checkBody m b ≡ some out) × ((p : ℕ) (l : Lists) → getD out p none ≡ some l → 𝓤 p ≡ some l) = check-complete 𝓤 d in
       let z : (l : Lists) × (getD (x .0) p none ≡ some l) = r (typingOf (x .0)) (check-consistent (x .0) (x .1)) in
-      let e : x .0 ≡ y .0 = inj (x .0) (y .0) (sym (x .1) ∙ y .1) in
+      let e : x .0 ≡ y .0 = some-inj (x .0) (y .0) (sym (x .1) ∙ y .1) in
       x .2 p (z .0) (z .1) ∙ sym (y .2 p (z .0) (subst (λ t. getD t p none ≡ some (z .0)) e (z .1)))
-    where
-      inj : (s t : Table) → some s ≡ some t → s ≡ t
-      inj s t q = cc

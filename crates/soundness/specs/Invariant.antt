@@ -11,11 +11,11 @@ use lib.Dec.{T, leb, ltb, eqb}
 use Rattle.soundness.specs.Names.{Slot, Num, int, long, double}
 use Rattle.rules.specs.Bytes.{maybe}
 use Rattle.rules.specs.Instructions.{Ty, num, ptr, numKind, kindOf, numOf, eqNum, eqTy}
-use Rattle.rules.specs.ModuleFile.{Body, entry, fn, Function, Module}
+use Rattle.rules.specs.ModuleFile.{Body, entry, fn, eqBody, Function, Module}
 use Rattle.rules.specs.Stack.{at, put, under}
-use Rattle.rules.specs.Machine.{Frame, State, own}
+use Rattle.rules.specs.Machine.{Frame, State, own, owned}
 use Rattle.rules.specs.Typing.{Lists, lists, Typing, withResult, endOf}
-use Rattle.soundness.specs.Tests.{decide, none-some, eqb-is, eqb-isnt, eqb-same, eqb-other}
+use Rattle.soundness.specs.Tests.{decide, none-some, some-inj, eqb-is, eqb-isnt, eqb-same, eqb-other}
 use Rattle.soundness.specs.Slots.{at-top, at-cons, at-lt, at-up, put-top, put-cons, length-put, put-out, at-put-same, at-put-other, length-under, length-under-is, under-put, under-cons, under-all, at-under, at-under-up}
 
 -- slot s holds a number of the type τ
@@ -90,6 +90,17 @@ eqTy-is (num σ) (num τ) e = ap num (eqNum-is σ τ e)
 eqTy-is (num σ) (ptr τ) e = cc
 eqTy-is (ptr σ) (num τ) e = cc
 eqTy-is (ptr σ) (ptr τ) e = ap ptr (eqNum-is σ τ e)
+
+eqBody-is : (a b : Body) → eqBody a b ≡ true → a ≡ b
+eqBody-is entry entry e = refl
+eqBody-is entry (fn k) e = cc
+eqBody-is (fn j) entry e = cc
+eqBody-is (fn j) (fn k) e = ap fn (eqb-is j k e)
+
+pub owned-is : (b : Body) (o : Option (Body × ℕ)) (q : ℕ) → owned b o ≡ some q → o ≡ some (b, q)
+owned-is b none q e = none-some e
+owned-is b (some x) q e =
+    decide (eqBody (x .0) b) (λ y. let z : x .1 ≡ q = some-inj (x .1) q (rw y at e) in let w : x .0 ≡ b = eqBody-is (x .0) b y in λ i. some (w i, z i)) (λ y. none-some (rw y at e))
 
 -- the type numbers tell the number types apart, and none is a pointer's
 pub numKind-inj : (σ τ : Num) → numKind σ ≡ numKind τ → σ ≡ τ

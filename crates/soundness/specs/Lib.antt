@@ -6,7 +6,8 @@ pub mod Foot
 pub mod Sound
 pub mod Runs
 pub mod Exact
-pub mod Sweep
+pub mod Forced
+pub mod Walks
 pub mod Records
 pub mod Whole
 pub mod Readable

@@ -1,5 +1,5 @@
 -- "an int's upper four zero": instructions keep the payload of every int below 2 ^ 32; and the numbers that operations raise.
-use mathlib.Core.Path.{_≡_, refl, sym, ap, _∙_, subst}
+use mathlib.Core.Path.{_≡_, sym, ap, _∙_, subst}
 use Prim.Native.Nat.{ℕ, zero, suc, _+_, _-_, _*_, _/_, _%_, _^_, _≤_, _<_, min}
 use native.Mathlib.Omega.{arith}
 use native.Mathlib.Nat.{div-le-self, mod-le}
@@ -21,8 +21,8 @@ use Rattle.rules.specs.ModuleFile.{constants, constantAt, differs, oddConstant,
 use Rattle.rules.specs.Stack.{slot, pointerTo}
 use Rattle.rules.specs.Operations.{low, onWords, computed, zeroDivide, negated, complemented, converted, compared, bumped, Class, any, number as numbers, whole, class1, class2, refuse, Result, yields, raises, eval1, eval2, apply1, apply2}
 use Rattle.rules.specs.Claims.{RunEnd, AreBytes}
-use Rattle.soundness.specs.Tests.{decide, none-some, some-inj, eqb-is, ltb-is, or-neither, not-false, false-true}
-use Rattle.soundness.specs.Readable.{good-constant}
+use Rattle.soundness.specs.Tests.{decide, none-some, some-inj, eqb-is, ltb-is, or-neither, not-false}
+use Rattle.soundness.specs.Readable.{good-constant, constant-word}
 use Rattle.soundness.specs.Started.{All, Yielded, Closed, exception}
 
 -- an int is narrow, where B holds
@@ -160,18 +160,6 @@ lower-half (a ∷ b ∷ c ∷ d ∷ l) h e =
     let x : a < 256 = h 0 in let y : b < 256 = h 1 in let z : c < 256 = h 2 in let w : d < 256 = h 3 in
     let q : number (take 4 l) ≡ 0 = e in omega arith
 
--- the first byte of a word below 256 is the word
-first-byte : (l : List ℕ) → number (take 4 l) < 256 → getD l 0 0 ≡ number (take 4 l)
-first-byte [] h = refl
-first-byte (a ∷ l) h = omega arith
-
-small-type : (t u : ℕ) → oddConstant t u ≡ false → t < 256
-small-type t u e =
-    let x : (differs t 3 && differs t 4 && differs t 6) ≡ false = or-neither (eqb t 3 && differs u 0) (differs t 3 && differs t 4 && differs t 6) e .1 in
-    decide (eqb t 3) (λ a. let q : t ≡ 3 = eqb-is t 3 a in omega arith)
-    (λ a. decide (eqb t 4) (λ b. let q : t ≡ 4 = eqb-is t 4 b in omega arith)
-    (λ b. decide (eqb t 6) (λ c. let q : t ≡ 6 = eqb-is t 6 c in omega arith) (λ c. false-true (sym (rw (a, b, c) at x)))))
-
 upper-zero : (t u : ℕ) → oddConstant t u ≡ false → t ≡ 3 → u ≡ 0
 upper-zero t u e q =
     let x : (eqb t 3 && differs u 0) ≡ false = or-neither (eqb t 3 && differs u 0) (differs t 3 && differs t 4 && differs t 6) e .0 in
@@ -188,10 +176,7 @@ module _ (s : List ℕ) (e : refusal s ≡ 0) where
       let a : ℕ = constantAt i in
       let t : ℕ = number (take 4 (drop a s)) in
       let u : ℕ = number (take 4 (drop (a + 8) s)) in
-      let f : getD (drop a s) 0 0 ≡ t = first-byte (drop a s) (small-type t u (not-odd i h)) in
-      let g : getD (drop a s) 0 0 ≡ getD s (a + 0) 0 = getD-drop a s 0 0 in
-      let z : a + 0 ≡ a = omega arith in
-      let three : t ≡ 3 = sym f ∙ g ∙ ap (λ j. getD s j 0) z ∙ k in
+      let three : t ≡ 3 = constant-word s e i h ∙ k in
       let w : a + 4 + 4 ≡ a + 8 = omega arith in
       lower-half (drop (a + 4) s) (λ j. subst (λ x. x < 256) (sym (getD-drop (a + 4) s j 0)) (B (a + 4 + j)))
       (ap (λ l. number (take 4 l)) (drop-drop 4 (a + 4) s ∙ ap (λ j. drop j s) w) ∙ upper-zero t u (not-odd i h) three)

@@ -11,14 +11,15 @@ use lib.Dec.{leb, ltb, eqb}
 use Rattle.soundness.specs.Names.{Num, Slot, Unary, Binary, Condition, Instruction, push, load, store, lea, one, two, tload, tstore, bump, jmp, branch, call, ret}
 use Rattle.rules.specs.Bytes.{maybe}
 use Rattle.rules.specs.Instructions.{Ty, numKind, size}
-use Rattle.rules.specs.ModuleFile.{Body, entry, fn, eqBody, Function, Module}
+use Rattle.rules.specs.ModuleFile.{Body, entry, fn, Function, Module}
 use Rattle.rules.specs.Stack.{slot, pointerTo, at, put, under}
 use Rattle.rules.specs.Operations.{Result, yields, raises, apply1, apply2, bumped, holds, low}
 use Rattle.rules.specs.Machine.{Frame, Memory, State, goto, bind, argumentSlots, opened, own, owned, Next, goes, stops, finishes, becomes, pushing, resulting, take1, take2, deref, write, bumping, testing, kindsMatch, calling, leaving, returning, exec, execIn, step, advance, atEnd, endNumber, run, Outcome, outcome}
 use Rattle.rules.specs.Typing.{startOf, endOf}
 use Rattle.rules.specs.Demand3.{Moment, first, next}
 use Rattle.rules.specs.Claims.{RunEnd, finished, used-up, raised, aboveLocals}
-use Rattle.soundness.specs.Tests.{decide, none-some, some-inj, eqb-is, eqb-isnt, leb-is, leb-isnt, ltb-is, false-true, and-both}
+use Rattle.soundness.specs.Tests.{decide, none-some, some-inj, eqb-is, eqb-isnt, leb-is, leb-isnt, ltb-is, and-both}
+use Rattle.soundness.specs.Invariant.{owned-is}
 use Rattle.soundness.specs.Slots.{at-cons, at-lt, length-put, length-under-is, under-cons}
 use Rattle.soundness.specs.Readable.{Orderly}
 
@@ -124,12 +125,6 @@ goto-fit m f q F h =
     floor-same [] e = e
     floor-same (x ∷ ls) e = e
 
-eqBody-is : (a b : Body) → eqBody a b ≡ true → a ≡ b
-eqBody-is entry entry e = refl
-eqBody-is entry (fn k) e = false-true e
-eqBody-is (fn j) entry e = false-true e
-eqBody-is (fn j) (fn k) e = ap fn (eqb-is j k e)
-
 -- ---- one instruction of the frame f, which is already at the place after it
 
 module _ (m : Module) (O : Orderly m) (P : Slot → Type 0) (C : Closed m P) (cap : ℕ) (M : Memory) (f : Frame) (cs : List Frame)
@@ -200,15 +195,7 @@ module _ (m : Module) (O : Orderly m) (P : Slot → Type 0) (C : Closed m P) (ca
 
   -- labels of this body
   own-label : (l q : ℕ) → owned (f .body) (m .label l) ≡ some q → m .isPlace (f .body) q ≡ true
-  own-label l q e = go (m .label l) refl e
-    where
-      go : (o : Option (Body × ℕ)) → m .label l ≡ o → owned (f .body) o ≡ some q → m .isPlace (f .body) q ≡ true
-      go none h k = none-some k
-      go (some x) h k =
-          decide (eqBody (x .0) (f .body))
-          (λ y. subst (λ b. m .isPlace b q ≡ true) (eqBody-is (x .0) (f .body) y)
-          (subst (λ p. m .isPlace (x .0) p ≡ true) (some-inj (x .1) q (rw y at k)) (O .lands l (x .0) (x .1) h)))
-          (λ y. none-some (rw y at k))
+  own-label l q e = O .lands l (f .body) q (owned-is (f .body) (m .label l) q e)
 
   fit-testing : (c : Condition) (q : ℕ) (v : Slot) (st : List Slot) → m .isPlace (f .body) q ≡ true → Stacked st → Ok (testing M c q v st f cs)
   fit-testing c q v st p h =
