@@ -1,0 +1,43 @@
+-- The answer of a family of instructions, and what its parts ensure.
+use mathlib.Core.Path.{_≡_}
+use Prim.Native.Nat.{ℕ, suc}
+use mathlib.Core.List.{List, [], _∷_}
+use Rattle.rules.specs.declared.Instruction.{Instruction}
+use Rattle.rules.specs.Bytes.{byte}
+use Rattle.rules.specs.Instructions.{tyOf}
+use Rattle.rules.specs.ModuleFile.{Body, Module, paramsFrom}
+use Rattle.rules.specs.Operations.{Class, any, number, whole}
+use Rattle.rules.specs.Typing.{Flow, lists, judge}
+use Rattle.records.specs.Record.{listsOf, Holds, Judged}
+use Rattle.records.specs.declared.Transfer.{Transfer}
+
+-- the flow of an instruction before the place q, from the lists of a record
+abbrev pub judged : Module → Body → Instruction → ℕ → List ℕ → Flow
+judged m b i q r = judge m b i q (listsOf r .locals) (listsOf r .operands)
+
+-- the answer a, and the record r′ after it, are that flow, in every body
+abbrev pub Answers : Instruction → ℕ → List ℕ → Transfer → List ℕ → Type 0
+Answers i q r a r′ = (m : Module) (b : Body) → Judged m b q (judged m b i q r) a r′
+
+-- r′ is r with t as the type of its top operand
+pub record Retyped (r : List ℕ) (t : ℕ) (r′ : List ℕ) : Type 0 where
+  pub holds : Holds r′
+  pub shows : (n : ℕ) → byte r 2 ≡ suc n → listsOf r′ ≡ lists (listsOf r .locals) (tyOf t ∷ paramsFrom r 32 n)
+
+-- r′ is r without its operands
+pub record Emptied (r r′ : List ℕ) : Type 0 where
+  pub holds : Holds r′
+  pub count : byte r′ 1 ≡ byte r 1
+  pub shows : listsOf r′ ≡ lists (listsOf r .locals) []
+
+-- r′ is r with a local of type t more, and without its operands
+pub record Bound (r : List ℕ) (t : ℕ) (r′ : List ℕ) : Type 0 where
+  pub holds : Holds r′
+  pub shows : listsOf r′ ≡ lists (tyOf t ∷ listsOf r .locals) []
+
+-- The type bytes are in the order of the classes: 3 and 4 are whole, then the number 6, then the pointers. So the greatest
+-- byte says which a class takes.
+abbrev pub greatest : Class → ℕ
+greatest any = 134
+greatest number = 6
+greatest whole = 4
