@@ -6,6 +6,9 @@ use std::time::Duration;
 static SEED: AtomicU64 = AtomicU64::new(0);
 static CASE: AtomicU64 = AtomicU64::new(0);
 
+/// Set in the number of a stated check.
+pub const STATED: u64 = 1 << 63;
+
 /// Seconds after which a case counts as hanging.
 const PATIENCE: u64 = 30;
 
@@ -53,6 +56,10 @@ fn watch() {
 
 fn report(what: &str) {
     let (seed, case) = (SEED.load(Ordering::Relaxed), CASE.load(Ordering::Relaxed));
+    if case & STATED != 0 {
+        println!("DIFFERENCE: {what} in stated check {}", case & !STATED);
+        return;
+    }
     println!("DIFFERENCE: {what} in case {case} of seed {seed}");
     println!("again: --seed {seed} --from {case} --cases 1");
     println!("the module: show --seed {seed} --case {case}");

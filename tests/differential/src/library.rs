@@ -1,6 +1,7 @@
 //! The library under test, through its C interface.
 
 use second::memory::{CheckMemory, Lent, RunMemory};
+use second::reader::ENTRY;
 use second::subject::Subject;
 
 extern "C" {
@@ -78,5 +79,31 @@ impl Subject for Library {
                 &raw mut memory.height,
             )
         }
+    }
+}
+
+/// The answer of a run of a module's entry on a few slots.
+pub fn run_entry(module: *const u8, len: usize) -> u32 {
+    let (mut steps, mut height) = (0, 0);
+    let (mut payloads, mut types) = ([0; 64], [0; 8]);
+    let none = std::ptr::null();
+    // SAFETY: pointers and lengths are those of separate live buffers.
+    unsafe {
+        limpetskein_run(
+            module,
+            len,
+            ENTRY,
+            none,
+            0,
+            none,
+            0,
+            9,
+            payloads.as_mut_ptr(),
+            payloads.len(),
+            types.as_mut_ptr(),
+            types.len(),
+            &raw mut steps,
+            &raw mut height,
+        )
     }
 }

@@ -6,62 +6,28 @@
 mod guard;
 mod huge;
 mod library;
+mod rounds;
 
-use library::Library;
-use second::args;
+use library::{limpetskein_check, Library};
 use second::compare::compare;
 use second::gen::case::Case;
-use second::hex;
 use second::rules::Rules;
 use second::subject::Second;
-use std::time::{Duration, Instant};
 
 fn main() {
-    args::expect(&["--seed", "--cases", "--seconds", "--from", "--most"]);
-    let seed = args::number("--seed", 1);
-    let from = args::number("--from", 0);
-    let cases = args::value("--cases").map(|_| args::number("--cases", 0));
-    let seconds = args::number("--seconds", 60);
-    let most = args::number("--most", 5);
-    guard::start(seed);
-    let start = Instant::now();
-    let (mut number, mut calls, mut differences) = (from, 0, u64::from(huge::differs()));
-    loop {
-        let done = match cases {
-            Some(cases) => number - from >= cases,
-            None => start.elapsed() >= Duration::from_secs(seconds),
-        };
-        if done || differences >= most {
-            break;
-        }
-        guard::next(number);
-        let case = Case::new(seed, number);
-        calls += 1 + case.runs.len();
-        differences += u64::from(differs(seed, number, &case));
-        number += 1;
-    }
-    println!(
-        "library: {} cases from seed {seed}, {calls} calls, {differences} differences",
-        number - from
-    );
-    if differences > 0 {
-        std::process::exit(1);
-    }
+    rounds::start();
+    let check = huge::differs("check", |module, len| {
+        let mut body = 0;
+        // SAFETY: the module's pointer and length are those of a live buffer.
+        unsafe { limpetskein_check(module, len, std::ptr::null_mut(), 0, &raw mut body) }
+    });
+    let run = huge::differs("run", library::run_entry);
+    let before = u64::from(check) + u64::from(run);
+    rounds::run("library", before, Case::new, differs);
 }
 
-/// Compares; a difference is printed with all that it takes to see it again.
-fn differs(seed: u64, number: u64, case: &Case) -> bool {
-    let null_if_empty = number % 2 == 1;
+fn differs(case: &Case, null_if_empty: bool) -> (usize, Option<String>) {
     let mut library = Library { null_if_empty };
-    let Some(difference) = compare(case, &mut Second(Rules::PLAIN), &mut library) else {
-        return false;
-    };
-    println!(
-        "DIFFERENCE in case {number} of seed {seed} ({}), second program and library:",
-        case.kind
-    );
-    println!("  {difference}");
-    println!("  module: {}", hex::encode(&case.module));
-    println!("  again: --seed {seed} --from {number} --cases 1");
-    true
+    let difference = compare(case, &mut Second(Rules::PLAIN), &mut library);
+    (1 + case.runs.len(), difference)
 }

@@ -14,7 +14,8 @@ pub fn compare(case: &Case, a: &mut dyn Subject, b: &mut dyn Subject) -> Option<
     })
 }
 
-fn compare_checks(case: &Case, a: &mut dyn Subject, b: &mut dyn Subject) -> Option<String> {
+/// What differs in the check alone.
+pub fn compare_checks(case: &Case, a: &mut dyn Subject, b: &mut dyn Subject) -> Option<String> {
     let mut memory_a = case.check_memory();
     let mut memory_b = memory_a.clone();
     let (answer_a, answer_b) = (a.check(&mut memory_a), b.check(&mut memory_b));
@@ -66,7 +67,8 @@ fn quoted(bytes: &[u8]) -> String {
     format!("\"{}\"", hex::encode(bytes))
 }
 
-fn check_difference(a: &CheckMemory, b: &CheckMemory) -> String {
+/// How what was lent to two checks differs, in words.
+pub fn check_difference(a: &CheckMemory, b: &CheckMemory) -> String {
     let mut text = String::new();
     if a.body != b.body {
         text += &format!("; body {:08X} and {:08X}", a.body, b.body);

@@ -7,7 +7,8 @@
 //!   `step`, `integer`, `double`, `convert`), `show` for the small program's output.
 //! * `rules`: the deliberately wrong variants that test the tests.
 //! * The tools: `program` and `asm` write modules, `gen` makes cases, `memory`, `subject` and
-//!   `compare` run two programs side by side, `coverage` counts what the cases reach.
+//!   `compare` run two programs side by side, `coverage` counts what the cases reach,
+//!   `stated` has checks with their answers written out.
 
 #![forbid(unsafe_code)]
 
@@ -33,6 +34,7 @@ pub mod rules;
 pub mod run;
 pub mod samples;
 pub mod show;
+pub mod stated;
 pub mod step;
 pub mod subject;
 pub mod types;

@@ -368,7 +368,7 @@ pub const NUMBERS: [Sample; 10] = [
 ];
 
 /// Limits, ends of runs, typings.
-pub const LIMITS: [Sample; 17] = [
+pub const LIMITS: [Sample; 27] = [
     text("empty", "48 bytes are a module: nothing in it, accepted, ends at once", "entry:"),
     text(
         "operands-32",
@@ -469,10 +469,62 @@ pub const LIMITS: [Sample; 17] = [
         "a callee that never returns uses up the allowance; the pointer argument shows its slot",
         "int 1; entry: push 0; store 0; lea 0; call 0; function void (*int): @0; load 0; inc; jmp 0",
     ),
+    text(
+        "shared-place",
+        "two labels on one place, the second jumped to",
+        "int 0; entry: push 0; je 1; push 0; pop; @0; @1; push 0",
+    ),
+    text(
+        "unreached-label",
+        "a label that nothing leads to, on an instruction that would have no typing",
+        "int 1; entry: jmp 1; @0; add; @1; push 0",
+    ),
+    text(
+        "label-at-start",
+        "a function's start is jumped back to with the parameters and no operands",
+        "int 3; int 1; entry: push 0; call 0
+         function int (int): @0; load 0; push 1; sub; store 0; load 0; jne 0; load 0; ret",
+    ),
+    text(
+        "start-with-operand",
+        "a function's start is jumped back to with an operand: no typing, 11",
+        "int 3; entry: push 0; call 0; function int (int): @0; load 0; jmp 0",
+    ),
+    text(
+        "empty-entry",
+        "an empty entry; a label of function 0 at place 0",
+        "entry: function int (int): @0; load 0; ret",
+    ),
+    text(
+        "entry-end",
+        "the entry ends where function 0 starts with a label and other lists: accepted",
+        "int 1; entry: push 0; function void (long): @0; ret",
+    ),
+    text(
+        "join-agrees",
+        "a label reached twice with equal lists",
+        "int 0; long 5; entry: push 0; je 0; push 1; jmp 1; @0; push 1; @1; neg",
+    ),
+    text(
+        "backward-chain",
+        "jumps back from label to label",
+        "int 1; entry: push 0; jmp 2; @0; pop; jmp 3; @1; neg; jmp 0; @2; copy; pop; jmp 1
+         @3; push 0",
+    ),
+    text(
+        "arguments-reversed",
+        "arguments in the wrong order have no typing, 11",
+        "int 1; long 2; entry: push 1; push 0; call 0; function void (int, long): ret",
+    ),
+    text(
+        "bad-bodies",
+        "two functions without typing, after an entry with one: 11",
+        "entry: call 0; function void (): pop; ret; function void (): @0; pop; jmp 0",
+    ),
 ];
 
 /// Files that can't be read.
-pub const REFUSED: [Sample; 11] = [
+pub const REFUSED: [Sample; 12] = [
     Sample {
         name: "refused-1",
         shows: "under 48 bytes",
@@ -508,6 +560,11 @@ pub const REFUSED: [Sample; 11] = [
         name: "refused-9",
         shows: "a label on its body's end",
         source: Source::Text("int 1; entry: push 0; @0"),
+    },
+    Sample {
+        name: "refused-9-empty-entry",
+        shows: "a label of the empty entry at place 0, where function 0 starts",
+        source: Source::Patched("entry: function void (): @0; ret", 68, &[0xFF; 4]),
     },
     Sample {
         name: "refused-7-first",

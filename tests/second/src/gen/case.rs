@@ -1,7 +1,7 @@
 //! A case: one module, one check of it, some runs.
 
 use super::rng::Rng;
-use super::{calls, damage, expression, limits, loose, mixed, near, pointers, typed};
+use super::{calls, damage, expression, flow, limits, loose, mixed, near, pointers, typed};
 use crate::check::RECORD;
 use crate::memory::{CheckMemory, Lent, RunMemory};
 use crate::program::Program;
@@ -55,6 +55,20 @@ impl Case {
         }
     }
 
+    /// The same module and room, and no runs.
+    pub fn without_runs(seed: u64, number: u64) -> Case {
+        let mut rng = Rng::for_case(seed, number);
+        let (kind, module) = module(&mut rng);
+        let room = room(&mut rng, &module);
+        Case {
+            kind,
+            module,
+            room,
+            runs: Vec::new(),
+            shift: number as usize % 8,
+        }
+    }
+
     pub fn check_memory(&self) -> CheckMemory {
         CheckMemory {
             module: Lent::new(&self.module, self.shift),
@@ -79,7 +93,8 @@ impl Case {
 /// A module file, and the name of its generator.
 pub fn module(rng: &mut Rng) -> (&'static str, Vec<u8>) {
     match rng.below(100) {
-        0..=25 => ("typed", well_typed(rng).file()),
+        0..=21 => ("typed", well_typed(rng).file()),
+        22..=25 => ("flow", flow::program(rng).file()),
         26..=43 => {
             let mut program = well_typed(rng);
             near::change(rng, &mut program);

@@ -32,6 +32,14 @@ fn operands(rng: &mut Rng) -> Program {
         code.push((rng.pick(&[Op::Pop, Op::Copy]), 0));
     }
     if rng.percent(50) {
+        if rng.one_in(3) {
+            code.push((Op::Call, 0));
+            program.functions.push(Routine {
+                returns: INT,
+                code: instrs(&[(Op::Push, 0), (Op::Ret, 0)]),
+                ..Routine::default()
+            });
+        }
         program.entry = instrs(&code);
         let index = rng.below(code.len());
         program.labels.push(Mark {

@@ -6,6 +6,7 @@ pub mod case;
 pub mod constants;
 pub mod damage;
 pub mod expression;
+pub mod flow;
 pub mod limits;
 pub mod loose;
 pub mod mixed;

@@ -1,0 +1,13 @@
+pub mod Copies
+pub mod Growth
+pub mod Arrivals
+pub mod Turns
+pub mod Walking
+pub mod Draining
+pub mod Numbering
+pub mod Bounds
+pub mod Seeds
+pub mod Covering
+pub mod Starting
+pub mod Verdicts
+pub mod Shown

@@ -1,0 +1,92 @@
+use Rattle.checker.proofs.Turns.{still-working}
+use Rattle.checker.proofs.Starting.{start-standing, begin-breaks, begin-ends, begin-goes}
+use borrow.Author.Needs.{needs}
+use Rattle.checker.proofs.bodies.begin.Statement.{statement}
+use Rattle.checker.proofs.bodies.begin.Tie as tie
+use Rattle.checker.proofs.bodies.begin.Reads as reads
+use Rattle.checker.proofs.bodies.begin.Lts as lts
+use Rattle.checker.proofs.bodies.body_start.Reads as body-start-reads
+use Rattle.checker.proofs.walk.body_end.Reads as body-end-reads
+use Rattle.checker.proofs.walk.land.Reads as land-reads
+use Rattle.checker.proofs.walk.walk.Reads as walk-reads
+
+body-end-requires : tie.Need-body-end-requires
+body-end-requires c κs = search needs
+
+body-start-requires : tie.Need-body-start-requires
+body-start-requires c κs = search needs
+
+land-requires : tie.Need-land-requires
+land-requires c κs = ((c .before .before .before .before .before .before .before .before .before .before .pre) .0, (start-standing _ ((c .before .before .before .before .before .before .before .before .before .before .pre) .0 .readable) _ _ _ ((c .before .before .before .before .before .before .before .before .before .before .pre) .1) ((c .before .before .before .body-start) .ensures), (c .before .before .before .before .body-end) .ensures))
+
+enum-told : tie.Need-enum-told
+enum-told c = search needs
+
+enum-told-2 : tie.Need-enum-told-2
+enum-told-2 c = search needs
+
+enum-known-turn : tie.Need-enum-known-turn
+enum-known-turn c = search needs
+
+walk-requires : tie.Need-walk-requires
+walk-requires c κs = let t = rw ((c .before .before .before .before .turn) .given .1) at ((c .before .before .before .before .before .before .before .before .before .before .land) .ensures) in (still-working _ _ _ _ _ _ _ _ ((c .before .before .before .before .before .before .before .before .before .before .before .before .before .before .before .before .before .before .before .before .before .pre) .0) (t .grows) (t .sound), record { holds = (c .before .before .before .before .before .before .before .before .before .before .before .before .before .before .before .before .before .before .before .before .before .pre) .1 .holds; stands = t .turn .1 })
+
+same-length : tie.Need-same-length
+same-length c = search needs
+
+same-length-2 : tie.Need-same-length-2
+same-length-2 c = search needs
+
+same-length-3 : tie.Need-same-length-3
+same-length-3 c = search needs
+
+returns : tie.Need-returns
+returns c = begin-breaks _ _ _ _ _ ((c .before .before .before .before .before .before .before .before .before .before .before .before .before .before .before .before .before .pre) .1) ((c .before .before .before .before .before .before .before .before .before .before .body-start) .ensures) _ _ _ _ (rw ((c .enum-told) .given .1) at ((c .before .before .before .before .before .before .land) .ensures))
+
+same-length-4 : tie.Need-same-length-4
+same-length-4 c = search needs
+
+same-length-5 : tie.Need-same-length-5
+same-length-5 c = search needs
+
+same-length-6 : tie.Need-same-length-6
+same-length-6 c = search needs
+
+returns-2 : tie.Need-returns-2
+returns-2 c = begin-ends _ _ _ _ _ ((c .before .before .before .before .before .before .before .before .before .before .before .before .before .before .before .before .before .pre) .1) ((c .before .before .before .before .before .before .before .before .before .before .body-start) .ensures) _ _ _ _ (rw ((c .enum-told2) .given .1) at ((c .before .before .before .before .before .before .land) .ensures))
+
+same-length-7 : tie.Need-same-length-7
+same-length-7 c = search needs
+
+same-length-8 : tie.Need-same-length-8
+same-length-8 c = search needs
+
+same-length-9 : tie.Need-same-length-9
+same-length-9 c = search needs
+
+returns-3 : tie.Need-returns-3
+returns-3 c = begin-goes _ _ _ _ _ ((c .before .before .before .before .before .before .before .before .before .before .before .before .before .before .before .before .before .before .before .before .before .before .before .before .before .before .before .before .pre) .1) ((c .before .before .before .before .before .before .before .before .before .before .before .before .before .before .before .before .before .before .before .before .before .body-start) .ensures) _ _ _ _ _ (rw ((c .before .before .before .before .before .before .before .before .before .before .before .turn) .given .1) at ((c .before .before .before .before .before .before .before .before .before .before .before .before .before .before .before .before .before .land) .ensures)) _ _ _ ((c .before .before .before .before .before .before .walk) .ensures)
+
+pub begin-spec : {M : Type 1} → statement M
+begin-spec =
+    tie.close
+    (tie.spec
+    body-end-requires
+    body-start-requires
+    land-requires
+    enum-told
+    enum-told-2
+    enum-known-turn
+    walk-requires
+    same-length
+    same-length-2
+    same-length-3
+    returns
+    same-length-4
+    same-length-5
+    same-length-6
+    returns-2
+    same-length-7
+    same-length-8
+    same-length-9
+    returns-3)

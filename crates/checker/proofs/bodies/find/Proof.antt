@@ -1,0 +1,50 @@
+use Rattle.checker.specs.Work.{markOf}
+use mathlib.Core.Path.{_≡_}
+use Prim.Native.Nat.{ℕ, _≤_, _<_, _-_}
+use borrow.Author.Count.{below-more}
+use borrow.Author.Needs.{needs}
+use Rattle.checker.proofs.bodies.find.Statement.{statement}
+use Rattle.checker.proofs.bodies.find.Tie as tie
+use Rattle.checker.proofs.bodies.find.Reads as reads
+use Rattle.checker.proofs.bodies.find.Lts as lts
+
+abbrev Inv-loop : tie.InvT-loop
+Inv-loop marks n i₀ i = (i ≤ n) × ((k : ℕ) → k < i → markOf marks k ≡ 1 → ⊥)
+
+abbrev μ-loop : tie.MeasureT-loop
+μ-loop marks n i₀ i = n - i
+
+loop-holds : tie.Need-loop-holds Inv-loop μ-loop
+loop-holds c = search needs
+
+shared-slice-read-if1 : tie.Need-shared-slice-read-if1 Inv-loop μ-loop
+shared-slice-read-if1 c = search needs
+
+returns : tie.Need-returns Inv-loop μ-loop
+returns c = search needs
+
+add-i : tie.Need-add-i Inv-loop μ-loop
+add-i c = search needs
+
+loop-less : tie.Need-loop-less Inv-loop μ-loop
+loop-less c = search needs
+
+loop-again : tie.Need-loop-again Inv-loop μ-loop
+loop-again c = (search needs, below-more _ _ ((c .before .before .before .loop) .inv .1) ((c .if1) .left))
+
+returns-2 : tie.Need-returns-2 Inv-loop μ-loop
+returns-2 c = search needs
+
+pub find-spec : {M : Type 1} → statement M
+find-spec =
+    tie.close
+    (tie.spec
+    Inv-loop
+    μ-loop
+    loop-holds
+    shared-slice-read-if1
+    returns
+    add-i
+    loop-less
+    loop-again
+    returns-2)

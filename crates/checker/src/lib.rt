@@ -1,0 +1,107 @@
+// The checker: whether every body of a module has a consistent typing, and what it gives at the labels.
+mod bodies;
+mod finish;
+mod nodes;
+mod room;
+mod walk;
+
+ghost use mathlib.Core.Path.{_≡_};
+ghost use Prim.Native.Nat.{_*_, _≤_, _<_};
+ghost use lib.ListN.{length};
+ghost use Rattle.rules.specs.ModuleFile.{refusal};
+ghost use Rattle.format.specs.Layout.{Packed};
+ghost use Rattle.reader.specs.Cut.{Blank};
+ghost use Rattle.checker.specs.Work.{CheckIs};
+use crate::bodies::Verdict;
+use format::Sections;
+use reader::Opened;
+use rules::CheckAnswer;
+
+const ROOM_TOO_SHORT: u32 = 10;
+
+// With a blank table for the places; only labels need it.
+fn check_with(file: &[u8], c: Sections, table: &mut [u16], room: &mut [u8]) -> CheckAnswer
+    requires { ⌜ Packed (now file) c × (refusal (now file) ≡ 0) × (64 * c .labels ≤ length (now room)) ⌝ }
+    requires { ⌜ (0 < c .labels → c .extent < length (now table)) × Blank (now table) ⌝ }
+    ensures { λ r. ⌜ CheckIs (now (file .entry)) (now (room .entry)) r (now (room .exit)) ⌝ }
+{
+    nodes::fill(file, c, table);
+    let mut marks = [0u8; 256];
+    let mut st = [0u8; 64];
+    let verdict = bodies::bodies(file, c, table, room, &mut marks, &mut st);
+    match verdict {
+        Verdict::Typed => {
+            finish::finish(file, c, table, room, &marks, &mut st);
+            CheckAnswer::Accepted
+        }
+        Verdict::Untyped(owner) => {
+            room::zero(room, 0, 64 * c.labels);
+            CheckAnswer::Untyped(owner as u32)
+        }
+    }
+}
+
+// No labels: no place is looked up.
+fn without_table(file: &[u8], c: Sections, room: &mut [u8]) -> CheckAnswer
+    requires { ⌜ Packed (now file) c × (refusal (now file) ≡ 0) × (64 * c .labels ≤ length (now room)) × (c .labels ≡ 0) ⌝ }
+    ensures { λ r. ⌜ CheckIs (now (file .entry)) (now (room .entry)) r (now (room .exit)) ⌝ }
+{
+    let mut table = [0u16; 1];
+    check_with(file, c, &mut table, room)
+}
+
+fn with_small_table(file: &[u8], c: Sections, room: &mut [u8]) -> CheckAnswer
+    requires { ⌜ Packed (now file) c × (refusal (now file) ≡ 0) × (64 * c .labels ≤ length (now room)) × (c .extent < 512) ⌝ }
+    ensures { λ r. ⌜ CheckIs (now (file .entry)) (now (room .entry)) r (now (room .exit)) ⌝ }
+{
+    let mut table = [0u16; 512];
+    check_with(file, c, &mut table, room)
+}
+
+fn with_middle_table(file: &[u8], c: Sections, room: &mut [u8]) -> CheckAnswer
+    requires { ⌜ Packed (now file) c × (refusal (now file) ≡ 0) × (64 * c .labels ≤ length (now room)) × (c .extent < 4096) ⌝ }
+    ensures { λ r. ⌜ CheckIs (now (file .entry)) (now (room .entry)) r (now (room .exit)) ⌝ }
+{
+    let mut table = [0u16; 4096];
+    check_with(file, c, &mut table, room)
+}
+
+fn with_large_table(file: &[u8], c: Sections, room: &mut [u8]) -> CheckAnswer
+    requires { ⌜ Packed (now file) c × (refusal (now file) ≡ 0) × (64 * c .labels ≤ length (now room)) ⌝ }
+    ensures { λ r. ⌜ CheckIs (now (file .entry)) (now (room .entry)) r (now (room .exit)) ⌝ }
+{
+    let mut table = [0u16; 16385];
+    check_with(file, c, &mut table, room)
+}
+
+// The check of a module that can be read, with a table no larger than the code asks.
+fn check_opened(file: &[u8], c: Sections, room: &mut [u8]) -> CheckAnswer
+    requires { ⌜ Packed (now file) c × (refusal (now file) ≡ 0) ⌝ }
+    ensures { λ r. ⌜ CheckIs (now (file .entry)) (now (room .entry)) r (now (room .exit)) ⌝ }
+{
+    if room.len() < 64 * c.labels {
+        return CheckAnswer::Refused(ROOM_TOO_SHORT);
+    }
+    if c.labels == 0 {
+        return without_table(file, c, room);
+    }
+    if c.extent < 512 {
+        return with_small_table(file, c, room);
+    }
+    if c.extent < 4096 {
+        return with_middle_table(file, c, room);
+    }
+    with_large_table(file, c, room)
+}
+
+// The check of any bytes in any room: 1 to 9 where they can't be read, 10 where the room is too short, 11 with the first body
+// without typing, or 0.
+pub fn check(file: &[u8], room: &mut [u8]) -> CheckAnswer
+    ensures { λ r. ⌜ CheckIs (now (file .entry)) (now (room .entry)) r (now (room .exit)) ⌝ }
+{
+    let opened = reader::open(file);
+    match opened {
+        Opened::Refused(n) => CheckAnswer::Refused(n),
+        Opened::Module(c) => check_opened(file, c, room),
+    }
+}

@@ -1,0 +1,72 @@
+// Records in the lent room: written, read, compared, zeroed, merged.
+ghost use mathlib.Core.Path.{_≡_};
+ghost use mathlib.Core.Bool.{true, false};
+ghost use Prim.Native.Nat.{_+_, _*_, _<_, _≤_};
+ghost use lib.ListN.{length, take, drop, replicate};
+ghost use lib.Seq.{paste};
+ghost use Rattle.checker.specs.Work.{Merged};
+
+// Writes a record at a byte of the room.
+pub(crate) fn save(room: &mut [u8], at: usize, st: &[u8])
+    requires { ⌜ (at + 64 ≤ length (now room)) × (length (now st) ≡ 64) ⌝ }
+    ensures { λ r. ⌜ now (room .exit) ≡ paste (now (room .entry)) at (now (st .entry)) 64 ⌝ }
+{
+    let mut i = 0;
+    while i < 64 {
+        room[at + i] = st[i];
+        i += 1;
+    }
+}
+
+// Reads the record at a byte of the room.
+pub(crate) fn load(room: &[u8], at: usize, st: &mut [u8])
+    requires { ⌜ (at + 64 ≤ length (now room)) × (length (now st) ≡ 64) ⌝ }
+    ensures { λ r. ⌜ now (st .exit) ≡ take 64 (drop at (now (room .entry))) ⌝ }
+{
+    let mut i = 0;
+    while i < 64 {
+        st[i] = room[at + i];
+        i += 1;
+    }
+}
+
+// Whether the record at a byte of the room is this one.
+fn is_same(room: &[u8], at: usize, st: &[u8]) -> bool
+    requires { ⌜ (at + 64 ≤ length (now room)) × (length (now st) ≡ 64) ⌝ }
+    ensures { λ r. ⌜ (r ≡ true → take 64 (drop at (now (room .entry))) ≡ now (st .entry)) ⌝ }
+    ensures { λ r. ⌜ (r ≡ false → take 64 (drop at (now (room .entry))) ≡ now (st .entry) → ⊥) ⌝ }
+{
+    let mut same = true;
+    let mut i = 0;
+    while i < 64 {
+        same = same & (room[at + i] == st[i]);
+        i += 1;
+    }
+    same
+}
+
+// Zeroes n bytes.
+pub(crate) fn zero(room: &mut [u8], at: usize, n: usize)
+    requires { ⌜ at + n ≤ length (now room) ⌝ }
+    ensures { λ r. ⌜ now (room .exit) ≡ paste (now (room .entry)) at (replicate n 0) n ⌝ }
+{
+    let mut i = 0;
+    while i < n {
+        room[at + i] = 0;
+        i += 1;
+    }
+}
+
+// A record flows to node k. The first one is kept, and the node waits for a walk; a later one must be the same.
+pub(crate) fn merge(k: usize, room: &mut [u8], marks: &mut [u8], st: &[u8]) -> bool
+    requires { ⌜ (64 * k + 64 ≤ length (now room)) × (k < length (now marks)) × (length (now st) ≡ 64) ⌝ }
+    ensures { λ r. ⌜ Merged k (now (st .entry)) (now (room .entry)) (now (marks .entry)) (now (room .exit)) (now (marks .exit)) r ⌝ }
+{
+    let mark = marks[k];
+    if mark == 0 {
+        save(room, 64 * k, st);
+        marks[k] = 1;
+        return true;
+    }
+    is_same(room, 64 * k, st)
+}

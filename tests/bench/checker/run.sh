@@ -1,0 +1,16 @@
+#!/bin/sh
+# Builds the benchmark of the checker and runs it: fails where answers differ or a ratio is over its limit.
+# With --plain first, the plain checker stands in for the proved one too.
+set -eu
+cd "$(dirname "$0")/../../.."
+bench=tests/bench/checker
+if [ "${1:-}" = --plain ]; then
+    shift
+    proved=$bench/as_proved.c
+else
+    rt staticlib checker_bench
+    proved=target/staticlib/libchecker_bench.a
+fi
+mkdir -p target/bench
+cc -O2 -Wall -Wextra -Werror -o target/bench/checker $bench/bench.c $bench/modules.c $bench/plain_checker.c tests/bench/reader/plain.c $proved
+target/bench/checker "$@"

@@ -1,0 +1,49 @@
+//! The second program gives what is stated, and the stated checks alone tell wrong checkers.
+
+use second::rules::Rules;
+use second::stated;
+use second::subject::Second;
+
+#[test]
+fn the_second_program_gives_what_is_stated() {
+    for stated in stated::all() {
+        assert_eq!(stated.difference(&mut Second(Rules::PLAIN)), None);
+    }
+}
+
+/// The wrong variants of reader and check.
+const WRONG_CHECKS: [&str; 21] = [
+    "dead-code-typed",
+    "first-typing-kept",
+    "parameters-reversed",
+    "label-on-body-end",
+    "labels-before-code",
+    "functions-one-by-one",
+    "operand-limit-forgotten",
+    "entry-end-not-judged",
+    "last-bad-body",
+    "room-kept-with-11",
+    "unreached-record-kept",
+    "buried-operands-kept",
+    "any-label",
+    "pointers-alike",
+    "lea-of-pointer-typed",
+    "function-end-given",
+    "unused-parameter-bytes",
+    "empty-section-offset",
+    "constant-type-byte",
+    "pointers-shown-as-7",
+    "room-all-zeroed",
+];
+
+#[test]
+fn wrong_checks_are_told() {
+    let all = stated::all();
+    for name in WRONG_CHECKS {
+        let mut wrong = Second(Rules::named(name).expect("a wrong variant"));
+        let told = all
+            .iter()
+            .any(|stated| stated.difference(&mut wrong).is_some());
+        assert!(told, "{name}");
+    }
+}
