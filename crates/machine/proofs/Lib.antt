@@ -1,4 +1,2 @@
 pub mod Turns
-pub mod Final
-pub mod Entry
 pub mod Steps

@@ -1,16 +1,12 @@
 -- How a run's end stands in the registers and the lent bytes.
-use Prim.Native.Nat.{ℕ, _+_, _-_, _*_, _≤_}
+use Prim.Native.Nat.{ℕ, _*_, _≤_}
 use mathlib.Core.Path.{_≡_}
 use mathlib.Core.Bool.{cond}
-use mathlib.Core.List.{List, [], _++_}
-use lib.ListN.{length, take, drop, replicate}
+use mathlib.Core.List.{List}
+use lib.ListN.{length, drop}
 use lib.Dec.{eqb}
 use Rattle.rules.specs.Machine.{Outcome, outcome}
-use Rattle.rules.specs.declared.RunAnswer.{RunAnswer}
-use Rattle.rules.specs.declared.Tally.{Tally}
-use Rattle.rules.specs.Answers.{runModule}
-use Rattle.rules.specs.Answers as Answers
-use Rattle.rules.specs.Stack.{capacity, slotsOf}
+use Rattle.rules.specs.Stack.{slotsOf}
 use Rattle.state.specs.declared.Registers.{Registers}
 use Rattle.machine.specs.declared.Ended.{Ended}
 
@@ -29,22 +25,3 @@ pub record Ran (cap : ℕ) (e : Ended) (p t p′ t′ : List ℕ) (o : Outcome) 
   pub rest-types : drop cap t′ ≡ drop cap t
   pub same-payloads : length p′ ≡ length p
   pub same-types : length t′ ≡ length t
-
--- ---- the run of the entry
-
-abbrev pub slotsIn : List ℕ → List ℕ → ℕ
-slotsIn p t = capacity (record { payloads = p; types = t })
-
--- s with zeros from a to e
-abbrev pub clearedTo : List ℕ → ℕ → ℕ → List ℕ
-clearedTo s a e = take a s ++ (replicate (e - a) 0 ++ drop e s)
-
--- steps and height at the end
-abbrev pub tallied : Ended → Tally
-tallied e = record { steps = e .steps; height = e .last .height }
-
--- the answer and the lent bytes after it are those of the rules, for the entry of the file
-abbrev pub RunIs : List ℕ → ℕ → List ℕ → List ℕ → List ℕ → List ℕ → RunAnswer → Type 0
-RunIs file allowance p t p′ t′ r =
-    _≡_ {A = Answers.Ran} (record { answer = r; stack = record { payloads = p′; types = t′ } })
-    (runModule file 0xffffffff (record { payloads = []; types = [] }) allowance (record { payloads = p; types = t }))

@@ -1,21 +1,15 @@
 // One step of the machine, and the run from any state.
 ghost use mathlib.Core.Path.{_≡_};
 ghost use mathlib.Core.Bool.{false};
-ghost use mathlib.Core.List.{_++_};
-ghost use Prim.Native.Nat.{_+_, _-_, _<_, _≤_, min};
-ghost use lib.ListN.{length, take, drop, replicate};
-ghost use Rattle.rules.specs.Answers.{answered};
+ghost use Prim.Native.Nat.{_<_};
 ghost use Rattle.rules.specs.Machine as Machine;
-ghost use Rattle.rules.specs.ModuleFile.{badFunctions, read, refusal};
+ghost use Rattle.rules.specs.ModuleFile.{badFunctions, read};
 ghost use Rattle.format.specs.Layout.{Packed};
 ghost use Rattle.state.specs.State.{stateOf, Ready, Does};
-ghost use Rattle.machine.specs.Ends.{endOf, endedAs, Ran, slotsIn, tallied, clearedTo, RunIs};
+ghost use Rattle.machine.specs.Ends.{endOf, endedAs, Ran};
 use format::Sections;
-use reader::Opened;
 use reader::decode::Decoded;
 use rules::Instruction;
-use rules::RunAnswer;
-use rules::Tally;
 use state::Progress;
 use state::Registers;
 
@@ -143,91 +137,5 @@ pub fn run_from(
                 return ending(e, steps, r);
             }
         }
-    }
-}
-
-// ---- the run of the entry
-
-fn least(a: usize, b: usize) -> usize
-    ensures { λ r. ⌜ r ≡ min a b ⌝ }
-{
-    if b < a {
-        return b;
-    }
-    a
-}
-
-// The smaller number of whole slots, at most 4,096.
-fn capacity(p: &[u8], t: &[u8]) -> usize
-    ensures { λ r. ⌜ r ≡ slotsIn (now (p .entry)) (now (t .entry)) ⌝ }
-{
-    let whole = least(p.len() / 8, t.len());
-    least(whole, 4096)
-}
-
-fn clear(s: &mut [u8])
-    ensures { λ r. ⌜ now (s .exit) ≡ replicate (length (now (s .entry))) 0 ⌝ }
-{
-    let mut i = 0;
-    while i < s.len() {
-        s[i] = 0;
-        i += 1;
-    }
-}
-
-// Zeros from a to e.
-fn clear_part(s: &mut [u8], a: usize, e: usize)
-    requires { ⌜ (a ≤ e) × (e ≤ length (now s)) ⌝ }
-    ensures { λ r. ⌜ now (s .exit) ≡ clearedTo (now (s .entry)) a e ⌝ }
-{
-    clear(&mut s[a..e]);
-}
-
-// The answer of a run that ended so.
-fn answer(e: Ended) -> RunAnswer
-    ensures { λ r. ⌜ r ≡ answered (e .number) (tallied e) ⌝ }
-{
-    let tally = Tally {
-        steps: e.steps,
-        height: e.last.height as u64,
-    };
-    if e.number == 0 {
-        return RunAnswer::Finished(tally);
-    }
-    RunAnswer::Stopped(e.number, tally)
-}
-
-// The run of the entry of a module that can be read.
-fn run_opened(file: &[u8], c: Sections, allowance: u64, p: &mut [u8], t: &mut [u8]) -> RunAnswer
-    requires { ⌜ Packed (now file) c × (badFunctions (now file) ≡ false) × (refusal (now file) ≡ 0) ⌝ }
-    ensures { λ r. ⌜ RunIs (now (file .entry)) allowance (now (p .entry)) (now (t .entry)) (now (p .exit)) (now (t .exit)) r ⌝ }
-{
-    let cap = capacity(p, t);
-    let mut f = [0u16; 1536];
-    let first = Registers {
-        place: 0,
-        stop: c.entry,
-        body: 65535,
-        base: 0,
-        floor: 0,
-        locals: 0,
-        depth: 0,
-        height: 0,
-    };
-    let e = run_from(file, c, cap, first, allowance, p, t, &mut f);
-    let h = e.last.height;
-    clear_part(p, h * 8, cap * 8);
-    clear_part(t, h, cap);
-    answer(e)
-}
-
-// The run of the entry of any bytes.
-pub fn run_entry(file: &[u8], allowance: u64, p: &mut [u8], t: &mut [u8]) -> RunAnswer
-    ensures { λ r. ⌜ RunIs (now (file .entry)) allowance (now (p .entry)) (now (t .entry)) (now (p .exit)) (now (t .exit)) r ⌝ }
-{
-    let opened = reader::open(file);
-    match opened {
-        Opened::Refused(n) => RunAnswer::Rejected(n),
-        Opened::Module(c) => run_opened(file, c, allowance, p, t),
     }
 }

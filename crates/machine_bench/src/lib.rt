@@ -10,7 +10,7 @@ pub extern "C" fn machine_run_entry(
     steps: &mut u64,
     height: &mut u64,
 ) -> u32 {
-    let answer = machine::run_entry(file, allowance, payloads, types);
+    let answer = runs::run_entry(file, allowance, payloads, types);
     match answer {
         RunAnswer::Rejected(n) => n,
         RunAnswer::Stopped(n, tally) => {

@@ -1,3 +1,4 @@
+-- The proof of `runs::clear`.
 use Prim.Native.Nat.{ℕ, _-_, _≤_}
 use native.Mathlib.Omega.{arith}
 use mathlib.Core.Path.{_≡_, refl, ap, _∙_}
@@ -5,10 +6,8 @@ use mathlib.Core.List.{List, _++_, append-nil}
 use lib.ListN.{length, drop, set, replicate, length-set}
 use lib.Seq.{drop-length}
 use borrow.Author.Fill.{fill-more}
-use Rattle.machine.proofs.clear.Statement.{statement}
-use Rattle.machine.proofs.clear.Tie as tie
-use Rattle.machine.proofs.clear.Reads as reads
-use Rattle.machine.proofs.clear.Lts as lts
+use Rattle.runs.proofs.clear.Statement.{statement}
+use Rattle.runs.proofs.clear.Tie as tie
 
 abbrev Inv-loop : tie.InvT-loop
 Inv-loop s₀ i₀ s i = (i ≤ length s₀) × (s ≡ replicate i 0 ++ drop i s₀) × (length s ≡ length s₀)

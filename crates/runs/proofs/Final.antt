@@ -1,0 +1,116 @@
+-- The bytes that a run leaves: those of the slots that it holds, zeros up to the capacity, and the untouched rest.
+use Prim.Native.Nat.{ℕ, zero, suc, _+_, _*_, _-_, _/_, _%_, _≤_, _<_}
+use native.Mathlib.Omega.{arith}
+use mathlib.Core.Path.{_≡_, refl, sym, ap, _∙_}
+use mathlib.Core.List.{List, [], _∷_, _++_}
+use lib.ListN.{length, take, drop, getD, replicate, length-drop}
+use lib.Seq.{take-add, getD-drop, length-take-le, take-suc, drop-drop}
+use Rattle.rules.specs.declared.RunAnswer.{RunAnswer}
+use Rattle.rules.specs.declared.RunAnswer.the-variants.{Stopped, Finished}
+use Rattle.rules.specs.Bytes.{number, bytes, word}
+use Rattle.rules.specs.Stack.{slotAt, slotsOf, payloadBytes, typeBytes, payloadsAfter, typesAfter}
+use Rattle.rules.specs.Machine.{Outcome, outcome}
+use Rattle.rules.specs.Answers.{answered, ran}
+use Rattle.state.proofs.Stack.{length-slots}
+use Rattle.runs.specs.Runs.{lentOf, slotsIn, clearedTo, Leaves}
+
+bytes-number : (xs : List ℕ) → ((i : ℕ) → getD xs i 0 < 256) → bytes (length xs) (number xs) ≡ xs
+bytes-number [] h = refl
+bytes-number (b ∷ bs) h =
+    let hb : b < 256 = h 0 in
+    let q : (b + 256 * number bs) / 256 ≡ number bs = omega arith in
+    let m : (b + 256 * number bs) % 256 ≡ b = omega arith in
+    rw (q, m) (ap (λ (l : List ℕ). b ∷ l) (bytes-number bs (λ i. h (suc i))))
+
+module _ (p t : List ℕ) (small : (i : ℕ) → getD p i 0 < 256) where
+  eight : (i : ℕ) → i + 8 ≤ length p → bytes 8 (word 8 p i) ≡ take 8 (drop i p)
+  unfolding word
+  eight i h =
+      let l : length (take 8 (drop i p)) ≡ 8 = length-take-le 8 (drop i p) (simp length-drop (omega arith)) in
+      sym (ap (λ (n : ℕ). bytes n (number (take 8 (drop i p)))) l) ∙ bytes-number (take 8 (drop i p)) within
+    where
+      taken : (n i : ℕ) (l : List ℕ) → ((j : ℕ) → getD l j 0 < 256) → getD (take n l) i 0 < 256
+      taken zero i l q = omega arith
+      taken (suc n) i [] q = omega arith
+      taken (suc n) zero (x ∷ l) q = q 0
+      taken (suc n) (suc i) (x ∷ l) q = taken n i l (λ j. q (suc j))
+
+      within : (j : ℕ) → getD (take 8 (drop i p)) j 0 < 256
+      within j = taken 8 j (drop i p) (λ k. rw (getD-drop i p k 0) (small (i + k)))
+
+  -- the memory's first bytes are those of its slots
+  payloads-held : (n : ℕ) → n * 8 ≤ length p → take (n * 8) p ≡ payloadBytes (slotsOf p t n)
+  unfolding slotsOf payloadBytes slotAt
+  payloads-held zero h = refl
+  payloads-held (suc n) h =
+      let e : suc n * 8 ≡ n * 8 + 8 = omega arith in
+      rw (e, take-add (n * 8) 8 p) (rw (payloads-held n (omega arith), eight (n * 8) (omega arith)) refl)
+
+  types-held : (n : ℕ) → n ≤ length t → take n t ≡ typeBytes (slotsOf p t n)
+  unfolding slotsOf slotAt typeBytes
+  types-held zero h = refl
+  types-held (suc n) h = take-suc t n 0 h ∙ ap (λ (l : List ℕ). l ++ (getD t n 0 ∷ [])) (types-held n (omega arith))
+
+  -- after the slots from the height h to the capacity are cleared, the bytes are the definition's
+  payloads-after : (cap h : ℕ) → h ≤ cap → cap * 8 ≤ length p → clearedTo p (h * 8) (cap * 8) ≡ payloadsAfter cap (slotsOf p t h) p
+  unfolding payloadsAfter
+  payloads-after cap h l k = let d : cap * 8 - h * 8 ≡ (cap - h) * 8 = omega arith in rw (d, payloads-held h (omega arith), length-slots p t h) refl
+
+  types-after : (cap h : ℕ) → h ≤ cap → cap ≤ length t → clearedTo t h cap ≡ typesAfter cap (slotsOf p t h) t
+  unfolding typesAfter
+  types-after cap h l k = rw (types-held h (omega arith), length-slots p t h) refl
+
+-- ---- capacity
+
+module _ (p t : List ℕ) where
+  pub capacity-payloads : slotsIn p t * 8 ≤ length p
+  capacity-payloads = omega arith
+
+  pub capacity-types : slotsIn p t ≤ length t
+  capacity-types = omega arith
+
+  pub capacity-most : slotsIn p t ≤ 4096
+  capacity-most = omega arith
+
+-- ---- the answer of a run that ends with h slots in p and t, cleared to p′ and t′
+
+module _ (p t p′ t′ : List ℕ) (small : (i : ℕ) → getD p i 0 < 256) (n k h cap : ℕ) (ec : cap ≡ slotsIn p t) (l : h ≤ cap)
+    (ep : p′ ≡ clearedTo p (h * 8) (cap * 8)) (et : t′ ≡ clearedTo t h cap) where
+  abbrev ending : Outcome
+  ending = outcome n k (record { stack = slotsOf p t h })
+
+  leaves : (r : RunAnswer) → r ≡ answered n (record { steps = k; height = h }) → Leaves ending p t p′ t′ r
+  leaves r er =
+      let a : p′ ≡ payloadsAfter (slotsIn p t) (slotsOf p t h) p =
+      ep ∙ payloads-after p t small cap h l (omega (arith, capacity-payloads p t)) ∙ ap (λ c. payloadsAfter c (slotsOf p t h) p) ec in
+      let b : t′ ≡ typesAfter (slotsIn p t) (slotsOf p t h) t =
+      et ∙ types-after p t small cap h l (omega (arith, capacity-types p t)) ∙ ap (λ c. typesAfter c (slotsOf p t h) t) ec in
+      let z : r ≡ answered n (record { steps = k; height = length (slotsOf p t h) }) =
+      er ∙ ap (λ j. answered n (record { steps = k; height = j })) (sym (length-slots p t h)) in
+      λ i. record { answer = z i; stack = record { payloads = a i; types = b i } }
+
+  pub finished : n ≡ 0 → Leaves ending p t p′ t′ (Finished (record { steps = k; height = h }))
+  finished e = leaves _ (rw e refl)
+
+  pub stopped : (n ≡ 0 → ⊥) → Leaves ending p t p′ t′ (Stopped n (record { steps = k; height = h }))
+  stopped e = leaves _ (more n e)
+    where
+      more : (n : ℕ) → (n ≡ 0 → ⊥) → Stopped n (record { steps = k; height = h }) ≡ answered n (record { steps = k; height = h })
+      more zero e = absurd (e refl)
+      more (suc n) e = refl
+
+-- what a run leaves depends on the capacity and on what lies past it
+pub leaves-of : (o : Outcome) (p t p′ t′ : List ℕ) (cap : ℕ) → cap ≡ slotsIn p t → length p′ ≡ length p → length t′ ≡ length t
+    → drop (cap * 8) p′ ≡ drop (cap * 8) p → drop cap t′ ≡ drop cap t → ran o (lentOf p′ t′) ≡ ran o (lentOf p t)
+unfolding payloadsAfter typesAfter
+leaves-of o p t p′ t′ cap ec lp lt dp dt = rw (lp, lt, ← ec, dp, dt) refl
+
+-- ---- clearing
+
+-- a part of a slice cleared
+pub cleared : (s ys : List ℕ) (a e : ℕ) → a ≤ e → e ≤ length s → ys ≡ replicate (length (take (e - a) (drop a s))) 0
+    → take a s ++ (ys ++ drop (e - a) (drop a s)) ≡ clearedTo s a e
+cleared s ys a e h g q =
+    let l : length (take (e - a) (drop a s)) ≡ e - a = length-take-le (e - a) (drop a s) (simp length-drop (omega arith)) in
+    let k : a + (e - a) ≡ e = omega arith in
+    rw (q, l, drop-drop, k)

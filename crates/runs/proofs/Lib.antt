@@ -1,0 +1,4 @@
+pub mod Final
+pub mod Arguments
+pub mod Bodies
+pub mod Returns

@@ -1,0 +1,142 @@
+-- What the run of a body answers, return by return.
+use Prim.Native.Nat.{ℕ, zero, suc, _+_, _*_, _≤_, _<_}
+use native.Mathlib.Omega.{arith}
+use mathlib.Core.Path.{_≡_, refl, sym, ap, _∙_}
+use mathlib.Core.Bool.{Bool, true, false}
+use mathlib.Core.Option.{none}
+use mathlib.Core.List.{List, []}
+use lib.ListN.{length}
+use borrow.Author.Tests.{le-leb, lt-leb}
+use Rattle.rules.specs.declared.RunAnswer.{RunAnswer}
+use Rattle.rules.specs.declared.RunAnswer.the-variants.{Rejected}
+use Rattle.rules.specs.declared.Slot.{Slot}
+use Rattle.rules.specs.Instructions.{Ty}
+use Rattle.rules.specs.ModuleFile.{refusal, bodyOf, functionAt, paramsFrom, read}
+use Rattle.rules.specs.Stack.{slotsOf}
+use Rattle.rules.specs.Machine.{Outcome, outcome, run}
+use Rattle.rules.specs.Typing.{startOf}
+use Rattle.rules.specs.Answers.{admitted, arguments, startState, outcomeOf, ran, runRefusal, runModule}
+use Rattle.format.specs.declared.Sections.{Sections}
+use Rattle.format.specs.Layout.{sectionsOf}
+use Rattle.reader.specs.declared.Opened.the-variants.{Refused}
+use Rattle.reader.specs.Answers.{answer, openedOf}
+use Rattle.reader.proofs.Opening.{opened-refused}
+use Rattle.state.specs.State.{stateOf, Ready}
+use Rattle.state.specs.declared.Registers.{Registers}
+use Rattle.state.proofs.Stack.{length-slots}
+use Rattle.control.specs.Control.{argumentsIn, firstAt}
+use Rattle.control.proofs.Frames.{state-first, ready-first}
+use Rattle.machine.specs.declared.Ended.{Ended}
+use Rattle.machine.specs.Ends.{Ran}
+use Rattle.runs.specs.declared.BodyRecord.{BodyRecord}
+use Rattle.runs.specs.Runs.{lentOf, slotsIn, Leaves, RunIs, Copied, BodyIs}
+use Rattle.runs.proofs.Final.{capacity-payloads, capacity-types, capacity-most, leaves-of}
+use Rattle.runs.proofs.Arguments.{admitted-lengths}
+
+-- the file s, the body's number f, the arguments a and b, the lent bytes p and t
+module _ (s : List ℕ) (f : ℕ) (a b p t : List ℕ) where
+  pub run-unread : (n k : ℕ) → Refused k ≡ openedOf s → RunIs s f a b n p t p t (Rejected k)
+  unfolding runModule runRefusal
+  run-unread n k q = go (refusal s) refl
+    where
+      go : (r : ℕ) → refusal s ≡ r → RunIs s f a b n p t p t (Rejected k)
+      go zero w =
+          absurd (let g : Refused k ≡ answer zero (sectionsOf s) = q ∙ ap (λ (j : ℕ). answer j (sectionsOf s)) w in
+          let z : _≡_ {A = ℕ} 0 1 = cc in omega arith)
+      go (suc r) w = let e : k ≡ suc r = opened-refused s k q ∙ w in rw w (rw e refl)
+
+  pub run-12 : (n : ℕ) → refusal s ≡ 0 → startOf (read s) (bodyOf f) ≡ none → RunIs s f a b n p t p t (Rejected 12)
+  unfolding runModule runRefusal
+  run-12 n readable e = rw (readable, e) refl
+
+  -- ---- a body that is there
+
+  module _ (c : Sections) (g : BodyRecord) (is : BodyIs s c f g) where
+    abbrev params : List Ty
+    params = paramsFrom s (functionAt s (g .body) + 10) (g .params)
+
+    pub run-13 : (n : ℕ) → refusal s ≡ 0 → (v : Bool) → v ≡ admitted params (lentOf a b) → v ≡ false → RunIs s f a b n p t p t (Rejected 13)
+    unfolding runModule runRefusal
+    run-13 n readable v ev q = rw (readable, is .starts, sym ev ∙ q) refl
+
+    module _ (v : Bool) (ev : v ≡ admitted params (lentOf a b)) (yes : v ≡ true) (cap : ℕ) (ec : cap ≡ slotsIn p t) where
+      fit : admitted params (lentOf a b) ≡ true
+      fit = sym ev ∙ yes
+
+      abbrev held : List Slot
+      held = arguments (lentOf a b)
+
+      lengths : (length b ≡ g .params) × (length a ≡ g .params * 8)
+      lengths = admitted-lengths s (functionAt s (g .body) + 10) a b (g .params) fit
+
+      count : length held ≡ g .params
+      count = length-slots a b (length b) ∙ lengths .0
+
+      -- the run that the rules give
+      runs : (n : ℕ) → refusal s ≡ 0 → runModule s f (lentOf a b) n (lentOf p t) ≡ ran (outcomeOf (read s) (bodyOf f) held n cap) (lentOf p t)
+      unfolding runModule runRefusal
+      runs n readable = rw (readable, is .starts, fit, ec) refl
+
+      pub run-20 : (n : ℕ) → refusal s ≡ 0 → cap < g .params → (p′ t′ : List ℕ) (x : RunAnswer)
+          → Leaves (outcome 20 0 (record { stack = slotsOf p t 0 })) p t p′ t′ x → RunIs s f a b n p t p′ t′ x
+      unfolding outcomeOf slotsOf
+      run-20 n readable l p′ t′ x left =
+          let o : outcomeOf (read s) (bodyOf f) held n cap ≡ outcome 20 0 (record { stack = [] }) = rw (count, lt-leb (g .params) cap l) refl in
+          left ∙ ap (λ (y : Outcome). ran y (lentOf p t)) (sym o) ∙ sym (runs n readable)
+
+      -- ---- arguments that fit
+
+      module _ (enough : g .params ≤ cap) where
+        pub room : (g .params * 8 ≤ length a) × (g .params ≤ length b) × (g .params * 8 ≤ length p) × (g .params ≤ length t)
+        room = (
+          omega (arith, lengths .1),
+          omega (arith, lengths .0),
+          omega (arith, capacity-payloads p t),
+          omega (arith, capacity-types p t),
+        )
+
+        -- p₁ and t₁ have the arguments; r and w′ are the first frame
+        module _ (p₁ t₁ w w′ : List ℕ) (r : Registers) (copied : Copied a b p t (g .params) p₁ t₁) (words : length w ≡ 1536)
+            (er : r ≡ firstAt (g .body) (g .start) (g .end) (g .params)) (ew : w′ ≡ argumentsIn w 0 0 (g .params)) where
+          pub ready : Ready cap r p₁ t₁ w′
+          ready =
+              rw (er, ew)
+              (ready-first p₁ t₁ w (g .body) (g .start) (g .end) (g .params) cap
+              (omega (arith, capacity-most p t))
+              (omega (arith, capacity-payloads p t, copied .same-payloads))
+              (omega (arith, capacity-types p t, copied .same-types))
+              words enough (omega (arith, is .few)) (is .near) (is .body-fits))
+
+          start-is : stateOf r p₁ t₁ w′ ≡ startState (read s) (bodyOf f) held
+          start-is =
+              rw (er, ew)
+              (state-first p₁ t₁ w (g .body) (g .start) (g .end) (g .params) (omega (arith, is .few))
+              ∙ rw (is .starts, is .ends, is .named, count, copied .slots, ← lengths .0) refl)
+
+          came : (n : ℕ) → outcomeOf (read s) (bodyOf f) held n cap ≡ run (read s) cap n 0 (stateOf r p₁ t₁ w′)
+          unfolding outcomeOf
+          came n =
+              let l : length held ≤ cap = omega (arith, count) in
+              rw (le-leb (length held) cap l) (ap (run (read s) cap n 0) (sym start-is))
+
+          -- p₂ and t₂ are left by the run, which ended as e
+          module _ (n : ℕ) (p₂ t₂ : List ℕ) (e : Ended) (d : Ran cap e p₁ t₁ p₂ t₂ (run (read s) cap n 0 (stateOf r p₁ t₁ w′))) where
+            same-payloads : length p₂ ≡ length p
+            same-payloads = d .same-payloads ∙ copied .same-payloads
+
+            same-types : length t₂ ≡ length t
+            same-types = d .same-types ∙ copied .same-types
+
+            pub still : (cap ≡ slotsIn p₂ t₂) × (e .last .height ≤ cap)
+            still = (rw (same-payloads, same-types) ec, d .high)
+
+            abbrev ending : Outcome
+            ending = outcome (e .number) (e .steps) (record { stack = slotsOf p₂ t₂ (e .last .height) })
+
+            pub run-over : refusal s ≡ 0 → (p′ t′ : List ℕ) (x : RunAnswer) → Leaves ending p₂ t₂ p′ t′ x → RunIs s f a b n p t p′ t′ x
+            run-over readable p′ t′ x left =
+                left
+                ∙ leaves-of ending p t p₂ t₂ cap ec same-payloads same-types
+                (d .rest-payloads ∙ copied .rest-payloads cap enough) (d .rest-types ∙ copied .rest-types cap enough)
+                ∙ ap (λ (y : Outcome). ran y (lentOf p t)) (d .result ∙ sym (came n))
+                ∙ sym (runs n readable)

@@ -1,0 +1,256 @@
+// The run of a body by number on lent arguments: refusals, the arguments in their slots, the first frame, the answer.
+ghost use mathlib.Core.Path.{_≡_};
+ghost use mathlib.Core.Bool.{false};
+ghost use mathlib.Core.List.{[]};
+ghost use Prim.Native.Nat.{_+_, _*_, _<_, _≤_, min};
+ghost use lib.ListN.{length, replicate};
+ghost use Rattle.rules.specs.Answers as Answers;
+ghost use Rattle.rules.specs.Instructions.{tyOf};
+ghost use Rattle.rules.specs.Machine.{outcome};
+ghost use Rattle.rules.specs.ModuleFile.{badFunctions, functionAt, paramsFrom, refusal};
+ghost use Rattle.rules.specs.Stack.{slotsOf};
+ghost use Rattle.format.specs.Layout.{Packed};
+ghost use Rattle.runs.specs.Runs.{lentOf, slotsIn, clearedTo, Leaves, RunIs, suits, Copied, FoundIs};
+use format::Sections;
+use reader::Opened;
+use reader::entries::FoundFunction;
+use rules::RunAnswer;
+use rules::Slot;
+use rules::Tally;
+
+const ENTRY: u32 = 0xffff_ffff;
+
+const NO_SUCH_FUNCTION: u32 = 12;
+
+const ARGUMENTS_REFUSED: u32 = 13;
+
+const STACK_OVERFLOW: u32 = 20;
+
+// ---- lent slots
+
+fn least(a: usize, b: usize) -> usize
+    ensures { λ r. ⌜ r ≡ min a b ⌝ }
+{
+    if b < a {
+        return b;
+    }
+    a
+}
+
+// The smaller number of whole slots, at most 4,096.
+fn capacity(p: &[u8], t: &[u8]) -> usize
+    ensures { λ r. ⌜ r ≡ slotsIn (now (p .entry)) (now (t .entry)) ⌝ }
+{
+    let whole = least(p.len() / 8, t.len());
+    least(whole, 4096)
+}
+
+fn clear(s: &mut [u8])
+    ensures { λ r. ⌜ now (s .exit) ≡ replicate (length (now (s .entry))) 0 ⌝ }
+{
+    let mut i = 0;
+    while i < s.len() {
+        s[i] = 0;
+        i += 1;
+    }
+}
+
+// Zeros from a to e.
+fn clear_part(s: &mut [u8], a: usize, e: usize)
+    requires { ⌜ (a ≤ e) × (e ≤ length (now s)) ⌝ }
+    ensures { λ r. ⌜ now (s .exit) ≡ clearedTo (now (s .entry)) a e ⌝ }
+{
+    clear(&mut s[a..e]);
+}
+
+// Ends a run: clears the slots from the height to the capacity, and answers.
+fn close(
+    number: u32,
+    steps: u64,
+    height: usize,
+    cap: usize,
+    p: &mut [u8],
+    t: &mut [u8],
+) -> RunAnswer
+    requires { ⌜ (cap ≡ slotsIn (now p) (now t)) × (height ≤ cap) ⌝ }
+    ensures { λ r. ⌜ Leaves (outcome number steps (record { stack = slotsOf (now (p .entry)) (now (t .entry)) height })) (now (p .entry)) (now (t .entry)) (now (p .exit)) (now (t .exit)) r ⌝ }
+{
+    clear_part(p, height * 8, cap * 8);
+    clear_part(t, height, cap);
+    let tally = Tally {
+        steps,
+        height: height as u64,
+    };
+    if number == 0 {
+        return RunAnswer::Finished(tally);
+    }
+    RunAnswer::Stopped(number, tally)
+}
+
+// ---- arguments
+
+// Whether v is a value for a parameter with this type byte. None is for a pointer.
+fn takes(b: u8, v: Slot) -> bool
+    ensures { λ r. ⌜ r ≡ suits (tyOf b) v ⌝ }
+{
+    if v.kind != b {
+        return false;
+    }
+    if b == 3 {
+        return v.payload < 4294967296;
+    }
+    if b == 4 {
+        return true;
+    }
+    b == 6
+}
+
+// Whether these are arguments for the n parameters of function k.
+fn admits(file: &[u8], c: Sections, k: usize, n: usize, args: &[u8], kinds: &[u8]) -> bool
+    requires { ⌜ Packed (now file) c × (n ≤ 8) × (0 < n → k < c .functions) ⌝ }
+    ensures { λ r. ⌜ r ≡ Answers.admitted (paramsFrom (now (file .entry)) (functionAt (now (file .entry)) k + 10) n) (lentOf (now (args .entry)) (now (kinds .entry))) ⌝ }
+{
+    if kinds.len() != n {
+        return false;
+    }
+    if args.len() != n * 8 {
+        return false;
+    }
+    let mut j = n;
+    while 0 < j {
+        j -= 1;
+        let b = reader::entries::param(file, c, k, j);
+        let v = state::slot_at(args, kinds, j);
+        let fits = takes(b, v);
+        if !fits {
+            return false;
+        }
+    }
+    true
+}
+
+// Puts n arguments into the first slots.
+fn copy_arguments(args: &[u8], kinds: &[u8], n: usize, p: &mut [u8], t: &mut [u8])
+    requires { ⌜ (n * 8 ≤ length (now args)) × (n ≤ length (now kinds)) × (n * 8 ≤ length (now p)) × (n ≤ length (now t)) ⌝ }
+    ensures { λ r. ⌜ Copied (now (args .entry)) (now (kinds .entry)) (now (p .entry)) (now (t .entry)) n (now (p .exit)) (now (t .exit)) ⌝ }
+{
+    let mut i = 0;
+    while i < n {
+        let v = state::slot_at(args, kinds, i);
+        state::put_slot(p, t, i, v);
+        i += 1;
+    }
+}
+
+// ---- bodies
+
+// A body's places go from start up to end. body is the function's number, 65535 for the entry.
+struct BodyRecord {
+    body: usize,
+    start: usize,
+    end: usize,
+    params: usize,
+}
+
+enum FoundBody {
+    Record(BodyRecord),
+    Nothing,
+}
+
+// The body that the host names.
+fn find(file: &[u8], c: Sections, function: u32) -> FoundBody
+    requires { ⌜ Packed (now file) c × (badFunctions (now file) ≡ false) ⌝ }
+    ensures { λ r. ⌜ FoundIs (now (file .entry)) c function r ⌝ }
+{
+    if function == ENTRY {
+        return FoundBody::Record(BodyRecord {
+            body: 65535,
+            start: 0,
+            end: c.entry,
+            params: 0,
+        });
+    }
+    let body = function as usize;
+    let found = reader::entries::function(file, c, body);
+    let FoundFunction::Record(g) = found else {
+        return FoundBody::Nothing;
+    };
+    FoundBody::Record(BodyRecord {
+        body,
+        start: g.start,
+        end: g.end,
+        params: g.params,
+    })
+}
+
+// ---- the run
+
+// The run of a body of a module that can be read.
+fn run_opened(
+    file: &[u8],
+    c: Sections,
+    function: u32,
+    args: &[u8],
+    kinds: &[u8],
+    allowance: u64,
+    p: &mut [u8],
+    t: &mut [u8],
+) -> RunAnswer
+    requires { ⌜ Packed (now file) c × (badFunctions (now file) ≡ false) × (refusal (now file) ≡ 0) ⌝ }
+    ensures { λ r. ⌜ RunIs (now (file .entry)) function (now (args .entry)) (now (kinds .entry)) allowance (now (p .entry)) (now (t .entry)) (now (p .exit)) (now (t .exit)) r ⌝ }
+{
+    let found = find(file, c, function);
+    let FoundBody::Record(b) = found else {
+        return RunAnswer::Rejected(NO_SUCH_FUNCTION);
+    };
+    let n = b.params;
+    let admitted = admits(file, c, b.body, n, args, kinds);
+    if !admitted {
+        return RunAnswer::Rejected(ARGUMENTS_REFUSED);
+    }
+    let cap = capacity(p, t);
+    if cap < n {
+        return close(STACK_OVERFLOW, 0, 0, cap, p, t);
+    }
+    copy_arguments(args, kinds, n, p, t);
+    let mut f = [0u16; 1536];
+    let first = control::first_frame(b.body, b.start, b.end, n, &mut f);
+    let e = machine::run_from(file, c, cap, first, allowance, p, t, &mut f);
+    close(e.number, e.steps, e.last.height, cap, p, t)
+}
+
+// The run of any body of any bytes. ffffffff names the entry.
+pub fn run(
+    file: &[u8],
+    function: u32,
+    arg_payloads: &[u8],
+    arg_types: &[u8],
+    allowance: u64,
+    payloads: &mut [u8],
+    types: &mut [u8],
+) -> RunAnswer
+    ensures { λ r. ⌜ RunIs (now (file .entry)) function (now («arg_payloads» .entry)) (now («arg_types» .entry)) allowance (now (payloads .entry)) (now (types .entry)) (now (payloads .exit)) (now (types .exit)) r ⌝ }
+{
+    let opened = reader::open(file);
+    match opened {
+        Opened::Refused(n) => RunAnswer::Rejected(n),
+        Opened::Module(c) => run_opened(
+            file,
+            c,
+            function,
+            arg_payloads,
+            arg_types,
+            allowance,
+            payloads,
+            types,
+        ),
+    }
+}
+
+// The run of the entry, which takes no arguments.
+pub fn run_entry(file: &[u8], allowance: u64, p: &mut [u8], t: &mut [u8]) -> RunAnswer
+    ensures { λ r. ⌜ RunIs (now (file .entry)) 0xffffffff [] [] allowance (now (p .entry)) (now (t .entry)) (now (p .exit)) (now (t .exit)) r ⌝ }
+{
+    let none = &file[0..0];
+    run(file, ENTRY, none, none, allowance, p, t)
+}
