@@ -1,5 +1,5 @@
 -- Loops over the bytes of a record: copied, compared, zeroed; and the other records of the room.
-use Prim.Native.Nat.{ℕ, zero, suc, _+_, _*_, _-_, _≤_, _<_}
+use Prim.Native.Nat.{ℕ, zero, suc, _+_, _*_, _-_, _/_, _≤_, _<_}
 use mathlib.Core.Path.{_≡_, refl, ap, _∙_, sym, subst}
 use mathlib.Core.Bool.{Bool, true, false, _&&_}
 use mathlib.Core.List.{List, [], _∷_, _++_, append-assoc, append-nil}
@@ -7,8 +7,10 @@ use mathlib.Core.Logic.{_≢_}
 use native.Mathlib.Numerals.{add-one}
 use native.Mathlib.Omega.{arith}
 use lib.ListN.{getD, length, take, drop, set, replicate, length-drop, length-replicate}
-use lib.Seq.{paste, paste-suc, ext-getD, length-take-le, take-length, drop-length, getD-take, getD-drop, drop-drop, drop-paste, drop-at, take-at, drop-append-le, take-append-le}
+use lib.Seq.{paste, paste-suc, length-paste, take-take, take-add, ext-getD, length-take-le, take-length, drop-length, getD-take, getD-drop, drop-drop, drop-paste, drop-at, take-at, drop-append-le, take-append-le}
 use lib.Dec.{eqb, ltb}
+use Rattle.rules.specs.Bytes.{number, word, written}
+use Rattle.memory.proofs.Copies.{paste-word}
 use Rattle.soundness.specs.Tests.{decide, false-true, eqb-is, eqb-isnt, eqb-same, ltb-is, ltb-isnt}
 use Rattle.checker.specs.Work.{recordOf}
 
@@ -44,13 +46,28 @@ other-bytes room st at i g c e =
     let b : x .0 < i = x .1 in
     x .2 (sym (getD-take 64 (drop at room) (x .0) 0 (omega arith) ∙ getD-drop at room (x .0) 0) ∙ ap (λ (y : List ℕ). getD y (x .0) 0) e)
 
--- ---- copied out of the room
+-- ---- copied by numbers of eight bytes
 
-pub load-more : (d room : List ℕ) (at i : ℕ) → i < length d → at + i < length room → set (paste d 0 (drop at room) i) i (getD room (at + i) 0) ≡ paste d 0 (drop at room) (i + 1)
-load-more d room at i h g =
+pub save-more : (room st : List ℕ) (at i : ℕ) → ((j : ℕ) → getD st j 0 < 256) → i < 64 → 8 * (i / 8) ≡ i → at + 64 ≤ length room → length st ≡ 64 → (room′ : List ℕ) (w : ℕ)
+    → w ≡ word 8 st i → room′ ≡ written 8 (paste room at st i) (at + i) w → room′ ≡ paste room at st (i + 8)
+save-more room st at i small h m g l room′ w e r =
+    r ∙ ap (λ (x : ℕ). written 8 (paste room at st i) (at + i) x) e ∙ paste-word room at st small 8 i (omega arith) (omega arith)
+
+pub pasted-long : (d s : List ℕ) (at i : ℕ) (d′ : List ℕ) → at + 64 ≤ length d → 64 ≤ length s → i ≤ 64 → d′ ≡ paste d at s i → length d′ ≡ length d
+pasted-long d s at i d′ h l m e = ap length e ∙ length-paste d at s i (omega arith) (omega arith)
+
+-- a number of the room is one of what lies from a byte on
+part-word : (room : List ℕ) (at i : ℕ) → word 8 room (at + i) ≡ word 8 (drop at room) i
+unfolding word
+part-word room at i = ap (λ (x : List ℕ). number (take 8 x)) (sym (drop-drop i at room))
+
+pub load-more : (d room : List ℕ) (at i : ℕ) → ((j : ℕ) → getD room j 0 < 256) → i < 64 → 8 * (i / 8) ≡ i → at + 64 ≤ length room → length d ≡ 64 → (d′ : List ℕ) (w : ℕ)
+    → w ≡ word 8 room (at + i) → d′ ≡ written 8 (paste d 0 (drop at room) i) i w → d′ ≡ paste d 0 (drop at room) (i + 8)
+load-more d room at i small h m g l d′ w e r =
     let z : 0 + i ≡ i = omega arith in
-    let e : length (drop at room) ≡ length room - at = length-drop at room in
-    rw (add-one, ← getD-drop at room i 0) (ap (λ (k : ℕ). set (paste d 0 (drop at room) i) k (getD (drop at room) i 0)) (sym z) ∙ paste-suc d 0 (drop at room) i 0 (omega arith) (omega arith))
+    let k : length (drop at room) ≡ length room - at = length-drop at room in
+    r ∙ ap (λ (x : ℕ). written 8 (paste d 0 (drop at room) i) x w) (sym z) ∙ ap (λ (x : ℕ). written 8 (paste d 0 (drop at room) i) (0 + i) x) (e ∙ part-word room at i)
+    ∙ paste-word d 0 (drop at room) (λ j. rw (getD-drop at room j 0) (small (at + j))) 8 i (omega arith) (omega arith)
 
 pub load-end : (d room : List ℕ) (at i : ℕ) → length d ≡ 64 → i ≡ 64 → paste d 0 (drop at room) i ≡ take 64 (drop at room)
 load-end d room at i h e =
@@ -96,6 +113,15 @@ module _ (room st : List ℕ) (at : ℕ) (h : at + 64 ≤ length room) (l : leng
       ap (λ (j : ℕ). drop j p) (sym e) ∙ sym (drop-drop (k - (at + 64)) (at + 64) p)
       ∙ ap (drop (k - (at + 64))) (drop-paste room at st 64 (omega arith) (omega arith))
       ∙ drop-drop (k - (at + 64)) (at + 64) room ∙ ap (λ (j : ℕ). drop j room) e
+
+  -- its own bytes written there change nothing
+  pub part-kept : st ≡ take 64 (drop at room) → paste room at st 64 ≡ room
+  part-kept e =
+      let k : length (drop at room) ≡ length room - at = length-drop at room in
+      ap (λ (x : List ℕ). take at room ++ take 64 x ++ drop (at + 64) room) e
+      ∙ ap (λ (x : List ℕ). take at room ++ x ++ drop (at + 64) room) (take-take 64 64 (drop at room) (omega arith))
+      ∙ ap (λ (x : List ℕ). x ++ drop (at + 64) room) (sym (take-add at 64 room))
+      ∙ halves (at + 64) room
 
   in-head : (a b : List ℕ) (k m : ℕ) → k + m ≤ length a → take m (drop k (a ++ b)) ≡ take m (drop k a)
   in-head a b k m g =

@@ -30,7 +30,7 @@ fits-grows n a x b y f g =
     let u : length b ≡ length a = g .long in
     let v : length y ≡ length x = g .many in
     let p : 64 * n ≤ length a = f .room-for in
-    let q : n ≤ length x = f .mark-for in record { room-for = omega arith; mark-for = omega arith }
+    let q : n ≤ length x = f .mark-for in record { room-for = omega arith; mark-for = omega arith; whole = g .many ∙ f .whole }
 
 module _ (s table : List ℕ) (t : Tabled s table) (room marks room′ marks′ : List ℕ) (g : Grows (labels s) room marks room′ marks′) where
   pub recorded-grows : (b : Body) (q : ℕ) (l : Lists) → Recorded s table room marks b q l → Recorded s table room′ marks′ b q l

@@ -1,4 +1,5 @@
 pub mod Copies
+pub mod Blocks
 pub mod Growth
 pub mod Arrivals
 pub mod Turns

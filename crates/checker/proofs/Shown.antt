@@ -11,7 +11,7 @@ use lib.Dec.{eqb, ltb}
 use Rattle.rules.specs.ModuleFile.{labels}
 use Rattle.soundness.specs.Tests.{decide, eqb-is, eqb-isnt, eqb-other, ltb-is, ltb-isnt}
 use Rattle.checker.specs.Work.{placeOf, Tabled, recordOf, markOf, Fits, shownAt, nodeOf, Finished}
-use Rattle.checker.proofs.Copies.{length-part, drop-past, part-same, record-other}
+use Rattle.checker.proofs.Copies.{length-part, drop-past, part-kept, part-same, record-other}
 
 -- ---- one label
 
@@ -30,6 +30,12 @@ settled-none room marks i k room′ e h = h ∙ ap (λ (x : List ℕ). paste roo
 pub settled-record : (room marks : List ℕ) (i k : ℕ) (st room′ : List ℕ) → (markOf marks k ≡ 0 → ⊥) → st ≡ recordOf room k → room′ ≡ paste room (64 * i) st 64
     → room′ ≡ paste room (64 * i) (shownAt room marks k) 64
 settled-record room marks i k st room′ n e h = h ∙ ap (λ (x : List ℕ). paste room (64 * i) x 64) (e ∙ sym (shows-record room marks k n))
+
+-- a node keeps its own record
+pub settled-own : (room marks : List ℕ) (i k : ℕ) → 64 * i + 64 ≤ length room → (markOf marks k ≡ 0 → ⊥) → k ≡ i → room ≡ paste room (64 * i) (shownAt room marks k) 64
+settled-own room marks i k h n e =
+    let q : shownAt room marks k ≡ recordOf room i = shows-record room marks k n ∙ ap (recordOf room) e in
+    sym (ap (λ (x : List ℕ). paste room (64 * i) x 64) q ∙ part-kept room (recordOf room i) (64 * i) h (length-part room (64 * i) h) refl)
 
 shown-long : (room marks : List ℕ) (k : ℕ) → 64 * k + 64 ≤ length room → length (shownAt room marks k) ≡ 64
 shown-long room marks k h =

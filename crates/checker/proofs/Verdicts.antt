@@ -99,4 +99,4 @@ pub fits-first : (s : List ℕ) (c : Sections) (room : List ℕ) → Packed s c 
 fits-first s c room p h =
     let e : c .labels ≡ labels s = p .labels-is in
     let f : c .labels ≤ 256 = p .few-labels in
-    let l : length (replicate {A = ℕ} 256 0) ≡ 256 = length-replicate {A = ℕ} 256 0 in record { room-for = omega arith; mark-for = omega arith }
+    let l : length (replicate {A = ℕ} 256 0) ≡ 256 = length-replicate {A = ℕ} 256 0 in record { room-for = omega arith; mark-for = omega arith; whole = l }

@@ -60,10 +60,11 @@ recordOf room k = take 64 (drop (64 * k) room)
 abbrev pub markOf : List ℕ → ℕ → ℕ
 markOf marks k = getD marks k 0
 
--- there is room for n labels
+-- there is room for n labels; all marks are there, so that they can be looked at in blocks
 pub record Fits (n : ℕ) (room marks : List ℕ) : Type 0 where
   pub room-for : 64 * n ≤ length room
   pub mark-for : n ≤ length marks
+  pub whole : length marks ≡ 256
 
 -- what has flowed to a node stays, and the room behind the records
 pub record Grows (n : ℕ) (room marks room′ marks′ : List ℕ) : Type 0 where

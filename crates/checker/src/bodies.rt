@@ -1,5 +1,6 @@
 // The bodies in order: each is walked from its start, then from every node that something has flowed to.
 ghost use mathlib.Core.Path.{_≡_};
+ghost use mathlib.Core.Bool.{false};
 ghost use Prim.Native.Nat.{ℕ, _+_, _*_, _<_, _≤_};
 ghost use lib.ListN.{length};
 ghost use Rattle.rules.specs.ModuleFile.{labels, bodyOf, bodyStart, bodyEnd, refusal};
@@ -16,19 +17,73 @@ pub(crate) enum Verdict {
     Untyped(usize),
 }
 
-// The first of n nodes that waits for a walk, or n.
-fn find(marks: &[u8], n: usize) -> usize
-    requires { ⌜ n ≤ length (now marks) ⌝ }
-    ensures { λ r. ⌜ (r ≤ n) × ((k : ℕ) → k < r → markOf (now (marks .entry)) k ≡ 1 → ⊥) × (r < n → markOf (now (marks .entry)) r ≡ 1) ⌝ }
+// Whether one of the 32 nodes from `at` on waits for a walk.
+fn waits(marks: &[u8], at: usize) -> bool
+    requires { ⌜ at + 32 ≤ length (now marks) ⌝ }
+    ensures { λ r. ⌜ (r ≡ false → (j : ℕ) → j < 32 → markOf (now (marks .entry)) (at + j) ≡ 1 → ⊥) ⌝ }
 {
-    let mut i = 0;
-    while i < n {
+    let mut any = false;
+    let mut j = 0;
+    while j < 32 {
+        any = any | (marks[at + j] == 1);
+        j += 1;
+    }
+    any
+}
+
+// The first of the nodes from `from` on, before `to`, that waits, or `to`.
+fn first_from(marks: &[u8], from: usize, to: usize) -> usize
+    requires { ⌜ (from ≤ to) × (to ≤ length (now marks)) ⌝ }
+    ensures { λ r. ⌜ (from ≤ r) × (r ≤ to) × ((k : ℕ) → from ≤ k → k < r → markOf (now (marks .entry)) k ≡ 1 → ⊥) × (r < to → markOf (now (marks .entry)) r ≡ 1) ⌝ }
+{
+    let mut i = from;
+    while i < to {
         if marks[i] == 1 {
             return i;
         }
         i += 1;
     }
     i
+}
+
+fn least(a: usize, b: usize) -> usize
+    ensures { λ r. ⌜ (r ≤ a) × (r ≤ b) × (r < a → r ≡ b) ⌝ }
+{
+    if b < a {
+        return b;
+    }
+    a
+}
+
+// The first of n nodes that waits, in the block of 32 from `at` on; else the block's end, or n before it. It is looked into
+// only where one of them waits.
+fn find_in(marks: &[u8], at: usize, n: usize) -> usize
+    requires { ⌜ (at < n) × (n ≤ 256) × (at + 32 ≤ length (now marks)) × (length (now marks) ≡ 256) ⌝ }
+    ensures { λ r. ⌜ (at ≤ r) × (r ≤ n) × (r ≤ at + 32) × ((k : ℕ) → at ≤ k → k < r → markOf (now (marks .entry)) k ≡ 1 → ⊥) × (r < n → r < at + 32 → markOf (now (marks .entry)) r ≡ 1) ⌝ }
+{
+    let end = least(at + 32, n);
+    let any = waits(marks, at);
+    if !any {
+        return end;
+    }
+    first_from(marks, at, end)
+}
+
+// The first of n nodes that waits for a walk, or n.
+fn find(marks: &[u8], n: usize) -> usize
+    requires { ⌜ (n ≤ 256) × (length (now marks) ≡ 256) ⌝ }
+    ensures { λ r. ⌜ (r ≤ n) × ((k : ℕ) → k < r → markOf (now (marks .entry)) k ≡ 1 → ⊥) × (r < n → markOf (now (marks .entry)) r ≡ 1) ⌝ }
+{
+    let mut block = 0;
+    while 32 * block < n {
+        let at = 32 * block;
+        let k = find_in(marks, at, n);
+        if k < at + 32 {
+            return k;
+        }
+        block += 1;
+    }
+    n
 }
 
 // Walks from node k.

@@ -13,8 +13,9 @@ pub(crate) fn save(room: &mut [u8], at: usize, st: &[u8])
 {
     let mut i = 0;
     while i < 64 {
-        room[at + i] = st[i];
-        i += 1;
+        let w = memory::load64(st, i);
+        memory::store64(room, at + i, w);
+        i += 8;
     }
 }
 
@@ -25,8 +26,9 @@ pub(crate) fn load(room: &[u8], at: usize, st: &mut [u8])
 {
     let mut i = 0;
     while i < 64 {
-        st[i] = room[at + i];
-        i += 1;
+        let w = memory::load64(room, at + i);
+        memory::store64(st, i, w);
+        i += 8;
     }
 }
 

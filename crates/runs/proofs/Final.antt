@@ -7,44 +7,22 @@ use lib.ListN.{length, take, drop, getD, replicate, length-drop}
 use lib.Seq.{take-add, getD-drop, length-take-le, take-suc, drop-drop}
 use Rattle.rules.specs.declared.RunAnswer.{RunAnswer}
 use Rattle.rules.specs.declared.RunAnswer.the-variants.{Stopped, Finished}
-use Rattle.rules.specs.Bytes.{number, bytes, word}
+use Rattle.rules.specs.Bytes.{bytes, word}
 use Rattle.rules.specs.Stack.{slotAt, slotsOf, payloadBytes, typeBytes, payloadsAfter, typesAfter}
 use Rattle.rules.specs.Machine.{Outcome, outcome}
 use Rattle.rules.specs.Answers.{answered, ran}
+use Rattle.memory.proofs.Copies.{word-bytes}
 use Rattle.state.proofs.Stack.{length-slots}
 use Rattle.runs.specs.Runs.{lentOf, slotsIn, clearedTo, Leaves}
 
-bytes-number : (xs : List ℕ) → ((i : ℕ) → getD xs i 0 < 256) → bytes (length xs) (number xs) ≡ xs
-bytes-number [] h = refl
-bytes-number (b ∷ bs) h =
-    let hb : b < 256 = h 0 in
-    let q : (b + 256 * number bs) / 256 ≡ number bs = omega arith in
-    let m : (b + 256 * number bs) % 256 ≡ b = omega arith in
-    rw (q, m) (ap (λ (l : List ℕ). b ∷ l) (bytes-number bs (λ i. h (suc i))))
-
 module _ (p t : List ℕ) (small : (i : ℕ) → getD p i 0 < 256) where
-  eight : (i : ℕ) → i + 8 ≤ length p → bytes 8 (word 8 p i) ≡ take 8 (drop i p)
-  unfolding word
-  eight i h =
-      let l : length (take 8 (drop i p)) ≡ 8 = length-take-le 8 (drop i p) (simp length-drop (omega arith)) in
-      sym (ap (λ (n : ℕ). bytes n (number (take 8 (drop i p)))) l) ∙ bytes-number (take 8 (drop i p)) within
-    where
-      taken : (n i : ℕ) (l : List ℕ) → ((j : ℕ) → getD l j 0 < 256) → getD (take n l) i 0 < 256
-      taken zero i l q = omega arith
-      taken (suc n) i [] q = omega arith
-      taken (suc n) zero (x ∷ l) q = q 0
-      taken (suc n) (suc i) (x ∷ l) q = taken n i l (λ j. q (suc j))
-
-      within : (j : ℕ) → getD (take 8 (drop i p)) j 0 < 256
-      within j = taken 8 j (drop i p) (λ k. rw (getD-drop i p k 0) (small (i + k)))
-
   -- the memory's first bytes are those of its slots
   payloads-held : (n : ℕ) → n * 8 ≤ length p → take (n * 8) p ≡ payloadBytes (slotsOf p t n)
   unfolding slotsOf payloadBytes slotAt
   payloads-held zero h = refl
   payloads-held (suc n) h =
       let e : suc n * 8 ≡ n * 8 + 8 = omega arith in
-      rw (e, take-add (n * 8) 8 p) (rw (payloads-held n (omega arith), eight (n * 8) (omega arith)) refl)
+      rw (e, take-add (n * 8) 8 p) (rw (payloads-held n (omega arith), word-bytes p small 8 (n * 8) (omega arith)) refl)
 
   types-held : (n : ℕ) → n ≤ length t → take n t ≡ typeBytes (slotsOf p t n)
   unfolding slotsOf slotAt typeBytes

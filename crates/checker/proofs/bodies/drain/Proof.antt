@@ -24,7 +24,7 @@ loop-holds : tie.Need-loop-holds Inv-loop μ-loop
 loop-holds c = (drain-first _ _ _ _ _ _ ((c .before .before .before .before .before .pre) .0), refl)
 
 find-requires : tie.Need-find-requires Inv-loop μ-loop
-find-requires c κs = omega (arith, (c .before .before .before .before .before .before .before .pre) .0 .packed .labels-is, (c .before .before .before .before .before .before .before .pre) .0 .fits .mark-for, (c .before .loop) .inv .0 .grows .many)
+find-requires c κs = (omega (arith, (c .before .before .before .before .before .before .before .pre) .0 .packed .few-labels), (c .before .loop) .inv .0 .grows .many ∙ (c .before .before .before .before .before .before .before .pre) .0 .fits .whole)
 
 same-length : tie.Need-same-length Inv-loop μ-loop
 same-length c = (c .before .before .before .loop) .inv .0 .grows .long

@@ -1,39 +1,50 @@
+use denote.Ref.{now}
+use native.Mathlib.Omega.{arith}
+use mathlib.Core.Path.{_≡_, ap}
+use Prim.Native.Nat.{ℕ, _≤_, _<_, _-_, _*_, _+_}
 use Rattle.checker.specs.Work.{markOf}
-use mathlib.Core.Path.{_≡_}
-use Prim.Native.Nat.{ℕ, _≤_, _<_, _-_}
-use borrow.Author.Count.{below-more}
-use borrow.Author.Needs.{needs}
+use Rattle.checker.proofs.Blocks.{none-first, none-below}
 use Rattle.checker.proofs.bodies.find.Statement.{statement}
 use Rattle.checker.proofs.bodies.find.Tie as tie
 use Rattle.checker.proofs.bodies.find.Reads as reads
 use Rattle.checker.proofs.bodies.find.Lts as lts
+use Rattle.checker.proofs.bodies.find_in.Reads as find-in-reads
 
 abbrev Inv-loop : tie.InvT-loop
-Inv-loop marks n i₀ i = (i ≤ n) × ((k : ℕ) → k < i → markOf marks k ≡ 1 → ⊥)
+Inv-loop marks n block₀ block = (block ≤ 8) × ((k : ℕ) → k < 32 * block → markOf marks k ≡ 1 → ⊥)
 
 abbrev μ-loop : tie.MeasureT-loop
-μ-loop marks n i₀ i = n - i
+μ-loop marks n block₀ block = 8 - block
 
 loop-holds : tie.Need-loop-holds Inv-loop μ-loop
-loop-holds c = search needs
+loop-holds c = (omega arith, none-first (now ((c .before .args) .marks)))
 
-shared-slice-read-if1 : tie.Need-shared-slice-read-if1 Inv-loop μ-loop
-shared-slice-read-if1 c = search needs
+mul-loop : tie.Need-mul-loop Inv-loop μ-loop
+mul-loop c = omega arith
+
+mul-at : tie.Need-mul-at Inv-loop μ-loop
+mul-at c = omega arith
+
+find-in-requires : tie.Need-find-in-requires Inv-loop μ-loop
+find-in-requires c κs = (omega (arith, (c .loop-test)), (c .before .before .before .pre) .0, omega (arith, (c .before .before .before .pre) .0, (c .before .before .before .pre) .1, (c .loop-test)), (c .before .before .before .pre) .1)
+
+add-if1 : tie.Need-add-if1 Inv-loop μ-loop
+add-if1 c = omega arith
 
 returns : tie.Need-returns Inv-loop μ-loop
-returns c = search needs
+returns c = ((c .before .find-in) .ensures .1, none-below (now ((c .before .before .before .before .before .args) .marks)) (32 * (c .before .before .before .loop) .block) ((c .before .find-in) .result) ((c .before .before .before .loop) .inv .1) ((c .before .find-in) .ensures .3), λ u. (c .before .find-in) .ensures .4 u ((c .if1) .taken))
 
-add-i : tie.Need-add-i Inv-loop μ-loop
-add-i c = search needs
+add-block : tie.Need-add-block Inv-loop μ-loop
+add-block c = omega arith
 
 loop-less : tie.Need-loop-less Inv-loop μ-loop
-loop-less c = search needs
+loop-less c = omega arith
 
 loop-again : tie.Need-loop-again Inv-loop μ-loop
-loop-again c = (search needs, below-more _ _ ((c .before .before .before .loop) .inv .1) ((c .if1) .left))
+loop-again c = (omega (arith, (c .before .before .before .before .before .pre) .0, (c .before .before .loop-test)), λ k l. none-below (now ((c .before .before .before .before .before .args) .marks)) (32 * (c .before .before .before .loop) .block) ((c .before .find-in) .result) ((c .before .before .before .loop) .inv .1) ((c .before .find-in) .ensures .3) k (omega (arith, (c .if1) .left, (c .before .find-in) .ensures .2)))
 
 returns-2 : tie.Need-returns-2 Inv-loop μ-loop
-returns-2 c = search needs
+returns-2 c = (omega arith, (λ k l. (c .before .loop) .inv .1 k (omega (arith, l, (c .loop-test)))), λ u. absurd (omega (arith, u)))
 
 pub find-spec : {M : Type 1} → statement M
 find-spec =
@@ -42,9 +53,12 @@ find-spec =
     Inv-loop
     μ-loop
     loop-holds
-    shared-slice-read-if1
+    mul-loop
+    mul-at
+    find-in-requires
+    add-if1
     returns
-    add-i
+    add-block
     loop-less
     loop-again
     returns-2)

@@ -1,5 +1,5 @@
 use denote.Ref.{now}
-use Rattle.checker.proofs.Shown.{settled-none, settled-record}
+use Rattle.checker.proofs.Shown.{settled-none, settled-own, settled-record}
 use borrow.Author.Needs.{needs}
 use Rattle.checker.proofs.finish.settle.Statement.{statement}
 use Rattle.checker.proofs.finish.settle.Tie as tie
@@ -24,6 +24,9 @@ same-length c = search needs
 returns : tie.Need-returns
 returns c = settled-none (now ((c .before .before .before .before .before .before .before .before .before .args) .room)) (now ((c .before .before .before .before .before .before .before .before .before .args) .marks)) ((c .before .before .before .before .before .before .before .before .before .args) .i) ((c .before .before .before .before .before .before .before .before .before .args) .k) _ ((c .before .before .before .before .if1) .taken) ((c .before .before .zero) .ensures)
 
+returns-2 : tie.Need-returns-2
+returns-2 c = settled-own (now ((c .before .before .before .before .before .before .args) .room)) (now ((c .before .before .before .before .before .before .args) .marks)) ((c .before .before .before .before .before .before .args) .i) ((c .before .before .before .before .before .before .args) .k) ((c .before .before .before .before .before .before .pre) .0) ((c .before .if1) .left) ((c .if2) .taken)
+
 mul-load : tie.Need-mul-load
 mul-load c = search needs
 
@@ -42,8 +45,8 @@ same-length-2 c = search needs
 same-length-3 : tie.Need-same-length-3
 same-length-3 c = search needs
 
-returns-2 : tie.Need-returns-2
-returns-2 c = settled-record (now ((c .before .before .before .before .before .before .before .before .before .before .before .before .before .before .before .args) .room)) (now ((c .before .before .before .before .before .before .before .before .before .before .before .before .before .before .before .args) .marks)) ((c .before .before .before .before .before .before .before .before .before .before .before .before .before .before .before .args) .i) ((c .before .before .before .before .before .before .before .before .before .before .before .before .before .before .before .args) .k) _ _ ((c .before .before .before .before .before .before .before .before .before .before .if1) .left) ((c .before .before .before .before .before .before .before .load) .ensures) ((c .before .before .save) .ensures)
+returns-3 : tie.Need-returns-3
+returns-3 c = settled-record (now ((c .before .before .before .before .before .before .before .before .before .before .before .before .before .before .before .before .args) .room)) (now ((c .before .before .before .before .before .before .before .before .before .before .before .before .before .before .before .before .args) .marks)) ((c .before .before .before .before .before .before .before .before .before .before .before .before .before .before .before .before .args) .i) ((c .before .before .before .before .before .before .before .before .before .before .before .before .before .before .before .before .args) .k) _ _ ((c .before .before .before .before .before .before .before .before .before .before .before .if1) .left) ((c .before .before .before .before .before .before .before .load) .ensures) ((c .before .before .save) .ensures)
 
 pub settle-spec : {M : Type 1} → statement M
 settle-spec =
@@ -54,10 +57,11 @@ settle-spec =
     zero-requires
     same-length
     returns
+    returns-2
     mul-load
     load-requires
     mul-save
     save-requires
     same-length-2
     same-length-3
-    returns-2)
+    returns-3)

@@ -1,32 +1,35 @@
+use Rattle.rules.specs.Bytes.{written}
 use denote.Ref.{now}
-use lib.ListN.{length, drop, length-set}
 use lib.Seq.{paste, paste-zero}
-use mathlib.Core.Path.{_≡_, refl, _∙_}
-use Prim.Native.Nat.{_≤_, _-_}
+use lib.ListN.{length, drop, length-drop}
+use mathlib.Core.Path.{_≡_, refl, ap, _∙_, sym}
+use Prim.Native.Nat.{ℕ, _≤_, _-_, _+_, _*_, _/_}
 use native.Mathlib.Omega.{arith}
-use Rattle.checker.proofs.Copies.{load-more, load-end}
+use Rattle.checker.proofs.Copies.{load-more, load-end, pasted-long}
 use Rattle.checker.proofs.room.load.Statement.{statement}
 use Rattle.checker.proofs.room.load.Tie as tie
 use Rattle.checker.proofs.room.load.Reads as reads
 use Rattle.checker.proofs.room.load.Lts as lts
+use Rattle.memory.proofs.load64.Reads as load64-reads
+use Rattle.memory.proofs.store64.Reads as store64-reads
 
 abbrev Inv-loop : tie.InvT-loop
-Inv-loop room at st₀ i₀ st i = (i ≤ 64) × (st ≡ paste st₀ 0 (drop at room) i) × (length st ≡ length st₀)
+Inv-loop room at st₀ i₀ st i = (i ≤ 64) × (8 * (i / 8) ≡ i) × (st ≡ paste st₀ 0 (drop at room) i) × (length st ≡ length st₀)
 
 abbrev μ-loop : tie.MeasureT-loop
 μ-loop room at st₀ i₀ st i = 64 - i
 
 loop-holds : tie.Need-loop-holds Inv-loop μ-loop
-loop-holds c = (omega arith, paste-zero (now (c .args .st)) 0 (drop (c .args .at) (now (c .args .room))), refl)
+loop-holds c = (omega arith, omega arith, paste-zero (now ((c .before .before .args) .st)) 0 (drop ((c .before .before .args) .at) (now ((c .before .before .args) .room))), refl)
 
-add-st : tie.Need-add-st Inv-loop μ-loop
-add-st c = omega arith
+add-load64 : tie.Need-add-load64 Inv-loop μ-loop
+add-load64 c = omega arith
 
-shared-slice-read-st : tie.Need-shared-slice-read-st Inv-loop μ-loop
-shared-slice-read-st c = omega arith
+load64-requires : tie.Need-load64-requires Inv-loop μ-loop
+load64-requires c κs = omega arith
 
-slice-write-st : tie.Need-slice-write-st Inv-loop μ-loop
-slice-write-st c = omega arith
+store64-requires : tie.Need-store64-requires Inv-loop μ-loop
+store64-requires c κs = omega arith
 
 add-i : tie.Need-add-i Inv-loop μ-loop
 add-i c = omega arith
@@ -35,14 +38,13 @@ loop-less : tie.Need-loop-less Inv-loop μ-loop
 loop-less c = omega arith
 
 loop-again : tie.Need-loop-again Inv-loop μ-loop
-loop-again c = let l = c .before .before .loop in let a = c .before .before .before .args in
-    (omega arith, rw (l .inv .1) (load-more (now (a .st)) (now (a .room)) (a .at) (l .i) (omega arith) (omega arith)), length-set (l .st) _ _ ∙ l .inv .2)
+loop-again c = let more = load-more (now ((c .before .before .before .before .before .before .before .before .before .args) .st)) (now ((c .before .before .before .before .before .before .before .before .before .args) .room)) ((c .before .before .before .before .before .before .before .before .before .args) .at) ((c .before .before .before .before .before .before .loop) .i) (λ j. (c .before .before .before .before .before .before .before .before .shared-slice-known) .given j .fits) (omega arith) ((c .before .before .before .before .before .before .loop) .inv .1) ((c .before .before .before .before .before .before .before .before .before .pre) .0) ((c .before .before .before .before .before .before .before .before .before .pre) .1) _ ((c .before .before .before .before .load64) .result) ((c .before .before .before .before .load64) .ensures .0) ((c .before .before .store64) .ensures ∙ ap (λ x. written 8 x ((c .before .before .before .before .before .before .loop) .i) ((c .before .before .before .before .load64) .result)) ((c .before .before .before .before .before .before .loop) .inv .2)) in let d = length-drop ((c .before .before .before .before .before .before .before .before .before .args) .at) (now ((c .before .before .before .before .before .before .before .before .before .args) .room)) in (omega arith, omega arith, more, pasted-long (now ((c .before .before .before .before .before .before .before .before .before .args) .st)) (drop ((c .before .before .before .before .before .before .before .before .before .args) .at) (now ((c .before .before .before .before .before .before .before .before .before .args) .room))) 0 ((c .before .before .before .before .before .before .loop) .i + 8) _ (omega arith) (omega (arith, d, (c .before .before .before .before .before .before .before .before .before .pre) .0)) (omega arith) more)
 
 same-length : tie.Need-same-length Inv-loop μ-loop
-same-length c = c .before .loop .inv .2
+same-length c = (c .before .loop) .inv .3
 
 returns : tie.Need-returns Inv-loop μ-loop
-returns c = let a = c .before .before .args in c .before .loop .inv .1 ∙ load-end (now (a .st)) (now (a .room)) (a .at) (c .before .loop .i) (omega arith) (omega arith)
+returns c = (c .before .loop) .inv .2 ∙ load-end (now ((c .before .before .before .before .args) .st)) (now ((c .before .before .before .before .args) .room)) ((c .before .before .before .before .args) .at) ((c .before .loop) .i) ((c .before .before .before .before .pre) .1) (omega arith)
 
 pub load-spec : {M : Type 1} → statement M
 load-spec =
@@ -51,9 +53,9 @@ load-spec =
     Inv-loop
     μ-loop
     loop-holds
-    add-st
-    shared-slice-read-st
-    slice-write-st
+    add-load64
+    load64-requires
+    store64-requires
     add-i
     loop-less
     loop-again
