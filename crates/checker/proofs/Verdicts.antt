@@ -1,6 +1,7 @@
 -- The check's answer and its room, from the verdict and the last pass.
 use Prim.Native.Nat.{ℕ, zero, suc, _+_, _*_, _-_, _≤_, _<_}
 use mathlib.Core.Path.{_≡_, refl, ap, _∙_, sym, subst}
+use mathlib.Core.Logic.{_⊎_, inl, inr}
 use native.Mathlib.Omega.{arith}
 use mathlib.Core.Bool.{Bool, true, false, cond}
 use mathlib.Core.Option.{Option, none, some}
@@ -13,16 +14,19 @@ use Rattle.rules.specs.ModuleFile.{refusal, labels, functions, codeLength, Body
 use Rattle.rules.specs.Check.{bodies, firstUntyped, labelRecord, labelRecords}
 use Rattle.rules.specs.declared.CheckAnswer.{CheckAnswer}
 use Rattle.rules.specs.declared.CheckAnswer.the-variants.{Refused, Untyped, Accepted}
-use Rattle.rules.specs.Answers.{Checked, checked, judged, checkWith, check}
+use Rattle.rules.specs.Numbers.{done}
+use Rattle.rules.specs.Demand3.{Demand3}
+use Rattle.rules.specs.Answers.{checkNumber, Checked, checked, judged, checkWith, check}
 use Rattle.format.specs.declared.Sections.{Sections}
 use Rattle.format.specs.Layout.{Packed, sectionsOf}
 use Rattle.reader.specs.declared.Opened.the-variants as Opened
 use Rattle.reader.specs.Answers.{answer, openedOf}
 use Rattle.reader.proofs.Opening.{opened-refused}
-use Rattle.soundness.specs.Tests.{ltb-yes, ltb-no}
+use Rattle.soundness.specs.Tests.{decide, ltb-isnt, ltb-yes, ltb-no}
+use Rattle.soundness.specs.Whole.{demand3}
 use Rattle.soundness.specs.Readable.{Has, label-is}
 use Rattle.checker.specs.declared.bodies.Verdict.the-variants.{Typed as AllTyped, Untyped as NotTyped}
-use Rattle.checker.specs.Work.{ownerOf, placeOf, Tabled, recordOf, Fits, Grows, Sound, Quiet, Started, shownAt, nodeOf, Finished, Decides, VerdictIs, CheckIs}
+use Rattle.checker.specs.Work.{ownerOf, placeOf, Tabled, recordOf, Fits, Grows, Sound, Quiet, Started, shownAt, nodeOf, Finished, Decides, VerdictIs, CheckIs, Exactly}
 use Rattle.checker.proofs.Copies.{cleared}
 use Rattle.checker.proofs.Numbering.{label-at}
 use Rattle.checker.proofs.Covering.{Typed, typed, all-typed, shown-is}
@@ -100,3 +104,54 @@ fits-first s c room p h =
     let e : c .labels ≡ labels s = p .labels-is in
     let f : c .labels ≤ 256 = p .few-labels in
     let l : length (replicate {A = ℕ} 256 0) ≡ 256 = length-replicate {A = ℕ} 256 0 in record { room-for = omega arith; mark-for = omega arith; whole = l }
+
+-- ---- exactness, by the theorem of the crate soundness
+
+module _ (s room : List ℕ) (r : CheckAnswer) (room′ : List ℕ) (c : CheckIs s room r room′) where
+  answer-is : r ≡ check s room .answer
+  answer-is = ap (λ (x : Checked). x .answer) c
+
+  -- an accepted module can be read, and the room is enough
+  accepted-opens : check s room .answer ≡ Accepted → (refusal s ≡ 0) × (64 * labels s ≤ length room)
+  unfolding check
+  accepted-opens e = go (refusal s) refl (e)
+    where
+      clash : (n : ℕ) → Refused n ≡ Accepted → ⊥
+      clash n q = let z : _≡_ {A = ℕ} 0 1 = cc in omega arith
+
+      go : (n : ℕ) → refusal s ≡ n → checkWith s room n .answer ≡ Accepted → (n ≡ 0) × (64 * labels s ≤ length room)
+      go (suc n) w q = absurd (clash (suc n) q)
+      go zero w q = (refl, decide (ltb (length room) (64 * labels s)) (λ y. absurd (clash 10 (rw y at q))) (λ y. ltb-isnt (length room) (64 * labels s) y))
+
+  number-done : (a : CheckAnswer) → checkNumber a ≡ done → (a ≡ Accepted) ⊎ ((n : ℕ) × (a ≡ Refused n) × (n ≡ 0))
+  number-done (Refused n) e = inr (n, refl, e)
+  number-done (Untyped n) e = absurd (omega arith)
+  number-done Accepted e = inl refl
+
+  never-zero : check s room .answer ≡ Refused 0 → ⊥
+  unfolding check
+  never-zero e = go (refusal s) e
+    where
+      other : (m n : ℕ) → Refused (suc m) ≡ Refused n → n ≡ 0 → ⊥
+      other m n q z = let k : suc m ≡ n = cc in omega arith
+
+      judged-not : (o : Option Body) → judged s room o .answer ≡ Refused 0 → ⊥
+      judged-not none q = let z : _≡_ {A = ℕ} 0 1 = cc in omega arith
+      judged-not (some b) q = let z : _≡_ {A = ℕ} 0 1 = cc in omega arith
+
+      go : (n : ℕ) → checkWith s room n .answer ≡ Refused 0 → ⊥
+      go (suc n) q = other n 0 q refl
+      go zero q = decide (ltb (length room) (64 * labels s)) (λ y. other 9 0 (rw y at q) refl) (λ y. judged-not (firstUntyped (read s) (bodies (functions s))) (rw y at q))
+
+  pub exactly : Exactly s room r
+  exactly =
+      record {
+        sound = λ e. let a : check s room .answer ≡ Accepted = sym answer-is ∙ e in let o : (refusal s ≡ 0) × (64 * labels s ≤ length room) = accepted-opens a in
+            demand3 .exact s room (o .0) (o .1) .0 (ap checkNumber a);
+        complete = λ e l w. answer-is ∙ pick (number-done (check s room .answer) (demand3 .exact s room e l .1 w));
+        first = λ n e. demand3 .first-untyped s room n (sym answer-is ∙ e);
+      }
+    where
+      pick : (check s room .answer ≡ Accepted) ⊎ ((n : ℕ) × (check s room .answer ≡ Refused n) × (n ≡ 0)) → check s room .answer ≡ Accepted
+      pick (inl x) = x
+      pick (inr x) = absurd (never-zero (x .1 ∙ ap Refused (x .2)))

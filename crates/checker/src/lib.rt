@@ -11,7 +11,7 @@ ghost use lib.ListN.{length};
 ghost use Rattle.rules.specs.ModuleFile.{refusal};
 ghost use Rattle.format.specs.Layout.{Packed};
 ghost use Rattle.reader.specs.Cut.{Blank};
-ghost use Rattle.checker.specs.Work.{CheckIs};
+ghost use Rattle.checker.specs.Work.{CheckIs, Exactly};
 use crate::bodies::Verdict;
 use format::Sections;
 use reader::Opened;
@@ -98,6 +98,7 @@ fn check_opened(file: &[u8], c: Sections, room: &mut [u8]) -> CheckAnswer
 // without typing, or 0.
 pub fn check(file: &[u8], room: &mut [u8]) -> CheckAnswer
     ensures { λ r. ⌜ CheckIs (now (file .entry)) (now (room .entry)) r (now (room .exit)) ⌝ }
+    ensures { λ r. ⌜ Exactly (now (file .entry)) (now (room .entry)) r ⌝ }
 {
     let opened = reader::open(file);
     match opened {

@@ -56,7 +56,7 @@ pub(crate) fn land(
     ensures { λ r. ⌜ Turned (now (file .entry)) (now (table .entry)) (bodyOf owner) q (listsOf (now (st .entry))) ((q, listsOf (now (st .entry))) ∷ []) (now (room .entry)) (now (marks .entry)) (now (room .exit)) (now (marks .exit)) r ⌝ }
 {
     if q == e {
-        return Turn::Goes(q);
+        return Turn::Goes(e);
     }
     let v = crate::nodes::node_at(table, q);
     if v == 0 {

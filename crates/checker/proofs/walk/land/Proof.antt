@@ -12,7 +12,7 @@ use Rattle.checker.proofs.nodes.node_at.Reads as node-at-reads
 use Rattle.checker.proofs.walk.arrive.Reads as arrive-reads
 
 returns : tie.Need-returns
-returns c = passes-on _ _ _ _ _ _ _ _ ((c .before .before .before .before .before .before .pre) .0 .sound) (omega arith) ((c .before .before .before .before .before .before .pre) .1 .0 .stands) (inl ((c .if1) .taken ∙ (c .before .before .before .before .before .before .pre) .1 .1))
+returns c = rw (sym ((c .if1) .taken)) (passes-on _ _ _ _ _ _ _ _ ((c .before .before .before .before .before .before .pre) .0 .sound) (omega arith) ((c .before .before .before .before .before .before .pre) .1 .0 .stands) (inl ((c .if1) .taken ∙ (c .before .before .before .before .before .before .pre) .1 .1)))
 
 node-at-requires : tie.Need-node-at-requires
 node-at-requires c κs = search needs
