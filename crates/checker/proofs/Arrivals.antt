@@ -19,7 +19,7 @@ use Rattle.soundness.specs.Readable.{Has, has-end, label-is, label-own, label-i
 use Rattle.records.specs.Record.{listsOf, Holds, Labelled}
 use Rattle.records.specs.Canon.{holds-record}
 use Rattle.checker.specs.Work.{placeOf, ownerOf, Tabled, recordOf, markOf, Fits, Grows, Merged, Recorded, WalkedIn, Sound, Working, Standing, Refuted, Left}
-use Rattle.checker.proofs.Copies.{drop-past, part-same, record-other}
+use Rattle.checker.proofs.Copies.{positive, drop-past, part-same, record-other}
 use Rattle.checker.proofs.Growth.{grows-refl, walked-grows}
 use Rattle.checker.proofs.Numbering.{label-at}
 
@@ -106,10 +106,6 @@ module _ (s table : List ℕ) (t : Tabled s table) (b : Body) (room marks : List
   -- ---- a later one
 
   module _ (seen : markOf marks k ≡ 0 → ⊥) where
-    positive : (n : ℕ) → (n ≡ 0 → ⊥) → 0 < n
-    positive zero h = absurd (h refl)
-    positive (suc n) h = omega arith
-
     known : 0 < markOf marks k
     known = positive (markOf marks k) seen
 

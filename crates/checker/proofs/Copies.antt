@@ -6,7 +6,7 @@ use mathlib.Core.List.{List, [], _∷_, _++_, append-assoc, append-nil}
 use mathlib.Core.Logic.{_≢_}
 use native.Mathlib.Numerals.{add-one}
 use native.Mathlib.Omega.{arith}
-use lib.ListN.{getD, length, take, drop, set, replicate, length-drop, length-replicate}
+use lib.ListN.{getD, length, take, drop, set, replicate, length-drop, length-replicate, take-append-drop}
 use lib.Seq.{paste, paste-suc, length-paste, take-take, take-add, ext-getD, length-take-le, take-length, drop-length, getD-take, getD-drop, drop-drop, drop-paste, drop-at, take-at, drop-append-le, take-append-le}
 use lib.Dec.{eqb, ltb}
 use Rattle.rules.specs.Bytes.{number, word, written}
@@ -100,11 +100,6 @@ cleared d n =
 -- ---- the room with a record written at a byte
 
 module _ (room st : List ℕ) (at : ℕ) (h : at + 64 ≤ length room) (l : length st ≡ 64) where
-  halves : (n : ℕ) (x : List ℕ) → take n x ++ drop n x ≡ x
-  halves zero x = refl
-  halves (suc n) [] = refl
-  halves (suc n) (a ∷ x) = ap (λ (y : List ℕ). a ∷ y) (halves n x)
-
   -- behind it
   pub drop-past : (k : ℕ) → at + 64 ≤ k → drop k (paste room at st 64) ≡ drop k room
   drop-past k g =
@@ -121,7 +116,7 @@ module _ (room st : List ℕ) (at : ℕ) (h : at + 64 ≤ length room) (l : leng
       ap (λ (x : List ℕ). take at room ++ take 64 x ++ drop (at + 64) room) e
       ∙ ap (λ (x : List ℕ). take at room ++ x ++ drop (at + 64) room) (take-take 64 64 (drop at room) (omega arith))
       ∙ ap (λ (x : List ℕ). x ++ drop (at + 64) room) (sym (take-add at 64 room))
-      ∙ halves (at + 64) room
+      ∙ take-append-drop (at + 64) room
 
   in-head : (a b : List ℕ) (k m : ℕ) → k + m ≤ length a → take m (drop k (a ++ b)) ≡ take m (drop k a)
   in-head a b k m g =
@@ -136,7 +131,7 @@ module _ (room st : List ℕ) (at : ℕ) (h : at + 64 ≤ length room) (l : leng
       ap (λ (x : List ℕ). take 64 (drop k x)) (append-assoc a (take 64 st) (drop (at + 64) room))
       ∙ in-head a (take 64 st ++ drop (at + 64) room) k 64 (omega arith)
       ∙ sym (in-head a (drop at room) k 64 (omega arith))
-      ∙ ap (λ (x : List ℕ). take 64 (drop k x)) (halves at room)
+      ∙ ap (λ (x : List ℕ). take 64 (drop k x)) (take-append-drop at room)
 
   pub part-same : take 64 (drop at (paste room at st 64)) ≡ st
   part-same =
@@ -156,3 +151,7 @@ record-other room st k j h l ne =
   where
     later : k ≤ j → k < j
     later g = decide (ltb k j) (λ y. ltb-is k j y) (λ y. let w : j ≤ k = ltb-isnt k j y in absurd (ne (omega arith)))
+
+pub positive : (n : ℕ) → (n ≡ 0 → ⊥) → 0 < n
+positive zero h = absurd (h refl)
+positive (suc n) h = omega arith

@@ -21,6 +21,7 @@ use Rattle.soundness.specs.Walks.{Covered, covered, Seen, seen-node, met}
 use Rattle.records.specs.Record.{listsOf, Holds}
 use Rattle.records.specs.Canon.{holds-record}
 use Rattle.checker.specs.Work.{placeOf, ownerOf, Tabled, recordOf, markOf, Recorded, Passed, WalkedIn, GoesIn, Sound, Quiet, Started, Refuted, shownAt, nodeOf, Finished}
+use Rattle.checker.proofs.Copies.{positive}
 use Rattle.checker.proofs.Numbering.{label-at}
 use Rattle.checker.proofs.Shown.{shows-none, shows-record}
 
@@ -143,10 +144,6 @@ module _ (s table : List ℕ) (e : refusal s ≡ 0) (t : Tabled s table) (room m
               let v : r .2 ≡ nodeOf s table k = omega arith in
               let g : 0 < markOf marks (r .2) = r .4 in
               let h : markOf marks (r .2) ≡ 0 = ap (markOf marks) v ∙ m in absurd (omega arith)
-
-      positive : (n : ℕ) → (n ≡ 0 → ⊥) → 0 < n
-      positive zero h = absurd (h refl)
-      positive (suc n) h = omega arith
 
       -- what has flowed to it is what the table gives there
       seen : (markOf marks (nodeOf s table k) ≡ 0 → ⊥) → (out : Table) → checkBody (read s) b ≡ some out → getD out (placeOf s k) none ≡ some (listsOf (recordOf room (nodeOf s table k)))

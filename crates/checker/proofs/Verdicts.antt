@@ -6,7 +6,7 @@ use native.Mathlib.Omega.{arith}
 use mathlib.Core.Bool.{Bool, true, false, cond}
 use mathlib.Core.Option.{Option, none, some}
 use mathlib.Core.List.{List, [], _∷_, _++_}
-use lib.ListN.{length, getD, take, drop, replicate, length-replicate}
+use lib.ListN.{length, getD, take, drop, replicate, length-replicate, take-append-drop}
 use lib.Seq.{paste, take-add}
 use lib.Dec.{ltb}
 use Rattle.rules.specs.Bytes.{zeros}
@@ -71,17 +71,12 @@ module _ (s : List ℕ) (e : refusal s ≡ 0) (room : List ℕ) where
       ap (λ (k : ℕ). take k x) q ∙ take-add (64 * n) 64 x ∙ ap (λ (y : List ℕ). y ++ recordOf x n) (records-are x n (λ k l. f k (omega arith)))
       ∙ ap (λ (y : List ℕ). labelRecords (read s) n ++ y) (f n (omega arith))
 
-  halves : (n : ℕ) (x : List ℕ) → take n x ++ drop n x ≡ x
-  halves zero x = refl
-  halves (suc n) [] = refl
-  halves (suc n) (a ∷ x) = ap (λ (y : List ℕ). a ∷ y) (halves n x)
-
   pub typed-check : 64 * labels s ≤ length room → (table marks room₁ marks₁ : List ℕ) → Tabled s table → VerdictIs s table room marks room₁ marks₁ AllTyped
       → (room′ : List ℕ) → Finished s table marks₁ 0 room₁ room′ → CheckIs s room Accepted room′
   typed-check h table marks room₁ marks₁ t v room′ f =
       let recs : take (64 * labels s) room′ ≡ labelRecords (read s) (labels s) = records-are room′ (labels s) each in
       let r : room′ ≡ labelRecords (read s) (labels s) ++ drop (64 * labels s) room =
-      sym (halves (64 * labels s) room′) ∙ ap (λ (x : List ℕ). x ++ drop (64 * labels s) room′) recs
+      sym (take-append-drop (64 * labels s) room′) ∙ ap (λ (x : List ℕ). x ++ drop (64 * labels s) room′) recs
       ∙ ap (λ (x : List ℕ). labelRecords (read s) (labels s) ++ x) (f .rest ∙ v .grows .rest) in
       ap (checked Accepted) r ∙ judged-check h none (all-typed s (found entry tt) (λ i l. found (fn i) l))
     where
