@@ -1,0 +1,72 @@
+-- What the public functions promise: answer and lent memory equal to the definitions', and demand 3 of this very check or run.
+use mathlib.Core.Path.{_≡_}
+use Prim.Native.Nat.{ℕ, _*_, _≤_}
+use mathlib.Core.Option.{some}
+use mathlib.Core.List.{List}
+use lib.ListN.{length, take, drop}
+use Rattle.rules.specs.declared.CheckAnswer.{CheckAnswer}
+use Rattle.rules.specs.declared.CheckAnswer.the-variants.{Untyped}
+use Rattle.rules.specs.declared.RunAnswer.{RunAnswer}
+use Rattle.rules.specs.Numbers.{done}
+use Rattle.rules.specs.ModuleFile.{refusal, labels, Body, bodyOf, read}
+use Rattle.rules.specs.Stack.{Lent, capacity}
+use Rattle.rules.specs.Machine.{State, Outcome}
+use Rattle.rules.specs.Typing.{WellTyped}
+use Rattle.rules.specs.Answers.{checkNumber, checked, check, runNumber, runRefusal, arguments, startState, Ran, ran, runModule}
+use Rattle.rules.specs.Host.{bodyAfter, stepsAfter, heightAfter}
+use Rattle.rules.specs.Demand3.{IsAccepted, FirstUntyped, Shows, End, Kept, Leaves}
+
+abbrev pub lentOf : List ℕ → List ℕ → Lent
+lentOf p t = record { payloads = p; types = t }
+
+-- ---- the check
+
+-- demand 3, first part, of a check of s that answered this number, with this room after
+pub record Exact (s room : List ℕ) (number : ℕ) (room′ : List ℕ) : Type 0 where
+  -- where the module can be read and the room is enough: accepted exactly when every body has a consistent typing
+  pub accepts : refusal s ≡ 0 → 64 * labels s ≤ length room → (number ≡ done → WellTyped (read s)) × (WellTyped (read s) → number ≡ done)
+  -- what each label's record shows
+  pub shows : number ≡ done → (i : ℕ) (b : Body) (p : ℕ) → read s .label i ≡ some (b, p) → Shows (read s) b p (take 64 (drop (64 * i) room′))
+
+pub record CheckKeeps (s room : List ℕ) (a : CheckAnswer) (room′ : List ℕ) : Type 0 where
+  -- answer and room are the definition's
+  pub same : checked a room′ ≡ check s room
+  pub exact : Exact s room (checkNumber a) room′
+  -- 11 names a body without typing, while every earlier one has one
+  pub first-untyped : (n : ℕ) → a ≡ Untyped n → FirstUntyped s n
+
+-- ---- the run
+
+-- the state in which the run of body f starts
+abbrev pub startOf : List ℕ → ℕ → Lent → State
+startOf s f args = startState (read s) (bodyOf f) (arguments args)
+
+-- demand 3, second and third part, of a run of body f of s on these arguments and slots that answered this number
+pub record Sound (s : List ℕ) (f : ℕ) (args x : Lent) (number : ℕ) : Type 0 where
+  -- one of the four ends
+  pub ends : (room : List ℕ) → IsAccepted s room → runRefusal s f args ≡ 0 → End number
+  -- the slots below each of its calls are kept
+  pub kept : (room : List ℕ) → IsAccepted s room → runRefusal s f args ≡ 0 → Kept (read s) (capacity x) (startOf s f args)
+
+pub record RunKeeps (s : List ℕ) (f : ℕ) (args : Lent) (allowance : ℕ) (x : Lent) (a : RunAnswer) (x′ : Lent) : Type 0 where
+  -- answer, steps, height and slots are the definition's
+  pub same : _≡_ {A = Ran} (record { answer = a; stack = x′ }) (runModule s f args allowance x)
+  pub sound : Sound s f args x (runNumber a)
+  -- a run that starts leaves what stands at one of the moments that `kept` speaks of
+  pub left : runRefusal s f args ≡ 0 → length (arguments args) ≤ capacity x
+      → (o : Outcome) × Leaves (read s) (capacity x) (startOf s f args) allowance o × (_≡_ {A = Ran} (record { answer = a; stack = x′ }) (ran o x))
+
+-- ---- the same through the C interface
+
+pub record HostCheckKeeps (s room : List ℕ) (body number : ℕ) (room′ : List ℕ) (body′ : ℕ) : Type 0 where
+  pub number-is : number ≡ checkNumber (check s room .answer)
+  pub room-is : room′ ≡ check s room .room
+  pub body-is : body′ ≡ bodyAfter (check s room .answer) body
+  pub exact : Exact s room number room′
+
+pub record HostRunKeeps (s : List ℕ) (f : ℕ) (args : Lent) (allowance : ℕ) (x : Lent) (steps height number : ℕ) (x′ : Lent) (steps′ height′ : ℕ) : Type 0 where
+  pub number-is : number ≡ runNumber (runModule s f args allowance x .answer)
+  pub stack-is : x′ ≡ runModule s f args allowance x .stack
+  pub steps-is : steps′ ≡ stepsAfter (runModule s f args allowance x .answer) steps
+  pub height-is : height′ ≡ heightAfter (runModule s f args allowance x .answer) height
+  pub sound : Sound s f args x number

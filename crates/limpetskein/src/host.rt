@@ -1,0 +1,83 @@
+// The C interface: the paper's number is the answer, and what else an answer holds goes through pointers.
+ghost use mathlib.Core.Path.{_≡_};
+ghost use Rattle.rules.specs.Answers.{checkNumber, runNumber};
+ghost use Rattle.rules.specs.Host.{bodyAfter, stepsAfter, heightAfter};
+ghost use Rattle.limpetskein.specs.Promises.{lentOf, HostCheckKeeps, HostRunKeeps};
+use rules::CheckAnswer;
+use rules::RunAnswer;
+
+const NO_TYPING: u32 = 11;
+
+// An answer's number. The body without typing is written with 11 only.
+fn check_number(answer: CheckAnswer, body: &mut u32) -> u32
+    ensures { λ r. ⌜ (r ≡ checkNumber answer) × (now (body .exit) ≡ bodyAfter answer (now (body .entry))) ⌝ }
+{
+    match answer {
+        CheckAnswer::Refused(n) => n,
+        CheckAnswer::Untyped(b) => {
+            *body = b;
+            NO_TYPING
+        }
+        CheckAnswer::Accepted => 0,
+    }
+}
+
+// `check` for C.
+#[no_mangle]
+pub extern "C" fn limpetskein_check(file: &[u8], room: &mut [u8], body: &mut u32) -> u32
+    ensures { λ r. ⌜ HostCheckKeeps (now (file .entry)) (now (room .entry)) (now (body .entry)) r (now (room .exit)) (now (body .exit)) ⌝ }
+{
+    let answer = crate::check(file, room);
+    check_number(answer, body)
+}
+
+// The number of a run that did not finish; of one that did, 0. A refusal writes nothing.
+fn stop(answer: RunAnswer, steps: &mut u64, height: &mut u64) -> u32
+    ensures { λ r. ⌜ (r ≡ runNumber answer) × (now (steps .exit) ≡ stepsAfter answer (now (steps .entry))) × (now (height .exit) ≡ heightAfter answer (now (height .entry))) ⌝ }
+{
+    match answer {
+        RunAnswer::Rejected(n) => n,
+        RunAnswer::Stopped(n, tally) => {
+            *steps = tally.steps;
+            *height = tally.height;
+            n
+        }
+        RunAnswer::Finished(tally) => {
+            *steps = tally.steps;
+            *height = tally.height;
+            0
+        }
+    }
+}
+
+// `run` for C: takes steps and height out of a finished run, or stops with the number.
+#[no_mangle]
+pub extern "C" fn limpetskein_run(
+    file: &[u8],
+    function: u32,
+    arg_types: &[u8],
+    arg_payloads: &[u8],
+    allowance: u64,
+    payloads: &mut [u8],
+    types: &mut [u8],
+    steps: &mut u64,
+    height: &mut u64,
+) -> u32
+    ensures { λ r. ⌜ HostRunKeeps (now (file .entry)) function (lentOf (now («arg_payloads» .entry)) (now («arg_types» .entry))) allowance (lentOf (now (payloads .entry)) (now (types .entry))) (now (steps .entry)) (now (height .entry)) r (lentOf (now (payloads .exit)) (now (types .exit))) (now (steps .exit)) (now (height .exit)) ⌝ }
+{
+    let answer = crate::run(
+        file,
+        function,
+        arg_payloads,
+        arg_types,
+        allowance,
+        payloads,
+        types,
+    );
+    let RunAnswer::Finished(tally) = answer else {
+        return stop(answer, steps, height);
+    };
+    *steps = tally.steps;
+    *height = tally.height;
+    0
+}

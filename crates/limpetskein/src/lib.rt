@@ -1,0 +1,36 @@
+// The public library: the check of any bytes, and the run of any body of any bytes.
+ghost use Rattle.limpetskein.specs.Promises.{lentOf, CheckKeeps, RunKeeps};
+use rules::CheckAnswer;
+use rules::RunAnswer;
+
+mod host;
+
+// The check of any bytes in the lent room, of which 64 bytes a label are used.
+pub fn check(file: &[u8], room: &mut [u8]) -> CheckAnswer
+    ensures { λ r. ⌜ CheckKeeps (now (file .entry)) (now (room .entry)) r (now (room .exit)) ⌝ }
+{
+    checker::check(file, room)
+}
+
+// The run of a body of any bytes on the lent arguments and slots. ffffffff names the entry.
+pub fn run(
+    file: &[u8],
+    function: u32,
+    arg_payloads: &[u8],
+    arg_types: &[u8],
+    allowance: u64,
+    payloads: &mut [u8],
+    types: &mut [u8],
+) -> RunAnswer
+    ensures { λ r. ⌜ RunKeeps (now (file .entry)) function (lentOf (now («arg_payloads» .entry)) (now («arg_types» .entry))) allowance (lentOf (now (payloads .entry)) (now (types .entry))) r (lentOf (now (payloads .exit)) (now (types .exit))) ⌝ }
+{
+    runs::run(
+        file,
+        function,
+        arg_payloads,
+        arg_types,
+        allowance,
+        payloads,
+        types,
+    )
+}

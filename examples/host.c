@@ -1,0 +1,86 @@
+/*
+ * An example host: checks a recipe, then runs its function 0 for each pixel of a row.
+ *
+ *     host MODULE PIXEL...
+ *
+ * Function 0 takes three ints, a pixel, a black point and a gain, and returns an int, as samples/parameters.lsk
+ * does. The host prints the row that comes out; or it stops with the number, which is also its exit status.
+ */
+#include <stdio.h>
+#include <stdlib.h>
+
+#include "limpetskein.h"
+
+enum { PARAMETERS = 3, SLOTS = 64, ALLOWANCE = 10000, BLACK = 16, GAIN = 2, FAILED = 1000 };
+
+static uint8_t module[LIMPETSKEIN_LONGEST_MODULE + 1];
+static uint8_t room[LIMPETSKEIN_MOST_LABELS * LIMPETSKEIN_ROOM_PER_LABEL];
+static uint8_t payloads[8 * SLOTS];
+static uint8_t types[SLOTS];
+
+static void put_int(uint8_t *payload, uint32_t value)
+{
+    for (int i = 0; i < 8; i++)
+        payload[i] = i < 4 ? (uint8_t)(value >> (8 * i)) : 0;
+}
+
+static uint32_t get_int(const uint8_t *payload)
+{
+    uint32_t value = 0;
+    for (int i = 3; i >= 0; i--)
+        value = value << 8 | payload[i];
+    return value;
+}
+
+/* One byte past the longest module is read, so that a longer file is refused. */
+static int read_module(const char *name, size_t *length)
+{
+    FILE *file = fopen(name, "rb");
+    if (file == NULL)
+        return 0;
+    *length = fread(module, 1, sizeof module, file);
+    int is_read = !ferror(file);
+    fclose(file);
+    return is_read;
+}
+
+/* Takes the value out and answers 0, or answers the number. */
+static uint32_t run_pixel(size_t length, uint32_t pixel, uint32_t *value)
+{
+    static const uint8_t arg_types[PARAMETERS] = {LIMPETSKEIN_INT, LIMPETSKEIN_INT, LIMPETSKEIN_INT};
+    uint8_t arg_payloads[8 * PARAMETERS];
+    uint64_t steps = 0, height = 0;
+    put_int(arg_payloads, pixel);
+    put_int(arg_payloads + 8, BLACK);
+    put_int(arg_payloads + 16, GAIN);
+    uint32_t answer = limpetskein_run(module, length, 0, arg_types, sizeof arg_types, arg_payloads, sizeof arg_payloads,
+                                      ALLOWANCE, payloads, sizeof payloads, types, sizeof types, &steps, &height);
+    if (answer != LIMPETSKEIN_DONE)
+        return answer;
+    if (height != 1 || types[0] != LIMPETSKEIN_INT)
+        return FAILED;
+    *value = get_int(payloads);
+    return LIMPETSKEIN_DONE;
+}
+
+int main(int argc, char **argv)
+{
+    size_t length = 0;
+    uint32_t body = 0;
+    if (argc < 2 || !read_module(argv[1], &length)) {
+        fprintf(stderr, "usage: host MODULE PIXEL...\n");
+        return EXIT_FAILURE;
+    }
+    uint32_t answer = limpetskein_check(module, length, room, sizeof room, &body);
+    if (answer == LIMPETSKEIN_NO_TYPING)
+        printf("body %lu has no typing\n", (unsigned long)body);
+    for (int i = 2; i < argc && answer == LIMPETSKEIN_DONE; i++) {
+        uint32_t value = 0;
+        answer = run_pixel(length, (uint32_t)strtoul(argv[i], NULL, 10), &value);
+        if (answer == LIMPETSKEIN_DONE)
+            printf(i + 1 < argc ? "%lu " : "%lu\n", (unsigned long)value);
+    }
+    if (answer != LIMPETSKEIN_DONE)
+        printf("stopped with %lu\n", (unsigned long)answer);
+    return (int)answer;
+}

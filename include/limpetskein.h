@@ -1,0 +1,133 @@
+/*
+ * limpetskein.h: the check of a module and the run of one of its bodies, for C.
+ *
+ * Link with target/staticlib/liblimpetskein.a (`rt staticlib limpetskein`; x86-64 Linux).
+ *
+ * Both functions take any bytes, any numbers and any lengths, always return, and test for
+ * themselves whatever they depend on. They allocate nothing, keep nothing between calls and
+ * hold no pointer after they return: every byte that they read or write is lent by the caller
+ * and stays the caller's. Calls on memory of their own may go on at the same time.
+ *
+ * What the caller owes:
+ *   - A slice is a pointer and a number of bytes. All of them can be read and, where the pointer
+ *     is not const, written. With length 0 the pointer may be null.
+ *   - A slice that is written overlaps no other slice, and neither body, steps nor height.
+ *   - body, steps and height are not null, are aligned and do not overlap each other.
+ *   - Nothing else writes these bytes during the call.
+ *
+ * Numbers are little endian. Bodies are numbered as in the module's function section.
+ */
+#ifndef LIMPETSKEIN_H
+#define LIMPETSKEIN_H
+
+#include <stddef.h>
+#include <stdint.h>
+
+#ifdef __cplusplus
+extern "C" {
+#endif
+
+/* The entry as a body's number, to run it and as what a check names with 11. It takes no arguments. */
+#define LIMPETSKEIN_ENTRY 0xFFFFFFFFu
+
+/* Limits of the format. */
+#define LIMPETSKEIN_LONGEST_MODULE 33328 /* bytes */
+#define LIMPETSKEIN_MOST_LABELS 256
+#define LIMPETSKEIN_ROOM_PER_LABEL 64 /* bytes of checking room */
+#define LIMPETSKEIN_MOST_SLOTS 4096   /* a larger lent stack is used up to here */
+
+/* Type bytes of slots and arguments. */
+#define LIMPETSKEIN_INT 3     /* 32 bits; the payload's upper four bytes are zero */
+#define LIMPETSKEIN_LONG 4    /* 64 bits */
+#define LIMPETSKEIN_DOUBLE 6  /* the bits of an IEEE 754 double */
+#define LIMPETSKEIN_POINTER 7 /* the number of a slot, from 0, the deepest */
+
+/* Answers. A call gives the first in number order that holds. */
+enum {
+    LIMPETSKEIN_DONE = 0, /* check: accepted. run: finished */
+
+    /* The module can't be read: check and run. */
+    LIMPETSKEIN_TOO_SHORT = 1,     /* under 48 bytes */
+    LIMPETSKEIN_OTHER_EDITION = 2, /* the edition is not 3 */
+    LIMPETSKEIN_OTHER_LENGTH = 3,  /* the total length word differs from the lent length */
+    LIMPETSKEIN_OVER_LIMIT = 4,    /* a count or the code length is over its limit, or word 44 is not zero */
+    LIMPETSKEIN_NOT_PACKED = 5,    /* an offset, the sections' sum, or an entry longer than the code */
+    LIMPETSKEIN_BAD_CONSTANT = 6,  /* a constant of another type, or an int with upper bytes set */
+    LIMPETSKEIN_BAD_FUNCTION = 7,  /* a bad function record, or bodies that don't fill the code */
+    LIMPETSKEIN_BAD_CODE = 8,      /* an unknown opcode, or an instruction crossing its body's end */
+    LIMPETSKEIN_BAD_LABEL = 9,     /* a label with no such owner, or not on an instruction start of it */
+
+    /* Check only. */
+    LIMPETSKEIN_ROOM_TOO_SHORT = 10, /* checking room under 64 bytes per label */
+    LIMPETSKEIN_NO_TYPING = 11,      /* some body has no consistent typing; *body is the first */
+
+    /* Run only: it did not start. */
+    LIMPETSKEIN_NO_SUCH_FUNCTION = 12,
+    LIMPETSKEIN_BAD_ARGUMENTS = 13, /* not 8 payload bytes per type byte, other types than declared, an int with
+                                       upper bits, a pointer parameter, or arguments for the entry */
+
+    /* Run only: it stopped. Of an accepted module only 0, 15, 20 and 24 come from a run that started. */
+    LIMPETSKEIN_ALLOWANCE_USED_UP = 15,
+    LIMPETSKEIN_STACK_OVERFLOW = 20, /* no free slot, a 65th frame, or arguments that don't fit */
+    LIMPETSKEIN_STACK_EMPTY = 21,
+    LIMPETSKEIN_STACK_DIFFERENTTYPE = 22,
+    LIMPETSKEIN_CONSTANTPOOL_OUTOFRANGE = 23,
+    LIMPETSKEIN_ARITHMETIC_DIVIDEBYZERO = 24, /* of an int or a long */
+    LIMPETSKEIN_LOCALVARIABLE_OUTOFRANGE = 25,
+    LIMPETSKEIN_LOCALVARIABLE_INVALIDINDEX = 26,
+    LIMPETSKEIN_LABEL_OUTOFRANGE = 27,
+    LIMPETSKEIN_FUNCTION_OUTOFRANGE = 28,
+    LIMPETSKEIN_FUNCTION_NORETINSTRUCTION = 29,
+    LIMPETSKEIN_FUNCTION_TOPOFCALLSTACK = 30,
+    LIMPETSKEIN_POINTER_NOTPOINTER = 31,
+    LIMPETSKEIN_POINTER_INVALIDFORPOINTER = 32,
+    LIMPETSKEIN_POINTER_UNKNOWNADDRESS = 33,
+    LIMPETSKEIN_DOUBLE_INVALIDFORDOUBLE = 34
+};
+
+/*
+ * Checks a module: 0 to 11.
+ *
+ *   room   64 bytes for each label of the module; LIMPETSKEIN_MOST_LABELS times 64 serve every module.
+ *   *body  written with 11 only: the first body without typing, the entry before the functions.
+ *
+ * The room after the call:
+ *   1 to 10  unchanged.
+ *   11       the first 64 bytes per label are zero, the rest is unchanged.
+ *   0        for label i, at 64 i: byte 0 is 1 if the label is reached, byte 1 the count of locals, byte 2 of
+ *            operands; bytes 16 to 31 the local types, 32 to 63 the operand types, deepest first (3, 4, 6, or
+ *            83, 84, 86 hex for a pointer to one); zeros elsewhere, and all zero if not reached. The rest is
+ *            unchanged.
+ */
+uint32_t limpetskein_check(const uint8_t *module, size_t module_len, uint8_t *room, size_t room_len, uint32_t *body);
+
+/*
+ * Runs a body of a module, checked or not: 0 to 9, 12, 13, 15, 20 to 34.
+ *
+ *   function      its number, or LIMPETSKEIN_ENTRY.
+ *   arg_types     a type byte for each argument, parameter 0 first.
+ *   arg_payloads  8 bytes for each argument, in the same order.
+ *   allowance     the most steps that it may count.
+ *   payloads      8 bytes a slot. types: a byte a slot. The capacity is the smaller number of whole slots,
+ *                 at most LIMPETSKEIN_MOST_SLOTS.
+ *   *steps        the instructions counted; *height: the slots in use at the end. Both are written with 0, 15
+ *                 and 20 to 34 only.
+ *
+ * The slots after the call:
+ *   1 to 9, 12, 13   unchanged.
+ *   0, 15, 20 to 34  slots 0 to the height, deepest first, as the run left them; from the height to the capacity
+ *                    zero; payload and type bytes past the capacity unchanged. What the slots held before does
+ *                    not matter: a run starts empty, or with its arguments.
+ *
+ * A function that finished leaves the returned value alone in slot 0, height 1, or nothing, height 0.
+ */
+uint32_t limpetskein_run(const uint8_t *module, size_t module_len, uint32_t function, const uint8_t *arg_types,
+                         size_t arg_types_len, const uint8_t *arg_payloads, size_t arg_payloads_len,
+                         uint64_t allowance, uint8_t *payloads, size_t payloads_len, uint8_t *types,
+                         size_t types_len, uint64_t *steps, uint64_t *height);
+
+#ifdef __cplusplus
+}
+#endif
+
+#endif
