@@ -1,0 +1,97 @@
+-- What the buffer holds at the end: the lines of a tally, of a run, of a module.
+use Prim.Native.Nat.{ℕ, zero, suc, _+_, _*_, _-_, _≤_}
+use native.Mathlib.Omega.{arith}
+use mathlib.Core.Path.{_≡_, refl, sym, ap, subst, _∙_}
+use mathlib.Core.List.{List, [], _∷_, _++_}
+use lib.ListN.{length, drop, length-append, length-replicate}
+use lib.Seq.{take-all}
+use Rattle.rules.specs.declared.CheckAnswer.{CheckAnswer}
+use Rattle.rules.specs.declared.RunAnswer.{RunAnswer}
+use Rattle.rules.specs.declared.Slot.{Slot}
+use Rattle.rules.specs.declared.Tally.{Tally}
+use Rattle.rules.specs.Bytes.{zeros}
+use Rattle.rules.specs.ModuleFile.{read, bodyOf}
+use Rattle.rules.specs.Stack.{Lent, capacity, typeBytes, typesAfter}
+use Rattle.rules.specs.Machine.{Outcome}
+use Rattle.rules.specs.Answers.{check, runRefusal, arguments, answered, outcomeOf, Ran, ran, runModule, runWith}
+use Rattle.rules.specs.Host.{heightAfter}
+use Rattle.rules.specs.Program.{inputLimit, line3, slotLines, runLines, ranLines, checkedLines, programStack, printed}
+use Rattle.limpet.specs.Text.{Adds, Fills, lentOf, tallyLines, entryLines}
+
+pub tally-fills : (out out₁ out₂ : List ℕ) (e r n : ℕ) (a : Tally) (p t : List ℕ) → Adds 63 out 0 (line3 n (a .steps) (a .height)) out₁ e
+    → Adds (42 * a .height) out₁ e (slotLines p t (a .height)) out₂ r → a .height ≤ 4096 → 172095 ≤ length out₂ → Fills (tallyLines n a p t) out₂ r
+tally-fills out out₁ out₂ e r n a p t x y l h =
+    record {
+      fits = let u : e ≤ 0 + 63 = x .within in let v : r ≤ e + 42 * a .height = y .within in omega arith;
+      reads = y .reads ∙ ap (λ (z : List ℕ). z ++ slotLines p t (a .height)) (x .reads);
+    }
+
+-- the lines of an answer whose case is known
+pub run-fills : (p t out : List ℕ) (r : ℕ) (a b : RunAnswer) → a ≡ b → Fills (runLines b (lentOf p t)) out r → Fills (runLines a (lentOf p t)) out r
+run-fills p t out r a b e x = subst (λ (z : RunAnswer). Fills (runLines z (lentOf p t)) out r) (sym e) x
+
+-- ---- the height
+
+length-types : (st : List Slot) → length (typeBytes st) ≡ length st
+unfolding typeBytes
+length-types [] = refl
+length-types (v ∷ st) = length-append (typeBytes st) (v .kind ∷ []) ∙ ap (λ (k : ℕ). k + 1) (length-types st) ∙ (let q : length st + 1 ≡ suc (length st) = omega arith in q)
+
+-- the slots fit into what was lent, as the lent bytes are no more after than before
+module _ (x : Lent) (enough : capacity x ≡ length (x .types)) where
+  fits-in : (st : List Slot) → length (typesAfter (capacity x) st (x .types)) ≡ length (x .types) → length st ≤ length (x .types)
+  unfolding typesAfter
+  fits-in st q =
+      let a : length (typeBytes st ++ (zeros (capacity x - length st) ++ drop (capacity x) (x .types))) ≡ length (typeBytes st) + length (zeros (capacity x - length st) ++ drop (capacity x) (x .types)) =
+      length-append (typeBytes st) (zeros (capacity x - length st) ++ drop (capacity x) (x .types)) in
+      let b : length (typeBytes st) ≡ length st = length-types st in omega arith
+
+  pub height-fits : (s : List ℕ) (f : ℕ) (args : Lent) (n : ℕ) (a : RunAnswer) (x′ : Lent) → _≡_ {A = Ran} (record { answer = a; stack = x′ }) (runModule s f args n x)
+      → length (x′ .types) ≡ length (x .types) → heightAfter a 0 ≤ length (x .types)
+  unfolding runModule
+  height-fits s f args n a x′ q l = go (runRefusal s f args) q
+    where
+      of : (k : ℕ) (t : Tally) → heightAfter (answered k t) 0 ≡ t .height
+      of zero t = refl
+      of (suc k) t = refl
+
+      go : (e : ℕ) → _≡_ {A = Ran} (record { answer = a; stack = x′ }) (runWith s f args n x e) → heightAfter a 0 ≤ length (x .types)
+      go (suc e) w = let z : heightAfter a 0 ≡ 0 = ap (λ (r : Ran). heightAfter (r .answer) 0) w in omega arith
+      go zero w = ran-fits (outcomeOf (read s) (bodyOf f) (arguments args) n (capacity x)) w
+        where
+          ran-fits : (o : Outcome) → _≡_ {A = Ran} (record { answer = a; stack = x′ }) (ran o x) → heightAfter a 0 ≤ length (x .types)
+          ran-fits o v =
+              let z : heightAfter a 0 ≡ length (o .memory .stack) = ap (λ (r : Ran). heightAfter (r .answer) 0) v ∙ of (o .number) (record { steps = o .steps; height = length (o .memory .stack) }) in
+              let y : length (typesAfter (capacity x) (o .memory .stack) (x .types)) ≡ length (x .types) = sym (ap (λ (r : Ran). length (r .stack .types)) v) ∙ l in
+              let u : length (o .memory .stack) ≤ length (x .types) = fits-in (o .memory .stack) y in omega arith
+
+-- an array of n zeros is still n long when it comes back
+pub as-long : (n : ℕ) (l : List ℕ) → length l ≡ length (zeros n) → n ≤ length l
+as-long n l q = let h : length (zeros n) ≡ n = length-replicate {A = ℕ} n 0 in omega arith
+
+all-used : (p t : List ℕ) → length p ≡ 32768 → length t ≡ 4096 → capacity (lentOf p t) ≡ length t
+all-used p t lp lt = rw (lp, lt) refl
+
+-- the program's own slots
+pub height-low : (s : List ℕ) (f : ℕ) (args : Lent) (n : ℕ) (a : RunAnswer) (p t : List ℕ)
+    → _≡_ {A = Ran} (record { answer = a; stack = lentOf p t }) (runModule s f args n programStack) → length t ≡ length (zeros 4096) → heightAfter a 0 ≤ 4096
+height-low s f args n a p t q l =
+    let lp : length (zeros 32768) ≡ 32768 = length-replicate {A = ℕ} 32768 0 in
+    let lt : length (zeros 4096) ≡ 4096 = length-replicate {A = ℕ} 4096 0 in
+    let h : heightAfter a 0 ≤ length (zeros 4096) = height-fits programStack (all-used (zeros 32768) (zeros 4096) lp lt) s f args n a (lentOf p t) q l in omega arith
+
+-- ---- the whole
+
+pub entry-fills : (s p t out : List ℕ) (r : ℕ) (a : RunAnswer) → _≡_ {A = Ran} (record { answer = a; stack = lentOf p t }) (runModule s 0xffffffff (lentOf [] []) 1000000 programStack)
+    → Fills (runLines a (lentOf p t)) out r → Fills (entryLines s) out r
+entry-fills s p t out r a q x = subst (λ (z : Ran). Fills (ranLines z) out r) q x
+
+-- no more than the limit is lent
+whole : (s : List ℕ) → length s ≤ inputLimit → printed s ≡ checkedLines s (check s (zeros 16384) .answer)
+unfolding printed
+whole s h = ap (λ (z : List ℕ). checkedLines z (check z (zeros 16384) .answer)) (take-all inputLimit s h)
+
+-- the lines of an answer of the check whose case is known
+pub checked-fills : (s out : List ℕ) (r : ℕ) (a b : CheckAnswer) → length s ≤ inputLimit → a ≡ check s (zeros 16384) .answer → a ≡ b
+    → Fills (checkedLines s b) out r → Fills (printed s) out r
+checked-fills s out r a b h e d x = subst (λ (z : List ℕ). Fills z out r) (sym (whole s h ∙ ap (checkedLines s) (sym e ∙ d))) x
