@@ -55,7 +55,7 @@ fn target(file: &[u8], c: Sections, body: usize, k: usize) -> FoundPlace
     requires { ⌜ Packed (now file) c × (body < 65536) ⌝ }
     ensures { λ r. ⌜ placeOf r ≡ owned (bodyIn body) (read (now (file .entry)) .label k) ⌝ }
 {
-    let found = reader::entries::label(file, c, k);
+    let found = view::label(file, c, k);
     let FoundLabel::Record(l) = found else {
         return FoundPlace::Nothing;
     };
@@ -197,7 +197,7 @@ pub fn call(file: &[u8], c: Sections, r: Registers, k: u32, t: &[u8], f: &mut [u
     ensures { λ a. ⌜ ((cap : ℕ) (p : List ℕ) → Acts cap r a p (now (t .entry)) (now (f .entry)) p (now (t .entry)) (now (f .exit)) (execIn (read (now (file .entry))) cap (Call k))) ⌝ }
 {
     let number = k as usize;
-    let found = reader::entries::function(file, c, number);
+    let found = view::function(file, c, number);
     let FoundFunction::Record(g) = found else {
         return Progress::Stops(FUNCTION_OUTOFRANGE);
     };
@@ -293,7 +293,7 @@ pub fn ret(
     requires { ⌜ (r .height * 8 ≤ length (now p)) × (r .height ≤ length (now t)) × (length (now f) ≡ 1536) ⌝ }
     ensures { λ a. ⌜ ((cap : ℕ) → Acts cap r a (now (p .entry)) (now (t .entry)) (now (f .entry)) (now (p .exit)) (now (t .exit)) (now (f .entry)) (execIn (read (now (file .entry))) cap Ret)) ⌝ }
 {
-    let found = reader::entries::function(file, c, r.body);
+    let found = view::function(file, c, r.body);
     let FoundFunction::Record(g) = found else {
         return Progress::Stops(FUNCTION_TOPOFCALLSTACK);
     };

@@ -72,7 +72,7 @@ pub fn step(
     requires { ⌜ r .place < r .stop ⌝ }
     ensures { λ a. ⌜ Does cap r a (now (p .entry)) (now (t .entry)) (now (f .entry)) (now (p .exit)) (now (t .exit)) (now (f .exit)) (Machine.step (read (now (file .entry))) cap (stateOf r (now (p .entry)) (now (t .entry)) (now (f .entry)))) ⌝ }
 {
-    let found = reader::decode::instruction(file, c, r.place);
+    let found = view::instruction(file, c, r.place);
     let Decoded::Known(i) = found else {
         return Progress::Stops(FUNCTION_NORETINSTRUCTION);
     };

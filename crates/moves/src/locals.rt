@@ -33,7 +33,7 @@ pub fn push(
     requires { ⌜ r .place < r .stop ⌝ }
     ensures { λ a. ⌜ Acts cap r a (now (p .entry)) (now (t .entry)) (now (p .exit)) (now (t .exit)) (execIn (read (now (file .entry))) cap (Push n)) ⌝ }
 {
-    let found = reader::entries::constant(file, c, n as usize);
+    let found = view::constant(file, c, n as usize);
     match found {
         FoundConstant::Constant(v) => pushed(cap, r, r.place + 5, v, p, t),
         FoundConstant::Nothing => Progress::Stops(CONSTANTPOOL_OUTOFRANGE),

@@ -171,7 +171,7 @@ fn find(file: &[u8], c: Sections, function: u32) -> FoundBody
         });
     }
     let body = function as usize;
-    let found = reader::entries::function(file, c, body);
+    let found = view::function(file, c, body);
     let FoundFunction::Record(g) = found else {
         return FoundBody::Nothing;
     };

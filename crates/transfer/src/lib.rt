@@ -46,7 +46,7 @@ fn push_constant(file: &[u8], c: Sections, k: u32, q: usize, st: &mut [u8]) -> T
     requires { ⌜ Holds (now st) ⌝ }
     ensures { λ a. ⌜ ((b : Body) → Judges (read (now (file .entry))) b (Push k) q (now (st .entry)) a (now (st .exit))) ⌝ }
 {
-    let found = reader::entries::constant(file, c, k as usize);
+    let found = view::constant(file, c, k as usize);
     let FoundConstant::Constant(v) = found else {
         return Transfer::Breaks;
     };
@@ -66,7 +66,7 @@ fn target(file: &[u8], c: Sections, owner: usize, k: u32) -> FoundPlace
     requires { ⌜ Packed (now file) c ⌝ }
     ensures { λ r. ⌜ placeOf r ≡ owned (bodyOf owner) (read (now (file .entry)) .label k) ⌝ }
 {
-    let found = reader::entries::label(file, c, k as usize);
+    let found = view::label(file, c, k as usize);
     let FoundLabel::Record(l) = found else {
         return FoundPlace::Nothing;
     };
@@ -148,7 +148,7 @@ fn call(file: &[u8], c: Sections, k: u32, q: usize, st: &mut [u8]) -> Transfer
     ensures { λ a. ⌜ ((b : Body) → Judges (read (now (file .entry))) b (Call k) q (now (st .entry)) a (now (st .exit))) ⌝ }
 {
     let number = k as usize;
-    let found = reader::entries::function(file, c, number);
+    let found = view::function(file, c, number);
     let FoundFunction::Record(f) = found else {
         return Transfer::Breaks;
     };
@@ -169,7 +169,7 @@ fn ret(file: &[u8], c: Sections, owner: usize, st: &[u8]) -> Transfer
     requires { ⌜ Holds (now st) ⌝ }
     ensures { λ a. ⌜ ((q : ℕ) → Judges (read (now (file .entry))) (bodyOf owner) Ret q (now (st .entry)) a (now (st .entry))) ⌝ }
 {
-    let found = reader::entries::function(file, c, owner);
+    let found = view::function(file, c, owner);
     let FoundFunction::Record(f) = found else {
         return Transfer::Breaks;
     };
@@ -246,7 +246,7 @@ pub fn transfer(
     if p == end {
         return at_end(owner);
     }
-    let found = reader::decode::instruction(file, c, p);
+    let found = view::instruction(file, c, p);
     let Decoded::Known(i) = found else {
         return Transfer::Breaks;
     };

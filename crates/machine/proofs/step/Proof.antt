@@ -6,7 +6,7 @@ use Rattle.machine.proofs.step.Tie as tie
 use Rattle.machine.proofs.step.Reads as reads
 use Rattle.machine.proofs.step.Lts as lts
 use Rattle.machine.proofs.perform.Reads as perform-reads
-use Rattle.reader.proofs.decode.instruction.Reads as instruction-reads
+use Rattle.view.proofs.instruction.Reads as instruction-reads
 
 instruction-requires : tie.Need-instruction-requires
 instruction-requires c κs = search needs
