@@ -12,6 +12,9 @@ ghost use Rattle.rules.specs.Typing.{endOf};
 ghost use Rattle.format.specs.Layout.{Packed};
 ghost use Rattle.records.specs.Record.{Holds, IsType};
 ghost use Rattle.transfer.specs.Transfers.{Judges, Pushes, placeOf, Stripped, Ends, Moved};
+
+mod decode;
+
 use format::Sections;
 use reader::decode::Decoded;
 use reader::entries::FoundConstant;
@@ -246,7 +249,7 @@ pub fn transfer(
     if p == end {
         return at_end(owner);
     }
-    let found = view::instruction(file, c, p);
+    let found = decode::instruction(file, c, p);
     let Decoded::Known(i) = found else {
         return Transfer::Breaks;
     };

@@ -1,12 +1,11 @@
 // Compares answer, body and room of the proved checker and the plain one, also on damaged modules, then times both on the same modules.
+#include "limpetskein.h"
 #include "modules.h"
 #include "plain_checker.h"
 #include <stdio.h>
 #include <stdlib.h>
 #include <string.h>
 #include <time.h>
-
-extern uint32_t checker_check(const uint8_t *file, size_t file_len, uint8_t *room, size_t room_len, uint32_t *body);
 
 typedef uint32_t Checker(const uint8_t *, size_t, uint8_t *, size_t, uint32_t *);
 
@@ -35,7 +34,7 @@ static void once(Checker *checker, const uint8_t *file, size_t length, size_t ro
 
 static void compare(const char *what, const uint8_t *file, size_t length, size_t room) {
     static Lent ours, plain;
-    once(checker_check, file, length, room, &ours);
+    once(limpetskein_check, file, length, room, &ours);
     once(plain_check, file, length, room, &plain);
     compared++;
     met[plain.answer < 12 ? plain.answer : 0]++;
@@ -114,7 +113,7 @@ static void measure(const Module *m, int turns, Times *best) {
             best->rounds *= 2;
     }
     for (int k = 0; k < turns; k++) {
-        double ours = turn(checker_check, m, best->rounds), plain = turn(plain_check, m, best->rounds);
+        double ours = turn(limpetskein_check, m, best->rounds), plain = turn(plain_check, m, best->rounds);
         best->ours = ours < best->ours ? ours : best->ours;
         best->plain = plain < best->plain ? plain : best->plain;
     }
@@ -173,7 +172,7 @@ int main(int argc, char **argv) {
     if (argc > 2) {
         for (int i = 0; i < ROWS; i++)
             if (!strcmp(argv[2], rows[i].name))
-                sink += turn(checker_check, &modules[i], 1) + turn(plain_check, &modules[i], 1) > 0;
+                sink += turn(limpetskein_check, &modules[i], 1) + turn(plain_check, &modules[i], 1) > 0;
         return 0;
     }
     if (!compare_all())

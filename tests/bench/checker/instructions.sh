@@ -8,7 +8,7 @@ count() {
 }
 for name in "W1" "a recipe with a function" "16,384 bytes of code" "  with 256 labels in line" "128 functions, 2 labels each" \
     "backward chain of 255 labels" "2,700 joins, short lists" "2,600 joins, full lists"; do
-    ours=$(count checker_check "$name")
+    ours=$(count limpetskein_check "$name")
     plain=$(count plain_check "$name")
     printf '%-34s %9s instructions, C %9s: %s\n' "$name" "$ours" "$plain" "$(echo "scale=2; $ours / $plain" | bc)"
 done

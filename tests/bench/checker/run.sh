@@ -8,9 +8,9 @@ if [ "${1:-}" = --plain ]; then
     shift
     proved=$bench/as_proved.c
 else
-    rt staticlib checker_bench
-    proved=target/staticlib/libchecker_bench.a
+    rt staticlib limpetskein
+    proved=target/staticlib/liblimpetskein.a
 fi
 mkdir -p target/bench
-cc -O2 -Wall -Wextra -Werror -o target/bench/checker $bench/bench.c $bench/modules.c $bench/plain_checker.c tests/bench/reader/plain.c $proved
+cc -O2 -Wall -Wextra -Werror -Iinclude -o target/bench/checker $bench/bench.c $bench/modules.c $bench/plain_checker.c tests/bench/reader/plain.c $proved
 target/bench/checker "$@"

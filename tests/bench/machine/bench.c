@@ -1,19 +1,13 @@
-// Times the proved machine against the plain one on the same runs, and compares their answers and all lent memory.
+// Times the library's run, through its C interface, against the plain machine on the same runs, and compares their answers and all lent memory.
+#include "limpetskein.h"
 #include "plain_machine.h"
 #include <stdio.h>
 #include <stdlib.h>
 #include <string.h>
 #include <time.h>
 
-// The run of the entry, by the proved machine and by the plain one.
-extern uint32_t machine_run_entry(const uint8_t *, size_t, uint64_t, uint8_t *, size_t, uint8_t *, size_t, uint64_t *, uint64_t *);
-
-typedef uint32_t Run(const uint8_t *, size_t, uint64_t, uint8_t *, size_t, uint8_t *, size_t, uint64_t *, uint64_t *);
-
-static uint32_t plain_entry(const uint8_t *file, size_t length, uint64_t allowance, uint8_t *p, size_t pn, uint8_t *t, size_t tn, uint64_t *steps,
-                            uint64_t *height) {
-    return plain_run(file, length, 0xffffffff, 0, 0, 0, 0, allowance, p, pn, t, tn, steps, height);
-}
+typedef uint32_t Run(const uint8_t *, size_t, uint32_t, const uint8_t *, size_t, const uint8_t *, size_t, uint64_t, uint8_t *, size_t, uint8_t *,
+                     size_t, uint64_t *, uint64_t *);
 
 enum { PUSH = 1, POP, LOAD, STORE, LEA, TLOAD = 7, TSTORE, COPY, SWAP, ADD, SUB, MUL, IMUL, DIV, IDIV, MOD, IMOD, NEG, INC, DEC, CMP = 0x1e, ICMP,
        JMP, JE, JNE, JA, JAE, JB, JBE, CALL, RET, TOI = 0x2b, TOL, TOD = 0x2e };
@@ -25,6 +19,10 @@ typedef struct {
     uint8_t file[4096], constants[16 * 12], records[8 * 20], targets[16 * 8], code[1024];
     uint32_t nc, nf, nl, n, entry;
     size_t length;
+    // What is run: a body's number, and its arguments.
+    uint32_t body;
+    uint8_t types[8], payloads[8 * 8];
+    size_t args;
 } Module;
 
 static void put(uint8_t *at, uint32_t v) {
@@ -78,6 +76,12 @@ static uint32_t function(Module *m, uint8_t params, const uint8_t *types, uint8_
 static void function_ends(Module *m) {
     uint8_t *at = m->records + 20 * (m->nf - 1);
     put(at + 4, m->n - (at[0] | at[1] << 8));
+}
+
+// An int that the host passes; the function is run by its number.
+static void argument(Module *m, uint32_t v) {
+    m->types[m->args] = INT;
+    put(m->payloads + 8 * m->args++, v);
 }
 
 static void assemble(Module *m) {
@@ -219,6 +223,27 @@ static void recipe(Module *m) {
     assemble(m);
 }
 
+// (pixel - black) * gain / 256: a function that the host calls for a pixel.
+static void pixel(Module *m) {
+    uint32_t scale = constant(m, INT, 256);
+    const uint8_t params[] = {INT, INT, INT};
+    entry_ends(m);
+    m->body = function(m, 3, params, INT);
+    wide(m, LOAD, 0);
+    wide(m, LOAD, 1);
+    bare(m, SUB);
+    wide(m, LOAD, 2);
+    bare(m, MUL);
+    wide(m, PUSH, scale);
+    bare(m, DIV);
+    bare(m, RET);
+    function_ends(m);
+    argument(m, 200);
+    argument(m, 16);
+    argument(m, 300);
+    assemble(m);
+}
+
 // ---- measuring
 
 typedef struct {
@@ -228,7 +253,8 @@ typedef struct {
 } Outcome;
 
 static void once(Run *run, const Module *m, size_t slots, Outcome *o) {
-    o->answer = run(m->file, m->length, 1000000000, o->payloads, 8 * slots, o->types, slots, &o->steps, &o->height);
+    o->answer = run(m->file, m->length, m->body, m->types, m->args, m->payloads, 8 * m->args, 1000000000, o->payloads, 8 * slots, o->types, slots,
+                    &o->steps, &o->height);
 }
 
 static double seconds(void) {
@@ -252,7 +278,7 @@ static void report(const char *what, const Module *m, size_t slots, int rounds, 
     memset(&ours, 9, sizeof ours);
     memset(&plain, 9, sizeof plain);
     for (int i = 0; i < turns; i++) {
-        double x = turn(machine_run_entry, m, slots, rounds, &ours), y = turn(plain_entry, m, slots, rounds, &plain);
+        double x = turn(limpetskein_run, m, slots, rounds, &ours), y = turn(plain_run, m, slots, rounds, &plain);
         a = x < a ? x : a;
         b = y < b ? y : b;
     }
@@ -268,7 +294,7 @@ int main(int argc, char **argv) {
     int turns = argc > 1 ? atoi(argv[1]) : 9;
     const char *only = argc > 2 ? argv[2] : "";
 #define CASE(name, make, slots, rounds) \
-    if (!*only || !strcmp(only, name)) { memset(&m, 0, sizeof m); make; report(name, &m, slots, rounds, turns); }
+    if (!*only || !strcmp(only, name)) { memset(&m, 0, sizeof m); m.body = LIMPETSKEIN_ENTRY; make; report(name, &m, slots, rounds, turns); }
     CASE("counting loop, int", counting(&m, INT, 300000), 16, 1)
     CASE("counting loop, long", counting(&m, LONG, 300000), 16, 1)
     CASE("recursive calls", recursion(&m, 22), 256, 1)
@@ -276,5 +302,6 @@ int main(int argc, char **argv) {
     CASE("pointer loop", pointers(&m, 150000), 16, 1)
     CASE("short recipe, 16 slots", recipe(&m), 16, 20000)
     CASE("short recipe, 4,096 slots", recipe(&m), 4096, 2000)
+    CASE("a pixel by a function, 16 slots", pixel(&m), 16, 20000)
     return over;
 }
