@@ -1,4 +1,4 @@
-// The plain checker: the same function as checker_check.
+// The plain checker: the same function as limpetskein_check.
 #include <stddef.h>
 #include <stdint.h>
 

@@ -6,11 +6,11 @@ cd "$(dirname "$0")/../../.."
 bench=tests/bench/checker
 if [ "${1:-}" = --plain ]; then
     shift
-    proved=$bench/as_proved.c
+    proved="tests/bench/as_library.c tests/bench/machine/plain_machine.c"
 else
     rt staticlib limpetskein
     proved=target/staticlib/liblimpetskein.a
 fi
 mkdir -p target/bench
-cc -O2 -Wall -Wextra -Werror -Iinclude -o target/bench/checker $bench/bench.c $bench/modules.c $bench/plain_checker.c tests/bench/reader/plain.c $proved
+cc -O2 -Wall -Wextra -Iinclude -o target/bench/checker $bench/bench.c $bench/modules.c $bench/plain_checker.c tests/bench/reader/plain.c $proved
 target/bench/checker "$@"

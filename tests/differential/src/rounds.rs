@@ -1,5 +1,4 @@
-//! The loop over generated cases, for both comparisons: `[--seed N] [--seconds N | --cases N]
-//! [--from N] [--most N]`.
+//! The loop over generated cases, for both comparisons.
 
 use crate::guard;
 use second::args;
@@ -12,7 +11,14 @@ pub type Compare = fn(&Case, bool) -> (usize, Option<String>);
 
 /// Looks at the arguments, and names what crashes from here on.
 pub fn start() {
-    args::expect(&["--seed", "--cases", "--seconds", "--from", "--most"]);
+    args::expect(&[
+        "--checks",
+        "--seed",
+        "--cases",
+        "--seconds",
+        "--from",
+        "--most",
+    ]);
     guard::start(args::number("--seed", 1));
 }
 

@@ -55,21 +55,6 @@ pub unsafe extern "C" fn limpetskein_check(
     number
 }
 
-/// The same check under the name of the proved checker's own archive.
-///
-/// # Safety
-/// As the C interface says: slices that don't overlap, valid out-parameters.
-#[no_mangle]
-pub unsafe extern "C" fn checker_check(
-    module: *const u8,
-    module_len: usize,
-    room: *mut u8,
-    room_len: usize,
-    body: *mut u32,
-) -> u32 {
-    limpetskein_check(module, module_len, room, room_len, body)
-}
-
 /// # Safety
 /// As the C interface says: slices that don't overlap, valid out-parameters.
 #[no_mangle]
