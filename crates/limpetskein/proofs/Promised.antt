@@ -1,21 +1,29 @@
 -- The promises, from the definitions and from demand 3 (`demand3` of the crate soundness).
 use mathlib.Core.Path.{_≡_, refl, sym, ap, subst, _∙_}
-use Prim.Native.Nat.{ℕ, _≤_}
-use mathlib.Core.List.{List}
+use Prim.Native.Nat.{ℕ, zero, suc, _+_, _*_, _≤_}
+use native.Mathlib.Omega.{arith}
+use mathlib.Core.Bool.{Bool, true, false}
+use mathlib.Core.Option.{Option, none, some}
+use mathlib.Core.List.{List, [], _∷_}
+use lib.Dec.{ltb}
 use lib.ListN.{length}
 use borrow.Author.Tests.{le-leb}
 use Rattle.rules.specs.declared.CheckAnswer.{CheckAnswer}
+use Rattle.rules.specs.declared.CheckAnswer.the-variants.{Refused, Untyped, Accepted}
 use Rattle.rules.specs.declared.RunAnswer.{RunAnswer}
 use Rattle.rules.specs.declared.RunAnswer.the-variants.{Finished}
 use Rattle.rules.specs.declared.Tally.{Tally}
-use Rattle.rules.specs.ModuleFile.{read}
+use Rattle.rules.specs.Numbers.{no-typing}
+use Rattle.rules.specs.ModuleFile.{firstOf, refusal, labels, functions, Body, bodyOf, read}
 use Rattle.rules.specs.Stack.{Lent, capacity}
-use Rattle.rules.specs.Machine.{run}
-use Rattle.rules.specs.Answers.{checkNumber, Checked, checked, check, runNumber, runRefusal, arguments, outcomeOf, Ran, ran, runModule}
+use Rattle.rules.specs.Machine.{Outcome, run}
+use Rattle.rules.specs.Check.{bodies, firstUntyped}
+use Rattle.rules.specs.Answers.{checkNumber, Checked, checked, judged, checkWith, check, runNumber, runRefusal, arguments, outcomeOf, answered, Ran, ran, runWith, runModule}
 use Rattle.rules.specs.Host.{bodyAfter, stepsAfter, heightAfter}
-use Rattle.rules.specs.Demand3.{End}
+use Rattle.rules.specs.Demand3.{FirstUntyped, End}
+use Rattle.soundness.specs.Tests.{decide}
 use Rattle.soundness.specs.Whole.{demand3}
-use Rattle.limpetskein.specs.Promises.{startOf, Exact, CheckKeeps, Sound, RunKeeps, HostCheckKeeps, HostRunKeeps}
+use Rattle.limpetskein.specs.Promises.{firstState, Exact, CheckKeeps, Sound, ValueIs, RunKeeps, HostCheckKeeps, EndsAs, HostRunKeeps}
 
 -- ---- the check
 
@@ -30,6 +38,41 @@ check-keeps s room a room′ q =
       first-untyped = λ n e. demand3 .first-untyped s room n (sym (ap (λ (c : Checked). c .answer) q) ∙ e);
     }
 
+-- 11 is no refusal's number
+first-most : (n : ℕ) (ts : List Bool) → firstOf n ts ≤ n + length ts
+unfolding firstOf
+first-most n [] = omega arith
+first-most n (true ∷ ts) = omega arith
+first-most n (false ∷ ts) = let h : firstOf (suc n) ts ≤ suc n + length ts = first-most (suc n) ts in omega (arith, h)
+
+refusal-most : (s : List ℕ) → refusal s ≤ 10
+unfolding refusal
+refusal-most s = first-most 1 _
+
+abbrev Refusal : CheckAnswer → Type 0
+Refusal (Refused n) = n ≤ 10
+Refusal (Untyped b) = Unit {0}
+Refusal Accepted = Unit {0}
+
+judged-refusal : (s room : List ℕ) (b : Option Body) → Refusal (judged s room b .answer)
+judged-refusal s room (some b) = tt
+judged-refusal s room none = tt
+
+with-refusal : (s room : List ℕ) (e : ℕ) → e ≤ 10 → Refusal (checkWith s room e .answer)
+with-refusal s room (suc e) h = h
+with-refusal s room zero h =
+    decide (ltb (length room) (64 * labels s)) (λ y. rw y (omega arith)) (λ y. rw y (judged-refusal s room (firstUntyped (read s) (bodies (functions s)))))
+
+check-refusal : (s room : List ℕ) → Refusal (check s room .answer)
+unfolding check
+check-refusal s room = with-refusal s room (refusal s) (refusal-most s)
+
+named : (s : List ℕ) (a : CheckAnswer) (body : ℕ) → Refusal a → ((n : ℕ) → a ≡ Untyped n → FirstUntyped s n) → checkNumber a ≡ no-typing
+    → FirstUntyped s (bodyAfter a body)
+named s (Refused n) body h u e = absurd (omega (arith, h, e))
+named s (Untyped b) body h u e = u b refl
+named s Accepted body h u e = absurd (omega (arith, e))
+
 pub host-check-keeps : (s room : List ℕ) (a : CheckAnswer) (room′ : List ℕ) → CheckKeeps s room a room′
     → (number body body′ : ℕ) → number ≡ checkNumber a → body′ ≡ bodyAfter a body → HostCheckKeeps s room body number room′ body′
 host-check-keeps s room a room′ k number body body′ en eb =
@@ -39,27 +82,62 @@ host-check-keeps s room a room′ k number body body′ en eb =
       room-is = ap (λ (c : Checked). c .room) (k .same);
       body-is = eb ∙ ap (λ (z : CheckAnswer). bodyAfter z body) ea;
       exact = subst (λ (z : ℕ). Exact s room z room′) (sym en) (k .exact);
+      first-untyped = λ e.
+          subst (FirstUntyped s) (sym eb)
+          (named s a body (subst Refusal (sym ea) (check-refusal s room)) (k .first-untyped) (sym en ∙ e));
     }
 
 -- ---- the run
 
+answered-value : (n : ℕ) (t : Tally) (x′ : Lent) (old : ℕ) → ValueIs (answered n t) (runNumber (answered n t)) (heightAfter (answered n t) old) x′
+answered-value zero t x′ old = record { taken-out = λ e. refl; stopped = λ h. absurd (h refl) }
+answered-value (suc n) t x′ old = record { taken-out = λ e. absurd (omega (arith, e)); stopped = λ h. refl }
+
+abbrev HasValue : Ran → Type 0
+HasValue r = (old : ℕ) → ValueIs (r .answer) (runNumber (r .answer)) (heightAfter (r .answer) old) (r .stack)
+
 module _ (s : List ℕ) (f : ℕ) (args : Lent) (allowance : ℕ) (x : Lent) where
   -- what a run that starts leaves
   begun : runRefusal s f args ≡ 0 → length (arguments args) ≤ capacity x
-      → runModule s f args allowance x ≡ ran (run (read s) (capacity x) allowance 0 (startOf s f args)) x
+      → runModule s f args allowance x ≡ ran (run (read s) (capacity x) allowance 0 (firstState s f args)) x
   unfolding runModule outcomeOf
   begun e l = rw e (rw (le-leb (length (arguments args)) (capacity x) l) refl)
+
+  with-value : (e : ℕ) → HasValue (runWith s f args allowance x e)
+  with-value (suc e) old = record { taken-out = λ q. absurd (omega (arith, q)); stopped = λ h. refl }
+  with-value zero old = answered-value (outcomeOf (read s) (bodyOf f) (arguments args) allowance (capacity x) .number) _ _ old
+
+  run-value : HasValue (runModule s f args allowance x)
+  unfolding runModule
+  run-value = with-value (runRefusal s f args)
 
   pub run-keeps : (a : RunAnswer) (x′ : Lent) → _≡_ {A = Ran} (record { answer = a; stack = x′ }) (runModule s f args allowance x) → RunKeeps s f args allowance x a x′
   run-keeps a x′ q =
       record {
         same = q;
+        value = subst HasValue (sym q) run-value;
         sound = record {
           ends = λ room c e. subst (λ (r : Ran). End (runNumber (r .answer))) (sym q) (demand3 .ends s room c f args e allowance x);
           kept = λ room c e. demand3 .kept s room c f args e (capacity x);
         };
-        left = λ e l. (run (read s) (capacity x) allowance 0 (startOf s f args), demand3 .leaves (read s) (capacity x) (startOf s f args) allowance, q ∙ begun e l);
+        left = λ e l. (run (read s) (capacity x) allowance 0 (firstState s f args), demand3 .leaves (read s) (capacity x) (firstState s f args) allowance, q ∙ begun e l);
       }
+
+  answered-ends : (o : Outcome) (n : ℕ) → n ≡ o .number → (steps height : ℕ)
+      → EndsAs o x (runNumber (answered n (record { steps = o .steps; height = length (o .memory .stack) }))) (ran o x .stack)
+      (stepsAfter (answered n (record { steps = o .steps; height = length (o .memory .stack) })) steps)
+      (heightAfter (answered n (record { steps = o .steps; height = length (o .memory .stack) })) height)
+  answered-ends o zero e steps height = record { number-is = e; stack-is = refl; steps-is = refl; height-is = refl }
+  answered-ends o (suc n) e steps height = record { number-is = e; stack-is = refl; steps-is = refl; height-is = refl }
+
+  ends-as : (o : Outcome) (a : RunAnswer) (x′ : Lent) → _≡_ {A = Ran} (record { answer = a; stack = x′ }) (ran o x)
+      → (number steps steps′ height height′ : ℕ) → number ≡ runNumber a → steps′ ≡ stepsAfter a steps → height′ ≡ heightAfter a height
+      → EndsAs o x number x′ steps′ height′
+  ends-as o a x′ q number steps steps′ height height′ en es eh =
+      let z : EndsAs o x (runNumber a) x′ (stepsAfter a steps) (heightAfter a height) =
+      subst (λ (r : Ran). EndsAs o x (runNumber (r .answer)) (r .stack) (stepsAfter (r .answer) steps) (heightAfter (r .answer) height)) (sym q)
+      (answered-ends o (o .number) refl steps height) in
+      record { number-is = en ∙ z .number-is; stack-is = z .stack-is; steps-is = es ∙ z .steps-is; height-is = eh ∙ z .height-is }
 
   pub host-run-keeps : (a : RunAnswer) (x′ : Lent) → RunKeeps s f args allowance x a x′
       → (number steps steps′ height height′ : ℕ) → number ≡ runNumber a → steps′ ≡ stepsAfter a steps → height′ ≡ heightAfter a height
@@ -71,6 +149,10 @@ module _ (s : List ℕ) (f : ℕ) (args : Lent) (allowance : ℕ) (x : Lent) whe
         stack-is = ap (λ (r : Ran). r .stack) (k .same);
         steps-is = es ∙ ap (λ (z : RunAnswer). stepsAfter z steps) ea;
         height-is = eh ∙ ap (λ (z : RunAnswer). heightAfter z height) ea;
+        value =
+            subst (λ (z : RunAnswer). ValueIs z number height′ x′) ea
+            (subst (λ (z : ℕ). ValueIs a z height′ x′) (sym en) (subst (λ (z : ℕ). ValueIs a (runNumber a) z x′) (sym eh) (k .value height)));
+        left = λ e l. let w = k .left e l in (w .0, w .1, ends-as (w .0) a x′ (w .2) number steps steps′ height height′ en es eh);
         sound = subst (λ (z : ℕ). Sound s f args x z) (sym en) (k .sound);
       }
 

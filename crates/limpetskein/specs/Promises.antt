@@ -1,18 +1,18 @@
 -- What the public functions promise: answer and lent memory equal to the definitions', and demand 3 of this very check or run.
 use mathlib.Core.Path.{_≡_}
 use Prim.Native.Nat.{ℕ, _*_, _≤_}
-use mathlib.Core.Option.{some}
+use mathlib.Core.Option.{none, some}
 use mathlib.Core.List.{List}
 use lib.ListN.{length, take, drop}
 use Rattle.rules.specs.declared.CheckAnswer.{CheckAnswer}
 use Rattle.rules.specs.declared.CheckAnswer.the-variants.{Untyped}
 use Rattle.rules.specs.declared.RunAnswer.{RunAnswer}
-use Rattle.rules.specs.Numbers.{done}
+use Rattle.rules.specs.Numbers.{done, no-typing}
 use Rattle.rules.specs.ModuleFile.{refusal, labels, Body, bodyOf, read}
-use Rattle.rules.specs.Stack.{Lent, capacity}
+use Rattle.rules.specs.Stack.{Lent, capacity, lentAfter}
 use Rattle.rules.specs.Machine.{State, Outcome}
 use Rattle.rules.specs.Typing.{WellTyped}
-use Rattle.rules.specs.Answers.{checkNumber, checked, check, runNumber, runRefusal, arguments, startState, Ran, ran, runModule}
+use Rattle.rules.specs.Answers.{checkNumber, checked, check, runNumber, topSlot, valueOut, runRefusal, arguments, startState, Ran, ran, runModule}
 use Rattle.rules.specs.Host.{bodyAfter, stepsAfter, heightAfter}
 use Rattle.rules.specs.Demand3.{IsAccepted, FirstUntyped, Shows, End, Kept, Leaves}
 
@@ -38,23 +38,31 @@ pub record CheckKeeps (s room : List ℕ) (a : CheckAnswer) (room′ : List ℕ)
 -- ---- the run
 
 -- the state in which the run of body f starts
-abbrev pub startOf : List ℕ → ℕ → Lent → State
-startOf s f args = startState (read s) (bodyOf f) (arguments args)
+abbrev pub firstState : List ℕ → ℕ → Lent → State
+firstState s f args = startState (read s) (bodyOf f) (arguments args)
 
 -- demand 3, second and third part, of a run of body f of s on these arguments and slots that answered this number
 pub record Sound (s : List ℕ) (f : ℕ) (args x : Lent) (number : ℕ) : Type 0 where
   -- one of the four ends
   pub ends : (room : List ℕ) → IsAccepted s room → runRefusal s f args ≡ 0 → End number
   -- the slots below each of its calls are kept
-  pub kept : (room : List ℕ) → IsAccepted s room → runRefusal s f args ≡ 0 → Kept (read s) (capacity x) (startOf s f args)
+  pub kept : (room : List ℕ) → IsAccepted s room → runRefusal s f args ≡ 0 → Kept (read s) (capacity x) (firstState s f args)
+
+-- "A host that receives a finished run takes the value out, or stops with the number": which lent bytes are the value of a run
+-- that answered a, with this number and height and these slots after
+pub record ValueIs (a : RunAnswer) (number height : ℕ) (x′ : Lent) : Type 0 where
+  -- with 0, the slot under the height, none where the height is 0
+  pub taken-out : number ≡ done → valueOut a x′ ≡ topSlot x′ height
+  pub stopped : (number ≡ done → ⊥) → valueOut a x′ ≡ none
 
 pub record RunKeeps (s : List ℕ) (f : ℕ) (args : Lent) (allowance : ℕ) (x : Lent) (a : RunAnswer) (x′ : Lent) : Type 0 where
   -- answer, steps, height and slots are the definition's
   pub same : _≡_ {A = Ran} (record { answer = a; stack = x′ }) (runModule s f args allowance x)
+  pub value : (old : ℕ) → ValueIs a (runNumber a) (heightAfter a old) x′
   pub sound : Sound s f args x (runNumber a)
   -- a run that starts leaves what stands at one of the moments that `kept` speaks of
   pub left : runRefusal s f args ≡ 0 → length (arguments args) ≤ capacity x
-      → (o : Outcome) × Leaves (read s) (capacity x) (startOf s f args) allowance o × (_≡_ {A = Ran} (record { answer = a; stack = x′ }) (ran o x))
+      → (o : Outcome) × Leaves (read s) (capacity x) (firstState s f args) allowance o × (_≡_ {A = Ran} (record { answer = a; stack = x′ }) (ran o x))
 
 -- ---- the same through the C interface
 
@@ -63,10 +71,21 @@ pub record HostCheckKeeps (s room : List ℕ) (body number : ℕ) (room′ : Lis
   pub room-is : room′ ≡ check s room .room
   pub body-is : body′ ≡ bodyAfter (check s room .answer) body
   pub exact : Exact s room number room′
+  pub first-untyped : number ≡ no-typing → FirstUntyped s body′
+
+-- number, slots, steps and height are those of the outcome o on the slots x
+pub record EndsAs (o : Outcome) (x : Lent) (number : ℕ) (x′ : Lent) (steps′ height′ : ℕ) : Type 0 where
+  pub number-is : number ≡ o .number
+  pub stack-is : x′ ≡ lentAfter (o .memory .stack) x
+  pub steps-is : steps′ ≡ o .steps
+  pub height-is : height′ ≡ length (o .memory .stack)
 
 pub record HostRunKeeps (s : List ℕ) (f : ℕ) (args : Lent) (allowance : ℕ) (x : Lent) (steps height number : ℕ) (x′ : Lent) (steps′ height′ : ℕ) : Type 0 where
   pub number-is : number ≡ runNumber (runModule s f args allowance x .answer)
   pub stack-is : x′ ≡ runModule s f args allowance x .stack
   pub steps-is : steps′ ≡ stepsAfter (runModule s f args allowance x .answer) steps
   pub height-is : height′ ≡ heightAfter (runModule s f args allowance x .answer) height
+  pub value : ValueIs (runModule s f args allowance x .answer) number height′ x′
   pub sound : Sound s f args x number
+  pub left : runRefusal s f args ≡ 0 → length (arguments args) ≤ capacity x
+      → (o : Outcome) × Leaves (read s) (capacity x) (firstState s f args) allowance o × EndsAs o x number x′ steps′ height′
