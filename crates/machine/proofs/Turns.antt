@@ -18,7 +18,7 @@ use Rattle.state.specs.declared.Registers.{Registers}
 use Rattle.state.specs.declared.Progress.{Progress}
 use Rattle.state.specs.declared.Progress.the-variants.{Goes, Finishes, Stops}
 use Rattle.machine.specs.declared.Ended.{Ended}
-use Rattle.machine.specs.Ends.{endedAs, Ran}
+use Rattle.machine.specs.Ends.{endAtStop, RunsTo}
 
 -- ---- one turn of `run`
 
@@ -76,23 +76,23 @@ module _ (file : List ℕ) (c : Sections) (cap allowance : ℕ) (p₀ t₀ f₀ 
 
   -- ended with this number at the registers r
   here : (n : ℕ) → run (read file) cap (allowance - k) k (stateOf r p t f) ≡ outcome n k (record { stack = slotsOf p t (r .height) })
-      → Ran cap (record { number = n; steps = k; last = r }) p₀ t₀ p t Whole
+      → RunsTo cap (record { number = n; steps = k; last = r }) p₀ t₀ p t Whole
   here n e =
       record { result = sym e ∙ g .same; high = g .ready .high; rest-payloads = g .rest-payloads; rest-types = g .rest-types; same-payloads = g .same-p; same-types = g .same-t }
 
-  pub ends : (e : Ended) → e ≡ endedAs r k → r .stop ≤ r .place → Ran cap e p₀ t₀ p t Whole
-  unfolding endedAs
-  ends e q h = subst (λ x. Ran cap x p₀ t₀ p t Whole) (sym q) (go (eqb (r .body) 65535) refl)
+  pub ends : (e : Ended) → e ≡ endAtStop r k → r .stop ≤ r .place → RunsTo cap e p₀ t₀ p t Whole
+  unfolding endAtStop
+  ends e q h = subst (λ x. RunsTo cap x p₀ t₀ p t Whole) (sym q) (go (eqb (r .body) 65535) refl)
     where
       at : run (read file) cap (allowance - k) k (stateOf r p t f) ≡ outcome (endNumber (bodyIn (r .body))) k (record { stack = slotsOf p t (r .height) })
       at = run-end (read file) cap (stateOf r p t f) (allowance - k) k h
 
       go : (b : Bool) → eqb (r .body) 65535 ≡ b
-          → Ran cap (cond {A = Ended} b (record { number = 0; steps = k; last = r }) (record { number = 29; steps = k; last = r })) p₀ t₀ p t Whole
+          → RunsTo cap (cond {A = Ended} b (record { number = 0; steps = k; last = r }) (record { number = 29; steps = k; last = r })) p₀ t₀ p t Whole
       go true y = here 0 (at ∙ ap (λ z. outcome z k (record { stack = slotsOf p t (r .height) })) (end-number (r .body) true y))
       go false y = here 29 (at ∙ ap (λ z. outcome z k (record { stack = slotsOf p t (r .height) })) (end-number (r .body) false y))
 
-  pub used-up : r .place < r .stop → k ≡ allowance → Ran cap (record { number = 15; steps = k; last = r }) p₀ t₀ p t Whole
+  pub used-up : r .place < r .stop → k ≡ allowance → RunsTo cap (record { number = 15; steps = k; last = r }) p₀ t₀ p t Whole
   used-up h e = let z : allowance - k ≡ 0 = omega arith in here 15 (rw z (run-15 (read file) cap (stateOf r p t f) k h))
 
   module _ (h : r .place < r .stop) (ne : k ≡ allowance → ⊥) (p′ t′ f′ : List ℕ) where
@@ -122,7 +122,7 @@ module _ (file : List ℕ) (c : Sections) (cap allowance : ℕ) (p₀ t₀ f₀ 
         }
 
     pub returned : (q : Registers) → Does cap r (Finishes q) p t f p′ t′ f′ (step (read file) cap (stateOf r p t f))
-        → Ran cap (record { number = 0; steps = k + 1; last = q }) p₀ t₀ p′ t′ Whole
+        → RunsTo cap (record { number = 0; steps = k + 1; last = q }) p₀ t₀ p′ t′ Whole
     unfolding turned
     returned q d =
         record {
@@ -135,7 +135,7 @@ module _ (file : List ℕ) (c : Sections) (cap allowance : ℕ) (p₀ t₀ f₀ 
         }
 
     pub stopped : (e : ℕ) → Does cap r (Stops e) p t f p′ t′ f′ (step (read file) cap (stateOf r p t f))
-        → Ran cap (record { number = e; steps = k; last = r }) p₀ t₀ p′ t′ Whole
+        → RunsTo cap (record { number = e; steps = k; last = r }) p₀ t₀ p′ t′ Whole
     unfolding turned
     stopped e d =
         record {

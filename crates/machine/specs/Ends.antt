@@ -10,15 +10,15 @@ use Rattle.rules.specs.Stack.{slotsOf}
 use Rattle.state.specs.declared.Registers.{Registers}
 use Rattle.machine.specs.declared.Ended.{Ended}
 
-abbrev pub endOf : ℕ → ℕ → Registers → Ended
-endOf n k r = record { number = n; steps = k; last = r }
+abbrev pub endWith : ℕ → ℕ → Registers → Ended
+endWith n k r = record { number = n; steps = k; last = r }
 
 -- at the end of a body
-unfoldable pub endedAs : Registers → ℕ → Ended
-endedAs r k = cond (eqb (r .body) 65535) (endOf 0 k r) (endOf 29 k r)
+unfoldable pub endAtStop : Registers → ℕ → Ended
+endAtStop r k = cond (eqb (r .body) 65535) (endWith 0 k r) (endWith 29 k r)
 
 -- the run ended as o says; its stack is in the first slots, and what lies past the capacity is as it was
-pub record Ran (cap : ℕ) (e : Ended) (p t p′ t′ : List ℕ) (o : Outcome) : Type 0 where
+pub record RunsTo (cap : ℕ) (e : Ended) (p t p′ t′ : List ℕ) (o : Outcome) : Type 0 where
   pub result : outcome (e .number) (e .steps) (record { stack = slotsOf p′ t′ (e .last .height) }) ≡ o
   pub high : e .last .height ≤ cap
   pub rest-payloads : drop (cap * 8) p′ ≡ drop (cap * 8) p

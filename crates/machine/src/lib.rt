@@ -6,7 +6,7 @@ ghost use Rattle.rules.specs.Machine as Machine;
 ghost use Rattle.rules.specs.ModuleFile.{badFunctions, read};
 ghost use Rattle.format.specs.Layout.{Packed};
 ghost use Rattle.state.specs.State.{stateOf, Ready, Does};
-ghost use Rattle.machine.specs.Ends.{endOf, endedAs, Ran};
+ghost use Rattle.machine.specs.Ends.{endWith, endAtStop, RunsTo};
 use format::Sections;
 use reader::decode::Decoded;
 use rules::Instruction;
@@ -80,7 +80,7 @@ pub fn step(
 }
 
 fn ending(number: u32, steps: u64, last: Registers) -> Ended
-    ensures { λ e. ⌜ e ≡ endOf number steps last ⌝ }
+    ensures { λ e. ⌜ e ≡ endWith number steps last ⌝ }
 {
     Ended {
         number,
@@ -91,7 +91,7 @@ fn ending(number: u32, steps: u64, last: Registers) -> Ended
 
 // At the end of the entry, 0; at the end of a function, 29.
 fn at_end(r: Registers, steps: u64) -> Ended
-    ensures { λ e. ⌜ e ≡ endedAs r steps ⌝ }
+    ensures { λ e. ⌜ e ≡ endAtStop r steps ⌝ }
 {
     if r.body == 65535 {
         return ending(0, steps, r);
@@ -112,7 +112,7 @@ pub fn run_from(
 ) -> Ended
     requires { ⌜ Packed (now file) c × (badFunctions (now file) ≡ false) ⌝ }
     requires { ⌜ Ready cap first (now p) (now t) (now f) ⌝ }
-    ensures { λ e. ⌜ Ran cap e (now (p .entry)) (now (t .entry)) (now (p .exit)) (now (t .exit)) (Machine.run (read (now (file .entry))) cap allowance 0 (stateOf first (now (p .entry)) (now (t .entry)) (now (f .entry)))) ⌝ }
+    ensures { λ e. ⌜ RunsTo cap e (now (p .entry)) (now (t .entry)) (now (p .exit)) (now (t .exit)) (Machine.run (read (now (file .entry))) cap allowance 0 (stateOf first (now (p .entry)) (now (t .entry)) (now (f .entry)))) ⌝ }
 {
     let mut r = first;
     let mut steps: u64 = 0;

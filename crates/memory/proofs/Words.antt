@@ -45,9 +45,6 @@ pub word-out : (n : ℕ) (s : List ℕ) (at : ℕ) → length s ≤ at → word 
 unfolding word
 word-out n s at h = rw (drop-of-length-le s h) (sym (number-none n))
 
-pub word-2 : (s : List ℕ) (at : ℕ) → word 2 s at ≡ getD s at 0 + 256 * getD s (at + 1) 0
-word-2 s at = omega (arith, word-suc 1 s at, word-at 0 s at 1, word-none s (at + 2))
-
 pub word-4 : (s : List ℕ) (at : ℕ)
     → word 4 s at ≡ getD s at 0 + 256 * getD s (at + 1) 0 + 65536 * getD s (at + 2) 0 + 16777216 * getD s (at + 3) 0
 word-4 s at =
@@ -69,16 +66,6 @@ put n s at v h =
     sets-eq (bytes n v) s at (rw length-bytes h)
     ∙ append-assoc (take at s) (bytes n v) (drop (at + length (bytes n v)) s)
     ∙ ap (λ (k : ℕ). take at s ++ (bytes n v ++ drop (at + k) s)) (length-bytes n v)
-
-pub put-2 : (s : List ℕ) (at v : ℕ) → at + 2 ≤ length s → set (set s at (v % 256)) (at + 1) (v / 256 % 256) ≡ written 2 s at v
-put-2 s at v h = rw add-one (put 2 s at v h)
-
-pub put-4 : (s : List ℕ) (at v : ℕ) → at + 4 ≤ length s
-    → set (set (set (set s at (v % 256)) (at + 1) (v / 256 % 256)) (at + 2) (v / 65536 % 256)) (at + 3) (v / 16777216 % 256) ≡ written 4 s at v
-put-4 s at v h =
-    let a : v / 256 / 256 ≡ v / 65536 = omega arith in
-    let b : v / 65536 / 256 ≡ v / 16777216 = omega arith in
-    rw (add-one, add-two, add-three) (rw (a, b) at (put 4 s at v h))
 
 pub put-8 : (s : List ℕ) (at v : ℕ) → at + 8 ≤ length s
     → set (set (set (set (set (set (set (set s at (v % 256)) (at + 1) (v / 256 % 256)) (at + 2) (v / 65536 % 256)) (at + 3) (v / 16777216 % 256))

@@ -40,8 +40,8 @@ operands-part : (r : List ℕ) → Holds r → Part 2 32 32 r
 operands-part r h = record { few = h .few-operands; types = h .operand-types; rest = h .operand-rest }
 
 -- r′ has every byte of r but those of one list
-abbrev Kept : ℕ → ℕ → ℕ → List ℕ → List ℕ → Type 0
-Kept c a b r r′ = (i : ℕ) → i < 64 → (i ≡ c → ⊥) → (i < a) ⊎ (a + b ≤ i) → byte r′ i ≡ byte r i
+abbrev Elsewhere : ℕ → ℕ → ℕ → List ℕ → List ℕ → Type 0
+Elsewhere c a b r r′ = (i : ℕ) → i < 64 → (i ≡ c → ⊥) → (i < a) ⊎ (a + b ≤ i) → byte r′ i ≡ byte r i
 
 module _ (r r′ : List ℕ) (c a b : ℕ) where
   part-kept : byte r′ c ≡ byte r c → ((i : ℕ) → i < b → byte r′ (a + i) ≡ byte r (a + i)) → Part c a b r → Part c a b r′
@@ -73,7 +73,7 @@ holds-of r r′ h long same l o =
     }
 
 -- the operands changed
-module _ (r r′ : List ℕ) (h : Holds r) (long : length r′ ≡ 64) (kept : Kept 2 32 32 r r′) where
+module _ (r r′ : List ℕ) (h : Holds r) (long : length r′ ≡ 64) (kept : Elsewhere 2 32 32 r r′) where
   count : byte r′ 1 ≡ byte r 1
   count = kept 1 (omega arith) (λ p. omega arith) (inl (omega arith))
 
@@ -88,7 +88,7 @@ module _ (r r′ : List ℕ) (h : Holds r) (long : length r′ ≡ 64) (kept : K
   operands-locals = list-kept r r′ 1 16 16 count types (locals-part r h)
 
 -- the locals changed
-module _ (r r′ : List ℕ) (h : Holds r) (long : length r′ ≡ 64) (kept : Kept 1 16 16 r r′) where
+module _ (r r′ : List ℕ) (h : Holds r) (long : length r′ ≡ 64) (kept : Elsewhere 1 16 16 r r′) where
   height : byte r′ 2 ≡ byte r 2
   height = kept 2 (omega arith) (λ p. omega arith) (inl (omega arith))
 
@@ -126,7 +126,7 @@ module _ (c a b : ℕ) (r : List ℕ) (long : length r ≡ 64) (k t n : ℕ) (be
   edited-under : (i : ℕ) → (i ≡ k → ⊥) → byte (edited c a r k t n) (a + i) ≡ byte r (a + i)
   edited-under i p = edited-else (a + i) (λ e. omega arith) (λ e. p (omega arith))
 
-  edited-kept : Kept c a b r (edited c a r k t n)
+  edited-kept : Elsewhere c a b r (edited c a r k t n)
   edited-kept i l p = ⊎-elim (λ x. edited-else i p (λ e. omega arith)) (λ x. edited-else i p (λ e. omega arith))
 
   -- a type t on top of the k types under it
@@ -269,7 +269,7 @@ module _ (r : List ℕ) (n : ℕ) where
       let s = set r′ 2 0 in
       let c : byte s 2 ≡ 0 = getD-set-same r′ 2 0 0 (omega arith) in
       let long : length s ≡ 64 = length-set r′ 2 0 ∙ g in
-      let kept : Kept 2 32 32 r s = λ i a p. ⊎-elim (λ x. getD-set-other r′ 2 i 0 0 p ∙ v .kept i x) (λ x. absurd (omega arith)) in
+      let kept : Elsewhere 2 32 32 r s = λ i a p. ⊎-elim (λ x. getD-set-other r′ 2 i 0 0 p ∙ v .kept i x) (λ x. absurd (omega arith)) in
       let loc : listsOf s .locals ≡ listsOf r .locals = operands-locals r s h long kept in
       let ops : listsOf s .operands ≡ [] = ap (paramsFrom s 32) c in
       record {

@@ -13,7 +13,7 @@ use Rattle.rules.specs.Machine.{Outcome, outcome}
 use Rattle.rules.specs.Answers.{answered, ran}
 use Rattle.memory.proofs.Copies.{word-bytes}
 use Rattle.state.proofs.Stack.{length-slots}
-use Rattle.runs.specs.Runs.{lentOf, slotsIn, clearedTo, Leaves}
+use Rattle.runs.specs.Runs.{lentOf, slotsIn, clearedTo, ClosedAs}
 
 module _ (p t : List ℕ) (small : (i : ℕ) → getD p i 0 < 256) where
   -- the memory's first bytes are those of its slots
@@ -57,7 +57,7 @@ module _ (p t p′ t′ : List ℕ) (small : (i : ℕ) → getD p i 0 < 256) (n 
   abbrev ending : Outcome
   ending = outcome n k (record { stack = slotsOf p t h })
 
-  leaves : (r : RunAnswer) → r ≡ answered n (record { steps = k; height = h }) → Leaves ending p t p′ t′ r
+  leaves : (r : RunAnswer) → r ≡ answered n (record { steps = k; height = h }) → ClosedAs ending p t p′ t′ r
   leaves r er =
       let a : p′ ≡ payloadsAfter (slotsIn p t) (slotsOf p t h) p =
       ep ∙ payloads-after p t small cap h l (omega (arith, capacity-payloads p t)) ∙ ap (λ c. payloadsAfter c (slotsOf p t h) p) ec in
@@ -67,10 +67,10 @@ module _ (p t p′ t′ : List ℕ) (small : (i : ℕ) → getD p i 0 < 256) (n 
       er ∙ ap (λ j. answered n (record { steps = k; height = j })) (sym (length-slots p t h)) in
       λ i. record { answer = z i; stack = record { payloads = a i; types = b i } }
 
-  pub finished : n ≡ 0 → Leaves ending p t p′ t′ (Finished (record { steps = k; height = h }))
+  pub finished : n ≡ 0 → ClosedAs ending p t p′ t′ (Finished (record { steps = k; height = h }))
   finished e = leaves _ (rw e refl)
 
-  pub stopped : (n ≡ 0 → ⊥) → Leaves ending p t p′ t′ (Stopped n (record { steps = k; height = h }))
+  pub stopped : (n ≡ 0 → ⊥) → ClosedAs ending p t p′ t′ (Stopped n (record { steps = k; height = h }))
   stopped e = leaves _ (more n e)
     where
       more : (n : ℕ) → (n ≡ 0 → ⊥) → Stopped n (record { steps = k; height = h }) ≡ answered n (record { steps = k; height = h })

@@ -27,9 +27,9 @@ use Rattle.state.proofs.Stack.{length-slots}
 use Rattle.control.specs.Control.{argumentsIn, firstAt}
 use Rattle.control.proofs.Frames.{state-first, ready-first}
 use Rattle.machine.specs.declared.Ended.{Ended}
-use Rattle.machine.specs.Ends.{Ran}
+use Rattle.machine.specs.Ends.{RunsTo}
 use Rattle.runs.specs.declared.BodyRecord.{BodyRecord}
-use Rattle.runs.specs.Runs.{lentOf, slotsIn, Leaves, RunIs, Copied, BodyIs}
+use Rattle.runs.specs.Runs.{lentOf, slotsIn, ClosedAs, RunIs, Copied, BodyIs}
 use Rattle.runs.proofs.Final.{capacity-payloads, capacity-types, capacity-most, leaves-of}
 use Rattle.runs.proofs.Arguments.{admitted-lengths}
 
@@ -78,7 +78,7 @@ module _ (s : List ℕ) (f : ℕ) (a b p t : List ℕ) where
       runs n readable = rw (readable, is .starts, fit, ec) refl
 
       pub run-20 : (n : ℕ) → refusal s ≡ 0 → cap < g .params → (p′ t′ : List ℕ) (x : RunAnswer)
-          → Leaves (outcome 20 0 (record { stack = slotsOf p t 0 })) p t p′ t′ x → RunIs s f a b n p t p′ t′ x
+          → ClosedAs (outcome 20 0 (record { stack = slotsOf p t 0 })) p t p′ t′ x → RunIs s f a b n p t p′ t′ x
       unfolding outcomeOf slotsOf
       run-20 n readable l p′ t′ x left =
           let o : outcomeOf (read s) (bodyOf f) held n cap ≡ outcome 20 0 (record { stack = [] }) = rw (count, lt-leb (g .params) cap l) refl in
@@ -120,7 +120,7 @@ module _ (s : List ℕ) (f : ℕ) (a b p t : List ℕ) where
               rw (le-leb (length held) cap l) (ap (run (read s) cap n 0) (sym start-is))
 
           -- p₂ and t₂ are left by the run, which ended as e
-          module _ (n : ℕ) (p₂ t₂ : List ℕ) (e : Ended) (d : Ran cap e p₁ t₁ p₂ t₂ (run (read s) cap n 0 (stateOf r p₁ t₁ w′))) where
+          module _ (n : ℕ) (p₂ t₂ : List ℕ) (e : Ended) (d : RunsTo cap e p₁ t₁ p₂ t₂ (run (read s) cap n 0 (stateOf r p₁ t₁ w′))) where
             same-payloads : length p₂ ≡ length p
             same-payloads = d .same-payloads ∙ copied .same-payloads
 
@@ -133,7 +133,7 @@ module _ (s : List ℕ) (f : ℕ) (a b p t : List ℕ) where
             abbrev ending : Outcome
             ending = outcome (e .number) (e .steps) (record { stack = slotsOf p₂ t₂ (e .last .height) })
 
-            pub run-over : refusal s ≡ 0 → (p′ t′ : List ℕ) (x : RunAnswer) → Leaves ending p₂ t₂ p′ t′ x → RunIs s f a b n p t p′ t′ x
+            pub run-over : refusal s ≡ 0 → (p′ t′ : List ℕ) (x : RunAnswer) → ClosedAs ending p₂ t₂ p′ t′ x → RunIs s f a b n p t p′ t′ x
             run-over readable p′ t′ x left =
                 left
                 ∙ leaves-of ending p t p₂ t₂ cap ec same-payloads same-types

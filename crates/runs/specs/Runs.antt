@@ -33,8 +33,8 @@ abbrev pub clearedTo : List ℕ → ℕ → ℕ → List ℕ
 clearedTo s a e = take a s ++ (replicate (e - a) 0 ++ drop e s)
 
 -- the answer of a run on p and t that ends so, and the bytes after it
-abbrev pub Leaves : Outcome → List ℕ → List ℕ → List ℕ → List ℕ → RunAnswer → Type 0
-Leaves o p t p′ t′ r = _≡_ {A = Ran} (record { answer = r; stack = lentOf p′ t′ }) (ran o (lentOf p t))
+abbrev pub ClosedAs : Outcome → List ℕ → List ℕ → List ℕ → List ℕ → RunAnswer → Type 0
+ClosedAs o p t p′ t′ r = _≡_ {A = Ran} (record { answer = r; stack = lentOf p′ t′ }) (ran o (lentOf p t))
 
 -- the answer and the bytes after it are those of the rules, for body f of the file s on the arguments a, b
 abbrev pub RunIs : List ℕ → ℕ → List ℕ → List ℕ → ℕ → List ℕ → List ℕ → List ℕ → List ℕ → RunAnswer → Type 0

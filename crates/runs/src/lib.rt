@@ -1,7 +1,6 @@
 // The run of a body by number on lent arguments: refusals, the arguments in their slots, the first frame, the answer.
 ghost use mathlib.Core.Path.{_≡_};
 ghost use mathlib.Core.Bool.{false};
-ghost use mathlib.Core.List.{[]};
 ghost use Prim.Native.Nat.{_+_, _*_, _<_, _≤_, min};
 ghost use lib.ListN.{length, replicate};
 ghost use Rattle.rules.specs.Answers as Answers;
@@ -10,7 +9,7 @@ ghost use Rattle.rules.specs.Machine.{outcome};
 ghost use Rattle.rules.specs.ModuleFile.{badFunctions, functionAt, paramsFrom, refusal};
 ghost use Rattle.rules.specs.Stack.{slotsOf};
 ghost use Rattle.format.specs.Layout.{Packed};
-ghost use Rattle.runs.specs.Runs.{lentOf, slotsIn, clearedTo, Leaves, RunIs, suits, Copied, FoundIs};
+ghost use Rattle.runs.specs.Runs.{lentOf, slotsIn, clearedTo, ClosedAs, RunIs, suits, Copied, FoundIs};
 use format::Sections;
 use reader::Opened;
 use reader::entries::FoundFunction;
@@ -73,7 +72,7 @@ fn close(
     t: &mut [u8],
 ) -> RunAnswer
     requires { ⌜ (cap ≡ slotsIn (now p) (now t)) × (height ≤ cap) ⌝ }
-    ensures { λ r. ⌜ Leaves (outcome number steps (record { stack = slotsOf (now (p .entry)) (now (t .entry)) height })) (now (p .entry)) (now (t .entry)) (now (p .exit)) (now (t .exit)) r ⌝ }
+    ensures { λ r. ⌜ ClosedAs (outcome number steps (record { stack = slotsOf (now (p .entry)) (now (t .entry)) height })) (now (p .entry)) (now (t .entry)) (now (p .exit)) (now (t .exit)) r ⌝ }
 {
     clear_part(p, height * 8, cap * 8);
     clear_part(t, height, cap);
@@ -245,12 +244,4 @@ pub fn run(
             types,
         ),
     }
-}
-
-// The run of the entry, which takes no arguments.
-pub fn run_entry(file: &[u8], allowance: u64, p: &mut [u8], t: &mut [u8]) -> RunAnswer
-    ensures { λ r. ⌜ RunIs (now (file .entry)) 0xffffffff [] [] allowance (now (p .entry)) (now (t .entry)) (now (p .exit)) (now (t .exit)) r ⌝ }
-{
-    let none = &file[0..0];
-    run(file, ENTRY, none, none, allowance, p, t)
 }

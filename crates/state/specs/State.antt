@@ -88,10 +88,10 @@ pub record Ready (cap : ℕ) (r : Registers) (p t f : List ℕ) : Type 0 where
   pub waiting : Waiting f (r .depth) (r .base)
 
 -- an instruction that stops the run leaves the state as it was
-abbrev pub Kept : Progress → State → State → Type 0
-Kept (Goes q) s s′ = Unit {0}
-Kept (Finishes q) s s′ = Unit {0}
-Kept (Stops e) s s′ = s′ ≡ s
+abbrev pub Unchanged : Progress → State → State → Type 0
+Unchanged (Goes q) s s′ = Unit {0}
+Unchanged (Finishes q) s s′ = Unit {0}
+Unchanged (Stops e) s s′ = s′ ≡ s
 
 abbrev pub ReadyAfter : ℕ → Registers → Progress → List ℕ → List ℕ → List ℕ → Type 0
 ReadyAfter cap r (Goes q) p t f = Ready cap q p t f
@@ -101,7 +101,7 @@ ReadyAfter cap r (Stops e) p t f = Ready cap r p t f
 -- the code did what the rules say, x; it is ready again; what lies past the capacity is as it was
 pub record Does (cap : ℕ) (r : Registers) (a : Progress) (p t f p′ t′ f′ : List ℕ) (x : Next) : Type 0 where
   pub result : nextOf a p′ t′ f′ ≡ x
-  pub kept : Kept a (stateOf r p t f) (stateOf r p′ t′ f′)
+  pub kept : Unchanged a (stateOf r p t f) (stateOf r p′ t′ f′)
   pub ready : ReadyAfter cap r a p′ t′ f′
   pub rest-payloads : drop (cap * 8) p′ ≡ drop (cap * 8) p
   pub rest-types : drop cap t′ ≡ drop cap t

@@ -1,4 +1,4 @@
-use Rattle.machine.specs.Ends.{endedAs}
+use Rattle.machine.specs.Ends.{endAtStop}
 use borrow.Author.Tests.{eq-eqb, ne-eqb}
 use mathlib.Core.Path.{_∙_, sym}
 use borrow.Author.Needs.{needs}
@@ -12,14 +12,14 @@ ending-requires : tie.Need-ending-requires
 ending-requires c κs = search needs
 
 returns : tie.Need-returns
-unfolding endedAs
+unfolding endAtStop
 returns c = rw (eq-eqb _ _ ((c .before .if1) .taken)) ((c .ending) .ensures)
 
 ending-requires-2 : tie.Need-ending-requires-2
 ending-requires-2 c κs = search needs
 
 returns-2 : tie.Need-returns-2
-unfolding endedAs
+unfolding endAtStop
 returns-2 c = rw (ne-eqb _ _ ((c .before .if1) .left)) ((c .ending2) .ensures)
 
 pub at-end-spec : {M : Type 1} → statement M
