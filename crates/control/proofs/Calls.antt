@@ -17,14 +17,11 @@ use Rattle.rules.specs.Stack.{slotAt, slotsOf}
 use Rattle.rules.specs.Machine.{execIn, kindsMatch}
 use Rattle.format.specs.declared.Sections.{Sections}
 use Rattle.format.specs.Layout.{Packed}
-use Rattle.format.proofs.Tests.{neither}
-use Rattle.format.proofs.Gathered.{none-below}
-use Rattle.format.proofs.Rows.{first-miss, starts}
+use Rattle.format.proofs.Rows.{first-miss}
 use Rattle.reader.specs.declared.entries.FunctionRecord.{FunctionRecord}
 use Rattle.reader.specs.declared.entries.FoundFunction.the-variants.{Record}
 use Rattle.reader.specs.Answers.{functionIn}
 use Rattle.reader.proofs.Bodies.{end-inside}
-use Rattle.reader.proofs.Records.{params-length}
 use Rattle.state.specs.State.{stateOf, Ready, Does}
 use Rattle.state.specs.declared.Registers.{Registers}
 use Rattle.state.specs.declared.Progress.the-variants.{Goes, Stops}
@@ -32,6 +29,8 @@ use Rattle.state.proofs.Stack.{length-slots}
 use Rattle.state.proofs.Outcomes.{stopping}
 use Rattle.control.specs.Control.{savedIn, argumentsIn}
 use Rattle.control.proofs.Frames.{length-callers, length-saved, length-arguments, locals-arguments, callers-called, waiting-called}
+use Rattle.soundness.specs.Tests.{or-neither}
+use Rattle.soundness.specs.Readable.{none-below, params-length, starts-after}
 
 -- ---- the function that is called
 
@@ -50,12 +49,12 @@ functions-good s h =
 few-params : (s : List ℕ) → badFunctions s ≡ false → (i : ℕ) → i < functions s → byte s (functionAt s i + 8) ≤ 8
 unfolding badFunctions badFunction badRecord
 few-params s h i l =
-    let b = none-below (badFunction s) (functions s) (neither (some-below (functions s) (badFunction s)) _ h .0) i l in
-    let b6 = neither _ _ b in
-    let b5 = neither _ _ (b6 .0) in
-    let b4 = neither _ _ (b5 .0) in
-    let b3 = neither _ _ (b4 .0) in
-    let b2 = neither (differs (word 4 s (functionAt s i)) (endBefore s i) || eqb (word 4 s (functionAt s i + 4)) 0) _ (b3 .0) in
+    let b = none-below (functions s) (badFunction s) (or-neither (some-below (functions s) (badFunction s)) _ h .0) i l in
+    let b6 = or-neither _ _ b in
+    let b5 = or-neither _ _ (b6 .0) in
+    let b4 = or-neither _ _ (b5 .0) in
+    let b3 = or-neither _ _ (b4 .0) in
+    let b2 = or-neither (differs (word 4 s (functionAt s i)) (endBefore s i) || eqb (word 4 s (functionAt s i + 4)) 0) _ (b3 .0) in
     ltb-false _ _ (b2 .1)
 
 -- its number, its count of parameters and its end are in range
@@ -74,7 +73,7 @@ module _ (s : List ℕ) (good : badFunctions s ≡ false) (c : Sections) (packed
           let counts : length (paramsFrom s (a + 10) (g .params)) ≡ length (paramsFrom s (a + 10) (byte s (a + 8))) =
           ap (λ (o : Option Function). maybe o 0 (λ F. length (F .params))) q in
           let few : byte s (a + 8) ≤ 8 = few-params s good k h in
-          let start : word 4 s a ≡ endBefore s k = starts s good k h in
+          let start : word 4 s a ≡ endBefore s k = starts-after s good k h in
           let inside : endBefore s (suc k) ≤ codeLength s = end-inside s good (suc k) (omega arith) in
           let next : endBefore s (suc k) ≡ endBefore s k + word 4 s (a + 4) = refl in (
             omega (arith, packed .functions-is),

@@ -1,10 +1,10 @@
 -- Laws of tests, as Bools.
 use Prim.Native.Nat.{ℕ, _≤_, _<_}
 use mathlib.Core.Path.{_≡_, refl}
-use mathlib.Core.Bool.{Bool, true, false, _&&_, _||_, true≢false}
+use mathlib.Core.Bool.{Bool, true, false, _&&_, _||_}
 use mathlib.Core.Logic.{_⊎_, inl, inr}
 use lib.Dec.{leb, eqb}
-use borrow.Author.Tests.{eqb-true, ne-eqb, leb-true, leb-false, not-false}
+use borrow.Author.Tests.{ne-eqb, leb-true, leb-false}
 use Rattle.rules.specs.ModuleFile.{differs}
 
 pub split : (a b : ℕ) → (a ≤ b) ⊎ (b < a)
@@ -36,18 +36,11 @@ pub or-right : (a b : Bool) → b ≡ true → (a || b) ≡ true
 or-right true b e = refl
 or-right false b e = e
 
-pub neither : (a b : Bool) → (a || b) ≡ false → (a ≡ false) × (b ≡ false)
-neither true b h = absurd (true≢false h)
-neither false b h = (refl, h)
-
 pub either : (a b : Bool) → (a || b) ≡ true → (P : Type 0) → (a ≡ true → P) → (b ≡ true → P) → P
 either true b e P f g = f refl
 either false b e P f g = g e
 
 -- ---- numbers
-
-pub same : (a b : ℕ) → differs a b ≡ false → a ≡ b
-same a b h = eqb-true a b (not-false (eqb a b) h)
 
 pub differs-true : (a b : ℕ) → (a ≡ b → ⊥) → differs a b ≡ true
 differs-true a b h = simp (ne-eqb _ _ h)

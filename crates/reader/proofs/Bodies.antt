@@ -12,7 +12,7 @@ use Rattle.rules.specs.Bytes.{word, some-below}
 use Rattle.rules.specs.ModuleFile.{due, unknownAt, differs, endBefore, crossed, badCode, badFunctions, functions, functionAt, codeLength, entryLength, owns, labelAt, badLabel}
 use Rattle.format.specs.declared.Sections.{Sections}
 use Rattle.format.specs.Layout.{Packed}
-use Rattle.format.proofs.Rows.{filled, starts, end-mono}
+use Rattle.soundness.specs.Readable.{ends-rise, fills, starts-after}
 use Rattle.format.proofs.Tests.{and-left, and-right, or-left, or-right, either}
 use Rattle.format.proofs.Gathered.{some-hit, some-longer}
 use Rattle.reader.specs.Cut.{mark, Blank, Cut, Fails, Walked, Marked}
@@ -53,7 +53,7 @@ end-next s c k i end len e l = let a = record-at s c k i in rw add-one (cc)
 module _ (s : List ℕ) (good : badFunctions s ≡ false) where
   -- a body ends in the code
   pub end-inside : (i : ℕ) → i ≤ functions s → endBefore s i ≤ codeLength s
-  end-inside i l = let m = end-mono s i (functions s) l in let f = filled s good in omega arith
+  end-inside i l = let m = ends-rise s i (functions s) l in let f = fills s good in omega arith
 
   -- the body before function i fails
   pub bad-body : (i : ℕ) → i ≤ functions s → Fails s (endBefore s i) → true ≡ badCode s
@@ -76,14 +76,14 @@ module _ (s : List ℕ) (good : badFunctions s ≡ false) where
   pub good-bodies : (i : ℕ) (t : List ℕ) → i ≡ functions s → Cut s (endBefore s i) t → some-below (i + 1) (crossed s) ≡ false → false ≡ badCode s
   unfolding badCode
   good-bodies i t e cut h =
-      let a : endBefore s i ≡ codeLength s = ap (endBefore s) e ∙ filled s good in
+      let a : endBefore s i ≡ codeLength s = ap (endBefore s) e ∙ fills s good in
       let k : some-below (codeLength s) (unknownAt s) ≡ false = rw a at (cut .known) in
       let j : some-below (suc (functions s)) (crossed s) ≡ false = rw (add-one, e) at h in
       simp (k, j)
 
   pub all-marked : (i : ℕ) (t : List ℕ) → i ≡ functions s → Cut s (endBefore s i) t → Marked s (set t (endBefore s i) 1)
   all-marked i t e cut q l h =
-      let a : endBefore s i ≡ codeLength s = ap (endBefore s) e ∙ filled s good in
+      let a : endBefore s i ≡ codeLength s = ap (endBefore s) e ∙ fills s good in
       marked-here s (endBefore s i) 0 t cut q (omega arith) h
 
   -- ---- an owned place lies in the code
@@ -98,7 +98,7 @@ module _ (s : List ℕ) (good : badFunctions s ≡ false) where
       (λ f.
       let a : p < start + len = ltb-true _ _ (and-right (ltb o (functions s) && leb start p) (ltb p (start + len)) f) in
       let b : o < functions s = ltb-true _ _ (and-left (ltb o (functions s)) (leb start p) (and-left (ltb o (functions s) && leb start p) (ltb p (start + len)) f)) in
-      let d = starts s good o b in
+      let d = starts-after s good o b in
       let g = end-inside (suc o) (omega arith) in
       omega arith)
 

@@ -2,7 +2,7 @@
 use Prim.Native.Nat.{ℕ, zero, suc, _+_, _*_, _<_}
 use native.Mathlib.Nat.{eq-or-lt-of-le, le-of-suc-le-suc}
 use native.Mathlib.Omega.{arith}
-use mathlib.Core.Path.{_≡_, refl, sym, ap, _∙_}
+use mathlib.Core.Path.{_≡_, sym, ap, _∙_}
 use mathlib.Core.Bool.{true, false}
 use mathlib.Core.List.{List}
 use mathlib.Core.Logic.{⊎-elim}
@@ -14,6 +14,7 @@ use Rattle.rules.specs.Bytes.{byte}
 use Rattle.rules.specs.Instructions.{tyOf}
 use Rattle.rules.specs.Stack.{at}
 use Rattle.rules.specs.ModuleFile.{functionAt, labelAt, paramsFrom}
+use Rattle.soundness.specs.Readable.{params-length}
 use Rattle.format.specs.declared.Sections.{Sections}
 use Rattle.format.specs.Layout.{Packed}
 
@@ -26,10 +27,6 @@ unfolding labelAt
 label-at s c k i = omega arith
 
 -- ---- parameters
-
-pub params-length : (s : List ℕ) (a n : ℕ) → length (paramsFrom s a n) ≡ n
-params-length s a zero = refl
-params-length s a (suc n) = ap suc (params-length s a n)
 
 -- parameter j is the type of byte j
 pub param-at : (s : List ℕ) (a n j : ℕ) → j < n → at (paramsFrom s a n) j ≡ some (tyOf (byte s (a + j)))

@@ -12,6 +12,7 @@ use Rattle.rules.specs.Bytes.{byte, zeros, padded}
 use Rattle.rules.specs.Instructions.{tyOf, typeByte}
 use Rattle.rules.specs.ModuleFile.{paramsFrom}
 use Rattle.rules.specs.Check.{typesUp, recordBytes}
+use Rattle.soundness.specs.Readable.{params-length}
 use Rattle.records.specs.Record.{listsOf, IsType, Holds}
 
 split : (i n : ℕ) → (i < n) ⊎ (n ≤ i)
@@ -30,10 +31,6 @@ getD-after xs ys n i j e h = let q : i ≡ length xs + j = omega arith in ap (λ
 module _ (r : List ℕ) (a : ℕ) where
   types : ℕ → List ℕ
   types n = typesUp (paramsFrom r a n)
-
-  params-length : (n : ℕ) → length (paramsFrom r a n) ≡ n
-  params-length zero = refl
-  params-length (suc n) = ap suc (params-length n)
 
   types-length : (n : ℕ) → length (types n) ≡ n
   unfolding types

@@ -1,21 +1,21 @@
 -- What a module that can be read keeps: each row of the table read as facts, and the flow of places in its bodies.
 use mathlib.Core.Path.{_≡_, refl, sym, ap, _∙_, subst}
 use mathlib.Core.Logic.{_≢_, _⊎_, inl, inr}
-use Prim.Native.Nat.{ℕ, zero, suc, _+_, _-_, _*_, _^_, _≤_, _<_}
+use Prim.Native.Nat.{ℕ, zero, suc, _+_, _-_, _≤_, _<_}
 use native.Mathlib.Omega.{arith}
-use mathlib.Core.Bool.{Bool, true, false, not, cond, _&&_, _||_}
-use mathlib.Core.Option.{Option, none, some}
+use mathlib.Core.Bool.{Bool, true, false, not, _&&_, _||_}
+use mathlib.Core.Option.{none, some}
 use mathlib.Core.List.{List, [], _∷_}
 use lib.ListN.{length, getD, take, drop}
 use lib.Seq.{getD-drop}
 use lib.Dec.{ltb, leb, eqb}
-use Rattle.soundness.specs.Names.{Instruction, Slot}
-use Rattle.rules.specs.Bytes.{byte, word, number, within, some-below, maybe}
+use Rattle.soundness.specs.Names.{Instruction}
+use Rattle.rules.specs.Bytes.{byte, word, number, within, some-below}
 use Rattle.rules.specs.Instructions.{Ty, typeByte, tyOf, Opcode, absent, bare, wide, edition3, opcodes, opcodeOf, isAbsent, operandBytes, instructionOf, size}
 use Rattle.rules.specs.ModuleFile.{edition, constants, functions, labels, codeLength, entryLength, functionAt, labelAt, constantAt, functionsAt, labelsAt, codeAt, differs, short, otherEdition, otherTotal, overLimit, notPacked, oddConstant, badConstant, badConstants, oddReturn, oddParam, badParam, badRecord, badFunction, badFunctions, endBefore, opcodeAt, dueAfter, due, unknownAt, crossed, badCode, owns, badLabel, badLabels, firstOf, refusal, Body, entry, fn, bodyOf, Function, Module, paramsFrom, functionOf, constantOf, labelOf, codeOf, bodyStart, bodyEnd, placeIn, read}
 use Rattle.rules.specs.Typing.{startOf, endOf}
-use Rattle.rules.specs.Claims.{AreBytes, dueFrom}
-use Rattle.soundness.specs.Tests.{decide, none-some, some-inj, eqb-is, eqb-same, eqb-isnt, eqb-other, leb-is, leb-isnt, leb-yes, ltb-is, ltb-isnt, ltb-yes, ltb-no, false-true, and-both, and-intro, or-neither, not-false}
+use Rattle.rules.specs.Claims.{dueFrom}
+use Rattle.soundness.specs.Tests.{decide, none-some, some-inj, eqb-is, eqb-isnt, eqb-other, leb-is, leb-isnt, leb-yes, ltb-is, ltb-isnt, ltb-yes, ltb-no, false-true, and-both, and-intro, or-neither, not-false}
 
 -- ---- rows
 
@@ -29,14 +29,14 @@ none-first n [] e = tt
 none-first n (true ∷ ts) e = absurd (omega arith)
 none-first n (false ∷ ts) e = (refl, none-first (suc n) ts e)
 
-none-below : (n : ℕ) (f : ℕ → Bool) → some-below n f ≡ false → (i : ℕ) → i < n → f i ≡ false
+pub none-below : (n : ℕ) (f : ℕ → Bool) → some-below n f ≡ false → (i : ℕ) → i < n → f i ≡ false
 unfolding some-below
 none-below zero f e i h = absurd (omega arith)
 none-below (suc n) f e i h =
     let x : (some-below n f ≡ false) × (f n ≡ false) = or-neither (some-below n f) (f n) e in
     decide (ltb i n) (λ y. none-below n f (x .0) i (ltb-is i n y)) (λ y. let w : n ≤ i = ltb-isnt i n y in let q : i ≡ n = omega arith in ap f q ∙ x .1)
 
-same-numbers : (a b : ℕ) → differs a b ≡ false → a ≡ b
+pub same-numbers : (a b : ℕ) → differs a b ≡ false → a ≡ b
 same-numbers a b e = eqb-is a b (not-false (eqb a b) e)
 
 -- ---- type bytes
@@ -84,6 +84,40 @@ abbrev pub Has : List ℕ → Body → Type 0
 Has s entry = Unit {0}
 Has s (fn k) = k < functions s
 
+-- ---- row 7
+
+pub ends-rise : (s : List ℕ) (i j : ℕ) → i ≤ j → endBefore s i ≤ endBefore s j
+unfolding endBefore
+ends-rise s i zero h = let q : i ≡ 0 = omega arith in rw q (omega arith)
+ends-rise s i (suc j) h =
+    decide (ltb j i) (λ y. let l : j < i = ltb-is j i y in let q : i ≡ suc j = omega arith in rw (q, endBefore) (omega arith))
+    (λ y. let r : endBefore s i ≤ endBefore s j = ends-rise s i j (ltb-isnt j i y) in omega arith)
+
+module _ (s : List ℕ) (g : badFunctions s ≡ false) where
+  good-functions : (some-below (functions s) (badFunction s) ≡ false) × (differs (endBefore s (functions s)) (codeLength s) ≡ false)
+  unfolding badFunctions
+  good-functions = or-neither (some-below (functions s) (badFunction s)) (differs (endBefore s (functions s)) (codeLength s)) g
+
+  pub fills : endBefore s (functions s) ≡ codeLength s
+  fills = same-numbers (endBefore s (functions s)) (codeLength s) (good-functions .1)
+
+  record-parts : (k : ℕ) → k < functions s
+      → (differs (word 4 s (functionAt s k)) (endBefore s k) ≡ false) × (ltb 8 (byte s (functionAt s k + 8)) ≡ false) × (oddReturn (byte s (functionAt s k + 9)) ≡ false)
+      × (some-below 8 (badParam s (functionAt s k)) ≡ false)
+  unfolding badFunction badRecord
+  record-parts k h =
+      let a : ℕ = functionAt s k in
+      let f : badFunction s k ≡ false = none-below (functions s) (badFunction s) (good-functions .0) k h in
+      let x : _ × (some-below 8 (badParam s a) ≡ false) =
+      or-neither _ (some-below 8 (badParam s a)) (or-neither _ (differs (byte s (a + 18)) 0) (or-neither _ (differs (byte s (a + 19)) 0) f .0) .0) in
+      let y : _ × (oddReturn (byte s (a + 9)) ≡ false) = or-neither _ (oddReturn (byte s (a + 9))) (x .0) in
+      let z : _ × (ltb 8 (byte s (a + 8)) ≡ false) = or-neither _ (ltb 8 (byte s (a + 8))) (y .0) in
+      (or-neither (differs (word 4 s a) (endBefore s k)) (eqb (word 4 s (a + 4)) 0) (z .0) .0, z .1, y .1, x .1)
+
+  -- a function starts where the body before it ends
+  pub starts-after : (k : ℕ) → k < functions s → word 4 s (functionAt s k) ≡ endBefore s k
+  starts-after k h = same-numbers (word 4 s (functionAt s k)) (endBefore s k) (record-parts k h .0)
+
 module _ (s : List ℕ) (e : refusal s ≡ 0) where
   rows : AllFalse (short s ∷ otherEdition s ∷ otherTotal s ∷ overLimit s ∷ notPacked s ∷ badConstants s ∷ badFunctions s ∷ badCode s ∷ badLabels s ∷ [])
   unfolding refusal
@@ -105,6 +139,9 @@ module _ (s : List ℕ) (e : refusal s ≡ 0) where
 
   pub little-code : codeLength s ≤ 16384
   little-code = ltb-isnt 16384 (codeLength s) (within-limits .3)
+
+  pub good-bodies : badFunctions s ≡ false
+  good-bodies = rows .1 .1 .1 .1 .1 .1 .0
 
   entry-inside : entryLength s ≤ codeLength s
   unfolding notPacked
@@ -133,47 +170,23 @@ module _ (s : List ℕ) (e : refusal s ≡ 0) where
   pub constant-type : (i : ℕ) → i < constants s → NumberByte (byte s (constantAt i))
   constant-type i h = subst NumberByte (constant-word i h) (constant-word-type i h)
 
-  good-functions : (some-below (functions s) (badFunction s) ≡ false) × (differs (endBefore s (functions s)) (codeLength s) ≡ false)
-  unfolding badFunctions
-  good-functions = or-neither (some-below (functions s) (badFunction s)) (differs (endBefore s (functions s)) (codeLength s)) (rows .1 .1 .1 .1 .1 .1 .0)
-
-  fills : endBefore s (functions s) ≡ codeLength s
-  fills = same-numbers (endBefore s (functions s)) (codeLength s) (good-functions .1)
-
-  record-parts : (k : ℕ) → k < functions s
-      → (differs (word 4 s (functionAt s k)) (endBefore s k) ≡ false) × (ltb 8 (byte s (functionAt s k + 8)) ≡ false) × (oddReturn (byte s (functionAt s k + 9)) ≡ false)
-      × (some-below 8 (badParam s (functionAt s k)) ≡ false)
-  unfolding badFunction badRecord
-  record-parts k h =
-      let a : ℕ = functionAt s k in
-      let f : badFunction s k ≡ false = none-below (functions s) (badFunction s) (good-functions .0) k h in
-      let x : _ × (some-below 8 (badParam s a) ≡ false) =
-      or-neither _ (some-below 8 (badParam s a)) (or-neither _ (differs (byte s (a + 18)) 0) (or-neither _ (differs (byte s (a + 19)) 0) f .0) .0) in
-      let y : _ × (oddReturn (byte s (a + 9)) ≡ false) = or-neither _ (oddReturn (byte s (a + 9))) (x .0) in
-      let z : _ × (ltb 8 (byte s (a + 8)) ≡ false) = or-neither _ (ltb 8 (byte s (a + 8))) (y .0) in
-      (or-neither (differs (word 4 s a) (endBefore s k)) (eqb (word 4 s (a + 4)) 0) (z .0) .0, z .1, y .1, x .1)
-
-  -- a function starts where the body before it ends
-  starts-after : (k : ℕ) → k < functions s → word 4 s (functionAt s k) ≡ endBefore s k
-  starts-after k h = same-numbers (word 4 s (functionAt s k)) (endBefore s k) (record-parts k h .0)
-
   pub few-parameters : (k : ℕ) → k < functions s → byte s (functionAt s k + 8) ≤ 8
-  few-parameters k h = ltb-isnt 8 (byte s (functionAt s k + 8)) (record-parts k h .1)
+  few-parameters k h = ltb-isnt 8 (byte s (functionAt s k + 8)) (record-parts s good-bodies k h .1)
 
   pub result-type : (k : ℕ) → k < functions s → (byte s (functionAt s k + 9) ≡ 0) ⊎ NumberByte (byte s (functionAt s k + 9))
-  result-type k h = return-type (byte s (functionAt s k + 9)) (record-parts k h .2)
+  result-type k h = return-type (byte s (functionAt s k + 9)) (record-parts s good-bodies k h .2)
 
   pub parameter-type : (k j : ℕ) → k < functions s → j < byte s (functionAt s k + 8) → typeByte (tyOf (byte s (functionAt s k + 10 + j))) ≡ byte s (functionAt s k + 10 + j)
   unfolding badParam
   parameter-type k j h l =
       let few : byte s (functionAt s k + 8) ≤ 8 = few-parameters k h in
       param-type (ltb j (byte s (functionAt s k + 8))) (byte s (functionAt s k + 10 + j)) (ltb-yes j (byte s (functionAt s k + 8)) l)
-      (none-below 8 (badParam s (functionAt s k)) (record-parts k h .3) j (omega arith))
+      (none-below 8 (badParam s (functionAt s k)) (record-parts s good-bodies k h .3) j (omega arith))
 
   pub unused-parameter : (k j : ℕ) → k < functions s → byte s (functionAt s k + 8) ≤ j → j < 8 → byte s (functionAt s k + 10 + j) ≡ 0
   unfolding badParam
   unused-parameter k j h l m =
-      let x : oddParam (ltb j (byte s (functionAt s k + 8))) (byte s (functionAt s k + 10 + j)) ≡ false = none-below 8 (badParam s (functionAt s k)) (record-parts k h .3) j m in
+      let x : oddParam (ltb j (byte s (functionAt s k + 8))) (byte s (functionAt s k + 10 + j)) ≡ false = none-below 8 (badParam s (functionAt s k)) (record-parts s good-bodies k h .3) j m in
       same-numbers (byte s (functionAt s k + 10 + j)) 0 (rw (ltb-no j (byte s (functionAt s k + 8)) l) at x)
 
   good-code : (some-below (codeLength s) (unknownAt s) ≡ false) × (some-below (suc (functions s)) (crossed s) ≡ false)
@@ -202,13 +215,6 @@ module _ (s : List ℕ) (e : refusal s ≡ 0) where
 
   -- ---- bodies
 
-  ends-rise : (i j : ℕ) → i ≤ j → endBefore s i ≤ endBefore s j
-  unfolding endBefore
-  ends-rise i zero h = let q : i ≡ 0 = omega arith in rw q (omega arith)
-  ends-rise i (suc j) h =
-      decide (ltb j i) (λ y. let l : j < i = ltb-is j i y in let q : i ≡ suc j = omega arith in rw (q, endBefore) (omega arith))
-      (λ y. let r : endBefore s i ≤ endBefore s j = ends-rise i j (ltb-isnt j i y) in omega arith)
-
   -- its end is the end of a body in the order of the code: cut there, inside the code, not before its start
   record EndsWell (b : Body) : Type 0 where
     cut : due s (bodyEnd s b) ≡ 0
@@ -226,21 +232,21 @@ module _ (s : List ℕ) (e : refusal s ≡ 0) where
 
   end-of : (k : ℕ) → k < functions s → word 4 s (functionAt s k) + word 4 s (functionAt s k + 4) ≡ endBefore s (suc k)
   unfolding endBefore
-  end-of k h = ap (λ z. z + word 4 s (functionAt s k + 4)) (starts-after k h)
+  end-of k h = ap (λ z. z + word 4 s (functionAt s k + 4)) (starts-after s good-bodies k h)
 
   ends-well : (b : Body) → Has s b → EndsWell b
   ends-well entry h = record { cut = subst (λ w. due s w ≡ 0) end-zero (cut-at-end 0 (omega arith)); inside = entry-inside; starts-cut = due-zero; ordered = omega arith }
   ends-well (fn k) h =
       let q : word 4 s (functionAt s k) + word 4 s (functionAt s k + 4) ≡ endBefore s (suc k) = end-of k h in
-      let r : endBefore s (suc k) ≤ endBefore s (functions s) = ends-rise (suc k) (functions s) h in
-      let f : endBefore s (functions s) ≡ codeLength s = fills in
-      record { cut = rw q (cut-at-end (suc k) h); inside = omega arith; starts-cut = rw (starts-after k h) (cut-at-end k (omega arith)); ordered = omega arith }
+      let r : endBefore s (suc k) ≤ endBefore s (functions s) = ends-rise s (suc k) (functions s) h in
+      let f : endBefore s (functions s) ≡ codeLength s = fills s good-bodies in
+      record { cut = rw q (cut-at-end (suc k) h); inside = omega arith; starts-cut = rw (starts-after s good-bodies k h) (cut-at-end k (omega arith)); ordered = omega arith }
 
   -- what lies before the end of an earlier body does not lie in function k
   before : (i k q : ℕ) → k < functions s → i ≤ k → q < endBefore s i → word 4 s (functionAt s k) ≤ q → ⊥
   before i k q h l v u =
-      let r : endBefore s i ≤ endBefore s k = ends-rise i k l in
-      let w : word 4 s (functionAt s k) ≡ endBefore s k = starts-after k h in omega arith
+      let r : endBefore s i ≤ endBefore s k = ends-rise s i k l in
+      let w : word 4 s (functionAt s k) ≡ endBefore s k = starts-after s good-bodies k h in omega arith
 
   -- bodies are packed, so a place that is no end lies in one body only
   same-body : (b c : Body) → Has s b → Has s c → (q : ℕ) → bodyStart s b ≤ q → q < bodyEnd s b → bodyStart s c ≤ q → q < bodyEnd s c → b ≡ c
@@ -339,7 +345,7 @@ pub record Orderly (m : Module) : Type 0 where
   pub lands : (l : ℕ) (b : Body) (q : ℕ) → m .label l ≡ some (b, q) → m .isPlace b q ≡ true
   pub few-params : (k : ℕ) (F : Function) → m .function k ≡ some F → length (F .params) ≤ 8
 
-params-length : (s : List ℕ) (a n : ℕ) → length (paramsFrom s a n) ≡ n
+pub params-length : (s : List ℕ) (a n : ℕ) → length (paramsFrom s a n) ≡ n
 params-length s a zero = refl
 params-length s a (suc n) = ap suc (params-length s a n)
 

@@ -15,7 +15,6 @@ use Rattle.rules.specs.declared.Instruction.the-variants.{Push}
 use Rattle.rules.specs.Instructions.{tyOf, numKind, numOf}
 use Rattle.rules.specs.ModuleFile.{Body, Module, differs, numberType, oddConstant, badConstant, constants, constantAt, constantOf, read, refusal}
 use Rattle.rules.specs.Typing.{Flow, judge, to}
-use Rattle.format.proofs.Tests.{neither}
 use Rattle.memory.proofs.Words.{word-suc}
 use Rattle.soundness.specs.Readable.{good-constant}
 use Rattle.soundness.specs.Tests.{decide, none-some, some-inj}
@@ -24,6 +23,7 @@ use Rattle.records.specs.Laws.{number-type, number-is-type, breaks}
 use Rattle.records.specs.declared.Transfer.{Transfer}
 use Rattle.records.specs.declared.Transfer.the-variants.{Breaks}
 use Rattle.transfer.specs.Transfers.{Judges, Pushes}
+use Rattle.soundness.specs.Tests.{or-neither}
 
 -- ---- type bytes of numbers
 
@@ -59,7 +59,7 @@ no-number t = go (eqb t 3) (eqb t 4) (eqb t 6)
 -- ---- the type of a constant
 
 not-odd : (t u : ℕ) → oddConstant t u ≡ false → numberType t ≡ true
-not-odd t u e = go (eqb t 3) (eqb t 4) (eqb t 6) (neither (eqb t 3 && differs u 0) (differs t 3 && differs t 4 && differs t 6) e .1)
+not-odd t u e = go (eqb t 3) (eqb t 4) (eqb t 6) (or-neither (eqb t 3 && differs u 0) (differs t 3 && differs t 4 && differs t 6) e .1)
   where
     go : (a b d : Bool) → (not a && not b && not d) ≡ false → (a || b || d) ≡ true
     go true b d e = refl

@@ -17,8 +17,7 @@ use Rattle.rules.specs.Machine.{own}
 use Rattle.rules.specs.Typing.{Flow, judge, to, withResult}
 use Rattle.format.specs.declared.Sections.{Sections}
 use Rattle.format.specs.Layout.{Packed}
-use Rattle.format.proofs.Tests.{neither, either}
-use Rattle.format.proofs.Gathered.{none-below}
+use Rattle.format.proofs.Tests.{either}
 use Rattle.format.proofs.Rows.{first-miss}
 use Rattle.reader.specs.declared.entries.FunctionRecord.{FunctionRecord}
 use Rattle.reader.specs.declared.entries.FoundFunction.the-variants.{Record}
@@ -33,6 +32,8 @@ use Rattle.transfer.specs.Transfers.{Judges, Pushes, Stripped}
 use Rattle.transfer.proofs.Flows.{stops}
 use Rattle.transfer.proofs.Constants.{number-of, number-byte, number-kind, no-number}
 use Rattle.transfer.proofs.Operands.{no-operand, top-type, top-operand}
+use Rattle.soundness.specs.Tests.{or-neither}
+use Rattle.soundness.specs.Readable.{none-below}
 
 -- ---- row 7
 
@@ -60,13 +61,13 @@ functions-good s h =
 good-param : (s : List ℕ) → refusal s ≡ 0 → (k : ℕ) → k < functions s → (j : ℕ) → j < 8 → badParam s (functionAt s k) j ≡ false
 unfolding badFunctions badFunction badRecord
 good-param s h k l j m =
-    let b = none-below (badFunction s) (functions s) (neither (some-below (functions s) (badFunction s)) _ (functions-good s h) .0) k l in
+    let b = none-below (functions s) (badFunction s) (or-neither (some-below (functions s) (badFunction s)) _ (functions-good s h) .0) k l in
     let a : ℕ = functionAt s k in
     let first : Bool = differs (word 4 s a) (endBefore s k) || eqb (word 4 s (a + 4)) 0 || ltb 8 (byte s (a + 8)) || oddReturn (byte s (a + 9)) in
-    let b6 = neither _ (differs (byte s (a + 19)) 0) b in
-    let b5 = neither _ (differs (byte s (a + 18)) 0) (b6 .0) in
-    let b4 = neither first (some-below 8 (badParam s a)) (b5 .0) in
-    none-below (badParam s (functionAt s k)) 8 (b4 .1) j m
+    let b6 = or-neither _ (differs (byte s (a + 19)) 0) b in
+    let b5 = or-neither _ (differs (byte s (a + 18)) 0) (b6 .0) in
+    let b4 = or-neither first (some-below 8 (badParam s a)) (b5 .0) in
+    none-below 8 (badParam s (functionAt s k)) (b4 .1) j m
 
 -- ---- the function of a record
 
@@ -102,7 +103,7 @@ module _ (s : List ℕ) (e : refusal s ≡ 0) (k : ℕ) (g : FunctionRecord) (is
       let used : ltb j (byte s (a + 8)) ≡ true = lt-ltb j (byte s (a + 8)) (omega arith) in
       let b : oddParam (ltb j (byte s (a + 8))) t ≡ false = good-param s e k function-there j (omega arith) in
       let d : oddParam true t ≡ false = rw used at b in
-      type-byte t (not-false _ (neither (not (numberType t || eqb t 131 || eqb t 132 || eqb t 134)) _ d .0))
+      type-byte t (not-false _ (or-neither (not (numberType t || eqb t 131 || eqb t 132 || eqb t 134)) _ d .0))
 
 -- ---- call
 
