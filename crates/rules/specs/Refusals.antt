@@ -20,6 +20,14 @@ bare t c f l n e z = words (3 ∷ t ∷ c ∷ 48 ∷ f ∷ 48 ∷ l ∷ 48 ∷ n
 abbrev one : List ℕ
 one = file [] (function (3 ∷ []) 3 (LOAD 0 ++ RET) ∷ []) [] []
 
+abbrev eight : List ℕ
+eight = file [] (function (3 ∷ 4 ∷ 6 ∷ 131 ∷ 132 ∷ 134 ∷ 3 ∷ 3 ∷ []) 3 (LOAD 0 ++ RET) ∷ []) [] []
+
+-- an entry of 5 bytes; function 0 from 5 on, of 2 ^ 32 - 3 bytes; function 1 from 2 on, of 3 bytes: up to 5, the code's length
+abbrev wrapping : List ℕ
+wrapping =
+    words (3 ∷ 93 ∷ 0 ∷ 48 ∷ 2 ∷ 48 ∷ 0 ∷ 88 ∷ 5 ∷ 88 ∷ 5 ∷ 0 ∷ 5 ∷ 0xfffffffd ∷ 0 ∷ 0 ∷ 0 ∷ 2 ∷ 3 ∷ 0 ∷ 0 ∷ 0 ∷ []) ++ (POP ++ (POP ++ (POP ++ (POP ++ POP))))
+
 -- two functions, labels as given: the entry's code is at places 0 to 5, the functions' at 6 and 12
 abbrev labelled : List (ℕ × ℕ) → List ℕ
 labelled ls = file ((3, 5) ∷ []) (function [] 3 (PUSH 0 ++ RET) ∷ function [] 0 RET ∷ []) ls (PUSH 0 ++ POP)
@@ -39,9 +47,13 @@ rows =
     ∷ (set w1 48 5, 6) ∷ (set w1 60 7, 6) ∷ (set w1 49 1, 6) ∷ (set w1 56 1, 6) ∷ (set w1 71 1, 6) ∷ (set (set w1 48 4) 56 1, 0) ∷ (set (set w1 48 6) 59 1, 0)
     -- 7: bodies that don't fill the code; each field of a record
     ∷ (set w1 40 0x0a, 7) ∷ (one, 0) ∷ (set one 48 1, 7) ∷ (set one 52 5, 7) ∷ (set one 52 7, 7) ∷ (set (set one 52 0) 32 0, 5) ∷ (set one 56 0, 7) ∷ (set one 56 2, 7) ∷ (set one 56 9, 7)
+    -- eight parameters, and no ninth
+    ∷ (eight, 0) ∷ (set eight 56 9, 7) ∷ (set eight 56 7, 7)
     ∷ (set one 57 0, 0) ∷ (set one 57 4, 0) ∷ (set one 57 6, 0) ∷ (set one 57 5, 7) ∷ (set one 57 7, 7) ∷ (set one 57 131, 7) ∷ (set one 58 4, 0) ∷ (set one 58 6, 0) ∷ (set one 58 131, 0) ∷ (set one 58 132, 0)
     ∷ (set one 58 134, 0) ∷ (set one 58 5, 7) ∷ (set one 58 133, 7) ∷ (set one 58 0, 7) ∷ (set one 59 3, 7) ∷ (set one 65 1, 7) ∷ (set one 66 1, 7) ∷ (set one 67 1, 7)
     ∷ (file [] (function [] 0 [] ∷ []) [] RET, 7)
+    -- lengths that fill the code only if their sum wraps at 32 bits
+    ∷ (wrapping, 7)
     -- 8: unknown opcodes, also in code that is never reached; an instruction that crosses the code's or its body's end
     ∷ (file [] [] [] (0 ∷ []), 8) ∷ (file [] [] [] (6 ∷ []), 8) ∷ (file [] [] [] (0x29 ∷ []), 8) ∷ (file [] [] [] (0x2a ∷ []), 8) ∷ (file [] [] [] (0x2d ∷ []), 8) ∷ (file [] [] [] (0x2f ∷ []), 8)
     ∷ (file [] [] [] (255 ∷ []), 8) ∷ (file [] [] [] (RET ++ (6 ∷ [])), 8) ∷ (file [] [] [] (1 ∷ 0 ∷ 0 ∷ 0 ∷ []), 8) ∷ (file [] [] [] (6 ∷ 0 ∷ []), 8) ∷ (file [] [] [] (1 ∷ 6 ∷ 6 ∷ 6 ∷ 6 ∷ []), 0)
@@ -49,7 +61,7 @@ rows =
     -- 9: owners, ends, operand bytes, other bodies, an empty entry
     ∷ (labelled ((0xffffffff, 0) ∷ (0xffffffff, 5) ∷ (0, 6) ∷ (0, 11) ∷ (1, 12) ∷ (1, 12) ∷ []), 0) ∷ (labelled ((2, 12) ∷ []), 9) ∷ (labelled ((0xfffffffe, 0) ∷ []), 9) ∷ (labelled ((0xffffffff, 6) ∷ []), 9)
     ∷ (labelled ((0xffffffff, 1) ∷ []), 9) ∷ (labelled ((0, 0) ∷ []), 9) ∷ (labelled ((0, 12) ∷ []), 9) ∷ (labelled ((1, 13) ∷ []), 9) ∷ (labelled ((0, 7) ∷ []), 9)
-    ∷ (file [] (function [] 0 RET ∷ []) ((0xffffffff, 0) ∷ []) [], 9)
+    ∷ (file [] (function [] 0 RET ∷ []) ((0xffffffff, 0) ∷ []) [], 9) ∷ (labelled ((0, 6) ∷ (0, 7) ∷ []), 9) ∷ (labelled ((0, 7) ∷ (0, 6) ∷ []), 9)
     -- the smallest number, not the first in the file: 6 with 7 and 8, 7 with 8, 8 with 9
     ∷ (file ((5, 0) ∷ []) (function (5 ∷ []) 0 (6 ∷ []) ∷ []) ((9, 0) ∷ []) [], 6) ∷ (file [] (function [] 0 (6 ∷ []) ∷ function (5 ∷ []) 0 RET ∷ []) [] [], 7) ∷ (file [] (function [] 0 (6 ∷ []) ∷ []) ((9, 0) ∷ []) [], 8)
     ∷ []
@@ -66,3 +78,17 @@ expected (r ∷ rs) = r .1 ∷ expected rs
 pub table : computed rows ≡ expected rows
 unfolding computed expected rows
 table = refl
+
+-- ---- "opcodes 01 to 05, 07 to 28, 2B, 2C, 2E (hex), 42 in all": the bytes below n with which an entry can begin, four more after them
+
+pub before : ℕ → List ℕ → List ℕ
+before zero bs = bs
+before (suc b) bs = elim (refusalNow (file [] [] [] (b ∷ 2 ∷ 2 ∷ 2 ∷ 2 ∷ []))) [ zero ↦ before b (b ∷ bs) | suc e ↦ before b bs ]
+
+abbrev from-to : ℕ → ℕ → List ℕ
+from-to b zero = []
+from-to b (suc n) = b ∷ from-to (suc b) n
+
+pub opcodes-table : before 256 [] ≡ from-to 0x01 5 ++ (from-to 0x07 34 ++ (0x2b ∷ 0x2c ∷ 0x2e ∷ []))
+unfolding refusalNow before
+opcodes-table = refl
