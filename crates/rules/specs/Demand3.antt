@@ -47,7 +47,7 @@ Shows m b p bytes =
 
 -- ---- the second part: "how a run can end"
 
--- "The four ends are outcomes 0, 15, 20 and 24."
+-- "The four ends are outcomes 0, 15, 20 and 24.": exactly these (`exactly-four` of `Ends`)
 pub data End : ℕ → Type 0 where
   finished : End 0
   used-up : End 15

@@ -14,6 +14,7 @@ pub mod Answers
 pub mod Host
 pub mod Program
 pub mod Demand3
+pub mod Ends
 pub mod Claims
 pub mod Files
 pub mod Evaluate
