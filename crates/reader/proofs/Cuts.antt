@@ -126,7 +126,7 @@ module _ (s : List ℕ) (p z : ℕ) (t : List ℕ) (cut : Cut s p t) where
 pub crosses : (s : List ℕ) (p z to : ℕ) → due s p ≡ 0 → z ≡ sizeIn (opcodeAt s p) → 0 < z → p < to → to < p + z → differs (due s to) 0 ≡ true
 crosses s p z to begins size some l h = differs-true (due s to) 0 (within s p z begins size some to l h)
 
-pub unknown-below : (s : List ℕ) (p z to : ℕ) → due s p ≡ 0 → z ≡ sizeIn (opcodeAt s p) → z ≡ 0 → p < to → Fails s to
+unknown-below : (s : List ℕ) (p z to : ℕ) → due s p ≡ 0 → z ≡ sizeIn (opcodeAt s p) → z ≡ 0 → p < to → Fails s to
 unfolding unknownAt
 unknown-below s p z to begins size none l =
     or-left _ _ (some-hit (unknownAt s) to p l (simp (eq-eqb _ _ begins, absent-here (opcodeAt s p) (sym size ∙ none))))
@@ -137,3 +137,8 @@ walked s p to t cut l h = go (eqb p to) refl
     go : (b : Bool) → eqb p to ≡ b → Walked b s to t
     go true e = subst (λ (q : ℕ). Cut s q t) (eqb-true p to e) cut
     go false e = or-right (some-below to (unknownAt s)) (differs (due s to) 0) (h (⊎-elim (λ g. absurd (eqb-false p to e (sym g))) (λ g. g) (eq-or-lt-of-le l)))
+
+-- a walk that stops at an unknown instruction
+pub stopped : (s : List ℕ) (p z to : ℕ) (t : List ℕ) → due s p ≡ 0 → z ≡ sizeIn (opcodeAt s p) → z ≡ 0 → p < to → Walked (eqb p to) s to t
+stopped s p z to t begins size none l =
+    subst (λ (b : Bool). Walked b s to t) (sym (ne-eqb p to (λ e. let e' : p ≡ to = e in omega arith))) (unknown-below s p z to begins size none l)

@@ -2,5 +2,6 @@
 pub mod Table
 pub mod Records
 pub mod Cuts
+pub mod BareRuns
 pub mod Bodies
 pub mod Opening

@@ -4,10 +4,10 @@ use native.Mathlib.Nat.{eq-or-lt-of-le, le-of-suc-le-suc}
 use native.Mathlib.Omega.{arith}
 use mathlib.Core.Path.{_≡_, refl, sym, ap, _∙_}
 use mathlib.Core.Logic.{⊎-elim}
-use mathlib.Core.Bool.{Bool, true, false, _&&_, _||_, cond, true≢false}
+use mathlib.Core.Bool.{Bool, true, false, not, xor, _&&_, _||_, cond, true≢false}
 use mathlib.Core.List.{List, [], _∷_}
 use mathlib.Core.Option.{none}
-use lib.Dec.{ltb, eqb}
+use lib.Dec.{ltb, leb, eqb}
 use lib.ListN.{List·getD-eq-default}
 use borrow.Author.Tests.{eqb-true, eq-eqb, ne-eqb}
 use Rattle.rules.specs.Instructions.{Opcode, absent, bare, wide, edition3, opcodeOf, isAbsent, instructionOf}
@@ -16,7 +16,7 @@ use Rattle.rules.specs.Bytes.{byte, word}
 use Rattle.format.specs.declared.Sections.{Sections}
 use Rattle.format.proofs.Tests.{and-left, and-right}
 use Rattle.format.specs.Layout.{Packed}
-use Rattle.reader.specs.Cut.{sizeIn}
+use Rattle.reader.specs.Cut.{sizeIn, isBare}
 use Rattle.reader.specs.Families.{among, wides, arithmetics, others}
 
 allBelow : ℕ → (ℕ → Bool) → Bool
@@ -42,6 +42,25 @@ sizes = refl
 
 pub size-by-bits : (b : ℕ) → b < 256 → sizeByBits b ≡ sizeIn (opcodeOf edition3 b)
 size-by-bits b h = eqb-true _ _ (all-at 256 (λ b. eqb (sizeByBits b) (sizeIn (opcodeOf edition3 b))) sizes b h)
+
+-- ---- opcodes that stand alone, by comparisons
+
+abbrev pub bareByRange : ℕ → Bool
+bareByRange b = eqb b 2 || (leb 7 b && leb b 31) || eqb b 40 || eqb b 43 || eqb b 44 || eqb b 46
+
+bares : allBelow 256 (λ b. not (xor (bareByRange b) (isBare (opcodeOf edition3 b)))) ≡ true
+unfolding allBelow xor
+bares = refl
+
+like : (x y : Bool) → not (xor x y) ≡ true → x ≡ y
+unfolding xor
+like true true h = refl
+like true false h = absurd (true≢false (sym h))
+like false true h = absurd (true≢false (sym h))
+like false false h = refl
+
+pub bare-by-range : (b : ℕ) → b < 256 → bareByRange b ≡ isBare (opcodeOf edition3 b)
+bare-by-range b h = like _ _ (all-at 256 (λ b. not (xor (bareByRange b) (isBare (opcodeOf edition3 b)))) bares b h)
 
 -- ---- the opcode at a place of an opened module
 

@@ -1,12 +1,12 @@
 -- The code cut into instructions, and a table of places that marks where one begins.
-use Prim.Native.Nat.{ℕ, _≤_, _<_}
+use Prim.Native.Nat.{ℕ, zero, suc, _+_, _≤_, _<_}
 use mathlib.Core.Path.{_≡_}
-use mathlib.Core.Bool.{Bool, true, false, cond, _||_}
+use mathlib.Core.Bool.{Bool, true, false, cond, _&&_, _||_}
 use mathlib.Core.List.{List}
-use lib.ListN.{length, getD}
+use lib.ListN.{length, getD, set}
 use lib.Dec.{eqb}
-use Rattle.rules.specs.Bytes.{some-below}
-use Rattle.rules.specs.Instructions.{Opcode, absent, bare, wide}
+use Rattle.rules.specs.Bytes.{byte, some-below}
+use Rattle.rules.specs.Instructions.{Opcode, absent, bare, wide, edition3, opcodeOf}
 use Rattle.rules.specs.ModuleFile.{due, unknownAt, codeLength, differs}
 
 -- the bytes of an opcode's instruction; 0 for none
@@ -14,6 +14,22 @@ abbrev pub sizeIn : Opcode → ℕ
 sizeIn absent = 0
 sizeIn (bare i) = 1
 sizeIn (wide i) = 5
+
+-- whether no word follows an opcode
+abbrev pub isBare : Opcode → Bool
+isBare absent = false
+isBare (bare i) = true
+isBare (wide i) = false
+
+-- whether the n bytes from `at` on are such opcodes
+unfoldable pub allBare : List ℕ → ℕ → ℕ → Bool
+allBare s at zero = true
+allBare s at (suc n) = allBare s at n && isBare (opcodeOf edition3 (byte s (at + n)))
+
+-- a table with n places more marked, from p on, as far as it goes
+unfoldable pub marks : List ℕ → ℕ → ℕ → List ℕ
+marks t p zero = t
+marks t p (suc n) = set (marks t p n) (p + n) 1
 
 -- 1 at a place that begins an instruction, else 0
 unfoldable pub mark : List ℕ → ℕ → ℕ
@@ -39,6 +55,7 @@ abbrev pub Walked : Bool → List ℕ → ℕ → List ℕ → Type 0
 Walked true s p t = Cut s p t
 Walked false s p t = Fails s p
 
--- the whole code is marked, its end too, as far as the table goes
+-- The table of starts: as far as the table goes, it has 1 at exactly those places of the code that begin an instruction, and at the code's end, and 0
+-- at all others. `bad_code` ensures this of code that passes row 8.
 abbrev pub Marked : List ℕ → List ℕ → Type 0
 Marked s t = (q : ℕ) → q ≤ codeLength s → q < length t → getD t q 0 ≡ mark s q

@@ -7,6 +7,7 @@ ghost use Rattle.rules.specs.Instructions.{edition3, opcodeOf};
 ghost use Rattle.rules.specs.ModuleFile.{badFunctions, badCode};
 ghost use Rattle.format.specs.Layout.{Packed};
 ghost use Rattle.reader.specs.Cut.{sizeIn, Blank, Cut, Walked, Marked};
+use crate::blocks;
 use format::Sections;
 
 // A bit for each opcode that a word follows: 01, 03 to 05, 20 to 27 hex.
@@ -42,7 +43,8 @@ fn mark(starts: &mut [u8], p: usize)
     }
 }
 
-// Walks a body; false where an instruction is unknown or crosses the body's end.
+// Walks a body; false where an instruction is unknown or crosses the body's end. A place is marked before its byte is
+// looked at: no one reads a table of code that fails. After eight one-byte instructions in a row it goes on by blocks.
 fn walk_body(file: &[u8], c: Sections, from: usize, to: usize, starts: &mut [u8]) -> bool
     requires { ⌜ Packed (now file) c ⌝ }
     requires { ⌜ (from ≤ to) × (to ≤ c .extent) ⌝ }
@@ -52,13 +54,23 @@ fn walk_body(file: &[u8], c: Sections, from: usize, to: usize, starts: &mut [u8]
 {
     let code = c.code;
     let mut p = from;
+    let mut wait: u32 = 8;
     while p < to {
+        mark(starts, p);
         let size = opcode_size(file[code + p]);
         if size == 0 {
-            return false;
+            break;
         }
-        mark(starts, p);
         p += size;
+        if size == 1 {
+            wait -= 1;
+        } else {
+            wait = 8;
+        }
+        if wait == 0 {
+            p = blocks::skip(file, c, p, to, starts);
+            wait = 8;
+        }
     }
     p == to
 }
@@ -72,22 +84,21 @@ pub(crate) fn bad_code(file: &[u8], c: Sections, starts: &mut [u8]) -> bool
     ensures { λ r. ⌜ (r ≡ false → Marked (now (file .entry)) (now (starts .exit))) ⌝ }
 {
     let n = c.functions;
+    let mut from = 0;
     let mut end = c.entry;
-    let entry = walk_body(file, c, 0, end, starts);
-    if !entry {
-        return true;
-    }
     let mut i = 0;
-    while i < n {
-        let at = c.records + 20 * i;
-        let next = end + format::word(file, at + 4);
-        let whole = walk_body(file, c, end, next, starts);
+    loop {
+        let whole = walk_body(file, c, from, end, starts);
         if !whole {
             return true;
         }
-        end = next;
+        if i == n {
+            mark(starts, end);
+            return false;
+        }
+        let at = c.records + 20 * i;
+        from = end;
+        end += format::word(file, at + 4);
         i += 1;
     }
-    mark(starts, end);
-    false
 }

@@ -9,41 +9,67 @@ use borrow.Author.Needs.{needs}
 use borrow.Author.Tests.{not-true, not-false}
 use Rattle.reader.proofs.Bodies.{cut-none, failed, passed, end-first, end-next, end-inside, bad-body, good-bodies, all-marked, crossed-more}
 use Rattle.reader.specs.Cut.{Marked, Cut}
-use Rattle.rules.specs.Bytes.{word, some-below}
+use Rattle.rules.specs.Bytes.{some-below}
 use Rattle.rules.specs.ModuleFile.{crossed, endBefore, functions}
 use Rattle.reader.proofs.code.bad_code.Statement.{statement}
 use Rattle.reader.proofs.code.bad_code.Tie as tie
 
 abbrev Inv-loop : tie.InvT-loop
-Inv-loop file c starts₀ n end₀ entry i₀ starts end i = (i ≤ n) × (end ≡ endBefore file i) × Cut file (endBefore file i) starts × (length starts ≡ length starts₀) × (some-below i (crossed file) ≡ false)
+Inv-loop file c starts₀ n from₀ end₀ i₀ starts from end i = (i ≤ n) × (end ≡ endBefore file i) × (from ≤ end) × Cut file from starts × (length starts ≡ length starts₀) × (some-below i (crossed file) ≡ false)
 
 abbrev μ-loop : tie.MeasureT-loop
-μ-loop file c starts₀ n end₀ entry i₀ starts end i = n - i
+μ-loop file c starts₀ n from₀ end₀ i₀ starts from end i = n - i
+
+loop-holds : tie.Need-loop-holds Inv-loop μ-loop
+unfolding some-below
+loop-holds c = let at-start = c .before .before in
+    let s = at-start .args .file .now in
+    (omega arith, at-start .pre .0 .0 .entry-is ∙ end-first s, omega arith, cut-none _ _ (at-start .pre .1), refl, refl)
 
 walk-body-requires : tie.Need-walk-body-requires Inv-loop μ-loop
-walk-body-requires c κs = let at-start = c .before .before .before in
-    (at-start .pre .0 .0, ((omega arith, omega arith), cut-none _ _ (at-start .pre .1)))
+walk-body-requires c κs = let at-start = c .before .before .before .before in
+    let at-loop = c .before .loop in
+    let s = at-start .args .file .now in let l = end-inside s (at-start .pre .0 .1) (at-loop .i) (omega arith) in
+    (at-start .pre .0 .0, ((at-loop .inv .2, omega arith), at-loop .inv .3))
 
 same-length : tie.Need-same-length Inv-loop μ-loop
-same-length c = c .before .before .before .walk-body .ensures .0
+same-length c = c .before .before .before .walk-body .ensures .0 ∙ c .before .before .before .before .before .loop .inv .4
 
 returns : tie.Need-returns Inv-loop μ-loop
-returns c = let at-start = c .before .before .before .before .before .before .before in
+returns c = let at-start = c .before .before .before .before .before .before .before .before in
     let at-walk-body = c .before .before .before .walk-body in
+    let at-loop = c .before .before .before .before .before .loop in
     let s = at-start .args .file .now in (
-      at-walk-body .ensures .0,
+      at-walk-body .ensures .0 ∙ at-loop .inv .4,
       (
-        bad-body s (at-start .pre .0 .1) 0 (omega arith) (failed s _ _ _ _ (not-true (at-walk-body .result) (c .if1 .taken)) (at-start .pre .0 .0 .entry-is ∙ end-first s) (at-walk-body .ensures .1)),
+        bad-body s (at-start .pre .0 .1) (at-loop .i) (omega arith) (failed s _ _ _ _ (not-true (at-walk-body .result) (c .if1 .taken)) (at-loop .inv .1) (at-walk-body .ensures .1)),
         λ e. absurd (true≢false e),
       ),
     )
 
-loop-holds : tie.Need-loop-holds Inv-loop μ-loop
-unfolding some-below
-loop-holds c = let at-start = c .before .before .before .before .before .before .before in
-    let at-walk-body = c .before .before .before .walk-body in
-    let s = at-start .args .file .now in let e = at-start .pre .0 .0 .entry-is ∙ end-first s in
-    (omega arith, e, passed s _ _ _ _ (not-false (at-walk-body .result) (c .if1 .left)) e (at-walk-body .ensures .1), refl, refl)
+mark-requires : tie.Need-mark-requires Inv-loop μ-loop
+mark-requires c κs = search needs
+
+same-length-2 : tie.Need-same-length-2 Inv-loop μ-loop
+same-length-2 c = let at-walk-body = c .before .before .before .before .before .before .before .before .walk-body in
+    let at-loop = c .before .before .before .before .before .before .before .before .before .before .loop in
+    ap length (c .before .before .mark .ensures) ∙ length-set (at-walk-body .last .1 .1 .1 .1 .0) (at-loop .end) 1 ∙ at-walk-body .ensures .0 ∙ at-loop .inv .4
+
+returns-2 : tie.Need-returns-2 Inv-loop μ-loop
+returns-2 c = let at-start = c .before .before .before .before .before .before .before .before .before .before .before .before .before in
+    let at-loop = c .before .before .before .before .before .before .before .before .before .before .loop in
+    let at-walk-body = c .before .before .before .before .before .before .before .before .walk-body in
+    let at-mark = c .before .before .mark in
+    let s = at-start .args .file .now in let i = at-loop .i in let t = at-walk-body .last .1 .1 .1 .1 .0 in
+    let e : i ≡ functions s = omega arith in
+    let m : at-mark .last .0 ≡ set t (endBefore s i) 1 = at-mark .ensures ∙ ap (λ (x : ℕ). set t x 1) (at-loop .inv .1) in
+    let cut = passed s _ _ t _ (not-false (at-walk-body .result) (c .before .before .before .before .before .if1 .left)) (at-loop .inv .1) (at-walk-body .ensures .1) in (
+      ap length (at-mark .ensures) ∙ length-set t (at-loop .end) 1 ∙ at-walk-body .ensures .0 ∙ at-loop .inv .4,
+      (
+        good-bodies s (at-start .pre .0 .1) i t e cut (crossed-more s (at-start .pre .0 .1) i t (at-loop .inv .5) cut),
+        λ z. subst (λ (x : List ℕ). Marked s x) (sym m) (all-marked s (at-start .pre .0 .1) i t e cut),
+      ),
+    )
 
 mul-at : tie.Need-mul-at Inv-loop μ-loop
 mul-at c = omega arith
@@ -57,37 +83,9 @@ add-word c = omega arith
 word-requires : tie.Need-word-requires Inv-loop μ-loop
 word-requires c κs = omega arith
 
-add-next : tie.Need-add-next Inv-loop μ-loop
-add-next c = let at-start = c .before .before .before .before .before .before .before .before .before .before .before in
-    let s = at-start .args .file .now in
-    omega (arith, end-inside s (at-start .pre .0 .1) (c .before .before .before .loop .i) (omega arith))
-
-walk-body-requires-2 : tie.Need-walk-body-requires-2 Inv-loop μ-loop
-walk-body-requires-2 c κs = let at-start = c .before .before .before .before .before .before .before .before .before .before .before .before in
-    let at-loop = c .before .before .before .before .loop in
-    let s = at-start .args .file .now in let i = at-loop .i in
-    let n : at-loop .end + c .before .word .result ≡ endBefore s (i + 1) = end-next s (at-start .args .c) (at-start .pre .0 .0) i _ _ (at-loop .inv .1) (c .before .word .ensures .0) in
-    let l = end-inside s (at-start .pre .0 .1) (i + 1) (omega arith) in
-    (at-start .pre .0 .0, ((omega arith, omega arith), subst (λ (x : ℕ). Cut s x (at-loop .starts)) (sym (at-loop .inv .1)) (at-loop .inv .2)))
-
-same-length-2 : tie.Need-same-length-2 Inv-loop μ-loop
-same-length-2 c = c .before .before .before .walk-body2 .ensures .0 ∙ c .before .before .before .before .before .before .before .before .loop .inv .3
-    ∙ c .before .before .before .before .before .before .before .before .before .before .before .before .walk-body .ensures .0
-
-returns-2 : tie.Need-returns-2 Inv-loop μ-loop
-returns-2 c = let at-start = c .before .before .before .before .before .before .before .before .before .before .before .before .before .before .before .before in
-    let at-loop = c .before .before .before .before .before .before .before .before .loop in
-    let at-word = c .before .before .before .before .before .word in
-    let at-walk-body2 = c .before .before .before .walk-body2 in
-    let s = at-start .args .file .now in let i = at-loop .i in
-    let n : at-loop .end + at-word .result ≡ endBefore s (i + 1) = end-next s (at-start .args .c) (at-start .pre .0 .0) i _ _ (at-loop .inv .1) (at-word .ensures .0) in (
-      at-walk-body2 .ensures .0 ∙ at-loop .inv .3
-          ∙ c .before .before .before .before .before .before .before .before .before .before .before .before .walk-body .ensures .0,
-      (
-        bad-body s (at-start .pre .0 .1) (i + 1) (omega arith) (failed s _ _ _ _ (not-true (at-walk-body2 .result) (c .if2 .taken)) n (at-walk-body2 .ensures .1)),
-        λ e. absurd (true≢false e),
-      ),
-    )
+add-end : tie.Need-add-end Inv-loop μ-loop
+add-end c = let at-start = c .before .before .before .before .before .before .before .before .before .before .before in
+    let s = at-start .args .file .now in omega (arith, end-inside s (at-start .pre .0 .1) (c .before .before .before .before .before .before .before .before .loop .i) (omega arith))
 
 add-i : tie.Need-add-i Inv-loop μ-loop
 add-i c = omega arith
@@ -96,40 +94,18 @@ loop-less : tie.Need-loop-less Inv-loop μ-loop
 loop-less c = omega arith
 
 loop-again : tie.Need-loop-again Inv-loop μ-loop
-loop-again c = let at-start = c .before .before .before .before .before .before .before .before .before .before .before .before .before .before .before .before in
+loop-again c = let at-start = c .before .before .before .before .before .before .before .before .before .before .before in
     let at-loop = c .before .before .before .before .before .before .before .before .loop in
-    let at-word = c .before .before .before .before .before .word in
-    let at-walk-body2 = c .before .before .before .walk-body2 in
-    let s = at-start .args .file .now in let i = at-loop .i in
-    let n : at-loop .end + at-word .result ≡ endBefore s (i + 1) = end-next s (at-start .args .c) (at-start .pre .0 .0) i _ _ (at-loop .inv .1) (at-word .ensures .0) in (
+    let at-walk-body = c .before .before .before .before .before .before .walk-body in
+    let s = at-start .args .file .now in let i = at-loop .i in let t = at-walk-body .last .1 .1 .1 .1 .0 in
+    let n : at-loop .end + c .word .result ≡ endBefore s (i + 1) = end-next s (at-start .args .c) (at-start .pre .0 .0) i _ _ (at-loop .inv .1) (c .word .ensures .0) in
+    let whole = not-false (at-walk-body .result) (c .before .before .before .if1 .left) in (
       omega arith,
       n,
-      passed s _ _ _ _ (not-false (at-walk-body2 .result) (c .if2 .left)) n (at-walk-body2 .ensures .1),
-      at-walk-body2 .ensures .0 ∙ at-loop .inv .3,
-      crossed-more s (at-start .pre .0 .1) i (at-loop .starts) (at-loop .inv .4) (at-loop .inv .2),
-    )
-
-mark-requires : tie.Need-mark-requires Inv-loop μ-loop
-mark-requires c κs = search needs
-
-same-length-3 : tie.Need-same-length-3 Inv-loop μ-loop
-same-length-3 c = let at-loop = c .before .before .before .before .before .loop in
-    ap length (c .before .before .mark .ensures) ∙ length-set (at-loop .starts) (at-loop .end) 1 ∙ at-loop .inv .3
-    ∙ c .before .before .before .before .before .before .before .before .before .walk-body .ensures .0
-
-returns-3 : tie.Need-returns-3 Inv-loop μ-loop
-returns-3 c = let at-start = c .before .before .before .before .before .before .before .before .before .before .before .before .before in
-    let at-loop = c .before .before .before .before .before .loop in
-    let at-mark = c .before .before .mark in
-    let s = at-start .args .file .now in let i = at-loop .i in let t = at-loop .starts in
-    let e : i ≡ functions s = omega arith in
-    let m : at-mark .last .0 ≡ set t (endBefore s i) 1 = at-mark .ensures ∙ ap (λ (x : ℕ). set t x 1) (at-loop .inv .1) in (
-      ap length (at-mark .ensures) ∙ length-set t (at-loop .end) 1 ∙ at-loop .inv .3
-          ∙ c .before .before .before .before .before .before .before .before .before .walk-body .ensures .0,
-      (
-        good-bodies s (at-start .pre .0 .1) i t e (at-loop .inv .2) (crossed-more s (at-start .pre .0 .1) i t (at-loop .inv .4) (at-loop .inv .2)),
-        λ z. subst (λ (x : List ℕ). Marked s x) (sym m) (all-marked s (at-start .pre .0 .1) i t e (at-loop .inv .2)),
-      ),
+      omega arith,
+      passed s _ _ t _ whole refl (at-walk-body .ensures .1),
+      at-walk-body .ensures .0 ∙ at-loop .inv .4,
+      crossed-more s (at-start .pre .0 .1) i t (at-loop .inv .5) (passed s _ _ t _ whole (at-loop .inv .1) (at-walk-body .ensures .1)),
     )
 
 pub bad-code-spec : {M : Type 1} → statement M
@@ -138,21 +114,18 @@ bad-code-spec =
     (tie.spec
     Inv-loop
     μ-loop
+    loop-holds
     walk-body-requires
     same-length
     returns
-    loop-holds
+    mark-requires
+    same-length-2
+    returns-2
     mul-at
     add-at
     add-word
     word-requires
-    add-next
-    walk-body-requires-2
-    same-length-2
-    returns-2
+    add-end
     add-i
     loop-less
-    loop-again
-    mark-requires
-    same-length-3
-    returns-3)
+    loop-again)

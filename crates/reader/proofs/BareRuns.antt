@@ -1,0 +1,69 @@
+-- Runs of opcodes that stand alone: how they are tested, marked, and cut into instructions.
+use Prim.Native.Nat.{ℕ, zero, suc, _+_, _≤_}
+use native.Mathlib.Nat.{add-zero}
+use native.Mathlib.Numerals.{add-one}
+use native.Mathlib.Omega.{arith}
+use mathlib.Core.Path.{_≡_, refl, sym, ap, _∙_, subst}
+use mathlib.Core.Bool.{Bool, true, _&&_, true≢false}
+use mathlib.Core.List.{List}
+use lib.ListN.{length, set, length-set}
+use lib.Seq.{set-out}
+use Rattle.rules.specs.Bytes.{byte}
+use Rattle.rules.specs.Instructions.{Opcode, absent, bare, wide, edition3, opcodeOf}
+use Rattle.rules.specs.ModuleFile.{opcodeAt}
+use Rattle.format.specs.declared.Sections.{Sections}
+use Rattle.format.specs.Layout.{Packed}
+use Rattle.format.proofs.Tests.{and-left, and-right}
+use Rattle.reader.specs.Cut.{sizeIn, Cut, isBare, allBare, marks}
+use Rattle.reader.proofs.Cuts.{cut-step}
+use Rattle.reader.proofs.Table.{opcode-at}
+
+-- ---- tests
+
+pub bare-none : (s : List ℕ) (at : ℕ) → true ≡ allBare s at 0
+unfolding allBare
+bare-none s at = refl
+
+pub bare-next : (s : List ℕ) (at i : ℕ) (good g : Bool) → good ≡ allBare s at i → g ≡ isBare (opcodeOf edition3 (byte s (at + i))) → (good && g) ≡ allBare s at (i + 1)
+unfolding allBare
+bare-next s at i good g e h = rw (add-one, e, h)
+
+-- ---- marks
+
+pub length-marks : (t : List ℕ) (p n : ℕ) → length (marks t p n) ≡ length t
+unfolding marks
+length-marks t p zero = refl
+length-marks t p (suc n) = length-set (marks t p n) (p + n) 1 ∙ length-marks t p n
+
+pub marks-none : (t : List ℕ) (p : ℕ) → t ≡ marks t p 0
+unfolding marks
+marks-none t p = refl
+
+pub marks-next : (t u : List ℕ) (p n : ℕ) → u ≡ marks t p n → set u (p + n) 1 ≡ marks t p (n + 1)
+unfolding marks
+marks-next t u p n e = rw (add-one, e)
+
+-- places that the table has not
+pub marks-out : (t : List ℕ) (p n : ℕ) → length t ≤ p → t ≡ marks t p n
+unfolding marks
+marks-out t p zero h = refl
+marks-out t p (suc n) h = let e = marks-out t p n h in sym (ap (λ (u : List ℕ). set u (p + n) 1) (sym e) ∙ set-out t (p + n) 1 (omega arith))
+
+-- ---- a run of opcodes that stand alone extends the cut
+
+one-byte : (o : Opcode) → isBare o ≡ true → 1 ≡ sizeIn o
+one-byte absent h = absurd (true≢false (sym h))
+one-byte (bare i) h = refl
+one-byte (wide i) h = absurd (true≢false (sym h))
+
+module _ (s : List ℕ) (c : Sections) (k : Packed s c) (p : ℕ) (t : List ℕ) (cut : Cut s p t) where
+  pub cut-run : (n : ℕ) → allBare s (c .code + p) n ≡ true → Cut s (p + n) (marks t p n)
+  unfolding marks allBare
+  cut-run zero a = rw add-zero cut
+  cut-run (suc n) a =
+      let u = cut-run n (and-left (allBare s (c .code + p) n) _ a) in
+      let q : c .code + p + n ≡ c .code + (p + n) = omega arith in
+      let b : isBare (opcodeOf edition3 (byte s (c .code + (p + n)))) ≡ true = rw q at (and-right (allBare s (c .code + p) n) _ a) in
+      let e : 1 ≡ sizeIn (opcodeAt s (p + n)) = one-byte (opcodeAt s (p + n)) (ap isBare (sym (opcode-at s c k (p + n))) ∙ b) in
+      let z : p + n + 1 ≡ p + suc n = omega arith in
+      subst (λ (x : ℕ). Cut s x (set (marks t p n) (p + n) 1)) z (cut-step s (p + n) 1 (marks t p n) u e (omega arith))
