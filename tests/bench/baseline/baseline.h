@@ -1,0 +1,11 @@
+// The C that the library's speed is measured against: the same two calls, the same refusals and the same lent bytes,
+// written to be fast. Nothing is proved of it; tests/run compares it with the second program.
+#ifndef BASELINE_H
+#define BASELINE_H
+
+#include "limpetskein.h"
+
+__typeof__(limpetskein_check) baseline_check;
+__typeof__(limpetskein_run) baseline_run;
+
+#endif

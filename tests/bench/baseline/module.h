@@ -1,0 +1,64 @@
+// What reader, checker and machine share: the module file's layout, and a module that was opened.
+#ifndef MODULE_H
+#define MODULE_H
+
+#include <stddef.h>
+#include <stdint.h>
+#include <string.h>
+
+#include "limpetskein.h"
+
+#define likely(x) __builtin_expect(!!(x), 1)
+#define unlikely(x) __builtin_expect(!!(x), 0)
+
+enum { LONGEST_CODE = 16384, MOST_LOCALS = 16, MOST_OPERANDS = 32, MOST_FRAMES = 64 };
+
+// A bit for each place of the code, and for its end.
+enum { BITMAP = LONGEST_CODE / 64 + 1 };
+
+// Lengths of the file's header and of the records of its sections.
+enum { HEADER = 48, CONSTANT = 12, FUNCTION = 20, LABEL = 8 };
+
+// In a function's record, after its place and its length in the code.
+enum { PARAMETERS = 8, RETURNS = 9, PARAMETER_TYPES = 10 };
+
+enum { INT = LIMPETSKEIN_INT, LONG = LIMPETSKEIN_LONG, DOUBLE = LIMPETSKEIN_DOUBLE, POINTER = LIMPETSKEIN_POINTER };
+
+// A typing's pointer to a type is that type with this bit; the others name the type.
+enum { POINTER_TO = 0x80, TARGET = 0x7F };
+
+#define ENTRY LIMPETSKEIN_ENTRY
+
+enum {
+    PUSH = 0x01, POP, LOAD, STORE, LEA,
+    TLOAD = 0x07, TSTORE, COPY, SWAP, ADD, SUB, MUL, IMUL, DIV, IDIV, MOD, IMOD, NEG, INC, DEC, AND, OR, XOR, NOT,
+    SHL, SAL, SHR, SAR, CMP, ICMP, JMP, JE, JNE, JA, JAE, JB, JBE, CALL, RET,
+    TOI = 0x2B, TOL = 0x2C, TOD = 0x2E
+};
+
+// The sections of an opened module, in the lent file, and their counts.
+typedef struct {
+    const uint8_t *constants, *functions, *labels, *code;
+    uint32_t constant_count, function_count, label_count, code_length, entry_length;
+} Module;
+
+static inline uint32_t read32(const uint8_t *at) {
+    uint32_t v;
+    memcpy(&v, at, 4);
+    return v;
+}
+
+static inline uint64_t read64(const uint8_t *at) {
+    uint64_t v;
+    memcpy(&v, at, 8);
+    return v;
+}
+
+static inline int has_bit(const uint64_t *bitmap, uint32_t place) {
+    return (int)(bitmap[place >> 6] >> (place & 63)) & 1;
+}
+
+// Refusals 1 to 9, or 0 and the module. starts: BITMAP words to work in.
+uint32_t open_module(const uint8_t *file, size_t length, Module *module, uint64_t *starts);
+
+#endif

@@ -1,0 +1,220 @@
+// Opens a module in one pass over its code. Short code is walked by plain branches, with a byte for each place; longer
+// code 64 bytes at a time, into a bitmap of instruction starts. Bodies and labels are then looked up there.
+#include <emmintrin.h>
+
+#include "module.h"
+
+enum { SHORT_CODE = 1024 };
+
+// Opcodes as bits: those with an operand, and all.
+#define WIDE_OPCODES 0x000000FF0000003Aull
+#define OPCODES 0x000059FFFFFFFFBEull
+
+// Types of constants, as bits. A function may also return nothing, 0.
+#define NUMBER_TYPES (1u << INT | 1u << LONG | 1u << DOUBLE)
+
+// Eight type bytes at once: those of the parameters are types or pointers to them, the others are zero.
+static inline int parameters_are_good(uint64_t types, uint32_t count) {
+    const uint64_t ones = 0x0101010101010101ull;
+    uint64_t plain = types & ones * 0x7F, used = count ? ~0ull >> (64 - 8 * count) : 0;
+    uint64_t other = (plain ^ ones * INT) + ones * 0x7F;
+    other &= (plain ^ ones * LONG) + ones * 0x7F;
+    other &= (plain ^ ones * DOUBLE) + ones * 0x7F;
+    other &= ones * 0x80;
+    return !((other & used) | (types & ~used));
+}
+
+// ---- short code
+
+// Rows 8 and 9. A processor learns the branches when the same module comes again.
+static uint32_t open_short(const uint8_t *file, Module *module, uint32_t nc, uint32_t nf, uint32_t nl,
+                           uint32_t code_length, uint32_t entry_length, uint32_t functions, uint32_t labels,
+                           const uint8_t *code) {
+    uint8_t starts[SHORT_CODE + 1];
+    uint32_t place = 0, end = entry_length;
+    const uint8_t *at = file + functions;
+    if (nl)
+        memset(starts, 0, code_length);
+    for (uint32_t i = 0;; i++, at += FUNCTION) {
+        while (place < end) {
+            uint32_t op = code[place];
+            if (unlikely(op > TOD))
+                return LIMPETSKEIN_BAD_CODE;
+            starts[place] = 1;
+            if (WIDE_OPCODES >> op & 1) {
+                __asm__("" : "+r"(place)); // keeps this a branch
+                place += 5;
+            } else {
+                if (unlikely(!(OPCODES >> op & 1)))
+                    return LIMPETSKEIN_BAD_CODE;
+                place += 1;
+            }
+        }
+        if (unlikely(place != end))
+            return LIMPETSKEIN_BAD_CODE;
+        if (i == nf)
+            break;
+        end += read32(at + 4);
+    }
+    at = file + labels;
+    for (uint32_t i = 0; i < nl; i++, at += LABEL) {
+        uint32_t owner = read32(at), target = read32(at + 4), from = 0, to = entry_length;
+        if (owner != ENTRY) {
+            if (unlikely(owner >= nf))
+                return LIMPETSKEIN_BAD_LABEL;
+            const uint8_t *f = file + functions + FUNCTION * owner;
+            from = read32(f);
+            to = from + read32(f + 4);
+        }
+        if (unlikely(target < from || target >= to || !starts[target]))
+            return LIMPETSKEIN_BAD_LABEL;
+    }
+    *module = (Module){file + HEADER, file + functions, file + labels, code, nc, nf, nl, code_length, entry_length};
+    return 0;
+}
+
+// ---- longer code
+
+#define AT_MOST(v, c) _mm_cmpeq_epi8(_mm_subs_epu8((v), _mm_set1_epi8(c)), _mm_setzero_si128())
+#define FROM(c) _mm_sub_epi8(bytes, _mm_set1_epi8(c))
+#define IS(c) _mm_cmpeq_epi8(bytes, _mm_set1_epi8(c))
+
+// Of 16 bytes: which would take an operand, and which are no opcodes.
+static inline void classify(const uint8_t *at, uint32_t *wide, uint32_t *unknown) {
+    __m128i bytes = _mm_loadu_si128((const __m128i *)at);
+    __m128i w = _mm_or_si128(_mm_or_si128(IS(PUSH), AT_MOST(FROM(LOAD), LEA - LOAD)), AT_MOST(FROM(JMP), CALL - JMP));
+    __m128i known = _mm_or_si128(AT_MOST(FROM(PUSH), LEA - PUSH), AT_MOST(FROM(TLOAD), RET - TLOAD));
+    known = _mm_or_si128(known, _mm_or_si128(AT_MOST(FROM(TOI), TOL - TOI), IS(TOD)));
+    *wide = (uint32_t)_mm_movemask_epi8(w);
+    *unknown = (uint32_t)_mm_movemask_epi8(known) ^ 0xFFFFu;
+}
+
+// The bytes of a block of 64 that are no starts: those before the next start, and the four after each start with an
+// operand, as far as the block goes. last: the start whose operand goes to the block's end or past it, or 0.
+static inline uint64_t operand_bytes(uint64_t wide, uint32_t next, uint64_t *last) {
+    uint64_t start = 1ull << next, operands = start - 1;
+    do {
+        uint64_t from = wide & (0 - start), first = from & (0 - from);
+        *last = first;
+        start = first << 5;
+        operands |= start - (first << 1);
+    } while (start);
+    return operands;
+}
+
+// The bitmap of instruction starts, with the bit of the code's end; 0 for row 8.
+static inline int find_starts(const uint8_t *code, uint32_t length, uint64_t *starts) {
+    uint32_t next = 0, block; // next: the next start, counted from the block's
+    uint64_t last;
+    for (block = 0; block + 64 <= length; block += 64) {
+        uint32_t w0, w1, w2, w3, u0, u1, u2, u3;
+        classify(code + block, &w0, &u0);
+        classify(code + block + 16, &w1, &u1);
+        classify(code + block + 32, &w2, &u2);
+        classify(code + block + 48, &w3, &u3);
+        uint64_t wide = (uint64_t)(w0 | w1 << 16) | (uint64_t)(w2 | w3 << 16) << 32;
+        uint64_t unknown = (uint64_t)(u0 | u1 << 16) | (uint64_t)(u2 | u3 << 16) << 32;
+        uint64_t found = ~operand_bytes(wide, next, &last);
+        next = last ? (uint32_t)__builtin_ctzll(last) + 5 - 64 : 0;
+        if (unknown & found)
+            return 0;
+        starts[block >> 6] = found;
+    }
+    uint32_t left = length - block, i = 0;
+    uint64_t wide = 0, unknown = 0;
+    for (; i + 16 <= left; i += 16) {
+        uint32_t w, u;
+        classify(code + block + i, &w, &u);
+        wide |= (uint64_t)w << i;
+        unknown |= (uint64_t)u << i;
+    }
+    if (i < left) { // the file's last 16 bytes: at least 48 stand before the code
+        uint32_t w, u, rest = left - i;
+        classify(code + length - 16, &w, &u);
+        wide |= (uint64_t)(w >> (16 - rest)) << i;
+        unknown |= (uint64_t)(u >> (16 - rest)) << i;
+    }
+    uint64_t end = 1ull << left;
+    if (next > left)
+        return 0;
+    uint64_t found = ~operand_bytes(wide, next, &last);
+    found &= end | (end - 1);
+    if (!(found & end) || (unknown & found & (end - 1)))
+        return 0;
+    starts[block >> 6] = found;
+    return 1;
+}
+
+// ---- opening
+
+uint32_t open_module(const uint8_t *file, size_t length, Module *module, uint64_t *starts) {
+    if (unlikely(length < HEADER))
+        return LIMPETSKEIN_TOO_SHORT;
+    if (unlikely(read32(file) != 3))
+        return LIMPETSKEIN_OTHER_EDITION;
+    if (unlikely(read32(file + 4) != length))
+        return LIMPETSKEIN_OTHER_LENGTH;
+    uint32_t nc = read32(file + 8), nf = read32(file + 16), nl = read32(file + 24);
+    uint32_t code_length = read32(file + 32), entry_length = read32(file + 40);
+    if (unlikely((nc > 1024) | (nf > 128) | (nl > 256) | (code_length > LONGEST_CODE) | (read32(file + 44) != 0)))
+        return LIMPETSKEIN_OVER_LIMIT;
+    uint32_t functions = HEADER + CONSTANT * nc, labels = functions + FUNCTION * nf, code_at = labels + LABEL * nl;
+    if (unlikely((read32(file + 12) != HEADER) | (read32(file + 20) != functions) | (read32(file + 28) != labels) |
+                 (read32(file + 36) != code_at) | (code_at + code_length != length) | (entry_length > code_length)))
+        return LIMPETSKEIN_NOT_PACKED;
+
+    const uint8_t *at = file + HEADER;
+    uint32_t bad = 0;
+    for (uint32_t i = 0; i < nc; i++, at += CONSTANT) {
+        uint32_t type = read32(at);
+        bad |= (type > DOUBLE) | !(NUMBER_TYPES >> (type & 31) & 1) | ((type == INT) & (read32(at + 8) != 0));
+    }
+    if (unlikely(bad))
+        return LIMPETSKEIN_BAD_CONSTANT;
+
+    // bodies follow each other from the entry's end to the code's
+    uint32_t end = entry_length;
+    at = file + functions;
+    for (uint32_t i = 0; i < nf; i++, at += FUNCTION) {
+        uint32_t start = read32(at), body_length = read32(at + 4), parameters = at[PARAMETERS], returns = at[RETURNS];
+        uint64_t types = read64(at + PARAMETER_TYPES);
+        bad |= (start != end) | (body_length - 1 >= LONGEST_CODE) | (parameters > 8) | (returns > DOUBLE) |
+               !((NUMBER_TYPES | 1) >> (returns & 31) & 1) | at[18] | at[19];
+        end += body_length;
+        bad |= end > code_length;
+        if (unlikely(bad))
+            return LIMPETSKEIN_BAD_FUNCTION;
+        if (unlikely(!parameters_are_good(types, parameters)))
+            return LIMPETSKEIN_BAD_FUNCTION;
+    }
+    if (unlikely(end != code_length))
+        return LIMPETSKEIN_BAD_FUNCTION;
+
+    const uint8_t *code = file + code_at;
+    if (code_length <= SHORT_CODE)
+        return open_short(file, module, nc, nf, nl, code_length, entry_length, functions, labels, code);
+    if (unlikely(!find_starts(code, code_length, starts)))
+        return LIMPETSKEIN_BAD_CODE;
+    at = file + functions;
+    for (uint32_t i = 0; i < nf; i++, at += FUNCTION)
+        if (unlikely(!has_bit(starts, read32(at))))
+            return LIMPETSKEIN_BAD_CODE;
+    at = file + labels;
+    for (uint32_t i = 0; i < nl; i++, at += LABEL) {
+        uint32_t owner = read32(at), target = read32(at + 4), from, to;
+        if (owner == ENTRY) {
+            from = 0;
+            to = entry_length;
+        } else {
+            if (unlikely(owner >= nf))
+                return LIMPETSKEIN_BAD_LABEL;
+            const uint8_t *f = file + functions + FUNCTION * owner;
+            from = read32(f);
+            to = from + read32(f + 4);
+        }
+        if (unlikely(target < from || target >= to || !has_bit(starts, target)))
+            return LIMPETSKEIN_BAD_LABEL;
+    }
+    *module = (Module){file + HEADER, file + functions, file + labels, code, nc, nf, nl, code_length, entry_length};
+    return 0;
+}

@@ -1,0 +1,183 @@
+// Compares and measures the library and the C of baseline on every row.
+//
+//     bench MODULES [ROUNDS]           times, the smallest of so many rounds
+//     bench MODULES --count            machine instructions by callgrind; 1 if a ratio is over its limit
+//     bench MODULES --turn ROW SIDE    what is counted: a turn of one side
+#include <stdio.h>
+#include <stdlib.h>
+#include <string.h>
+#include <time.h>
+
+#include "calls.h"
+
+// Allowances: for the whole of a run, and for as many steps of it as are counted.
+static const uint64_t whole = 1ull << 40, counted_steps = 1000000;
+
+enum { SEED = 12345, ROUNDS = 30 };
+
+static File files[ROWS];
+static Lent lent[SIDES];
+
+// How many calls are compared and counted: a recipe's depend on its arguments.
+static uint32_t counted_calls(int i) { return rows[i].kind == RECIPE ? 1000 : 1; }
+
+static void load(const char *directory) {
+    for (int i = 0; i < ROWS; i++) {
+        char path[1000];
+        snprintf(path, sizeof path, "%s/%s.lsk", directory, rows[i].module);
+        FILE *file = fopen(path, "rb");
+        if (file == NULL) {
+            perror(path);
+            exit(2);
+        }
+        files[i].length = fread(files[i].file, 1, sizeof files[i].file, file);
+        fclose(file);
+    }
+}
+
+// ---- comparing
+
+// Are all that both were lent and gave the same after a turn, and the answers those of the row?
+static int same(int i) {
+    const Group *group = &groups[rows[i].kind];
+    int equal = !memcmp(&lent[LIBRARY], &lent[BASELINE], sizeof(Lent));
+    if (equal && lent[BASELINE].answers == group->answer)
+        return 1;
+    printf("DIFFERENT in %s, %s: answers %u and %u, wanted %u%s\n", group->name, rows[i].name, lent[LIBRARY].answers,
+           lent[BASELINE].answers, group->answer, equal ? "" : "; what was lent or given differs");
+    return 0;
+}
+
+// Call by call, on memory lent anew.
+static int compare(int i) {
+    for (uint32_t k = 0; k < counted_calls(i); k++) {
+        for (int s = 0; s < SIDES; s++) {
+            lend(&lent[s]);
+            turn(&sides[s], &rows[i], &files[i], 1, whole, SEED + k, &lent[s]);
+        }
+        if (!same(i))
+            return 0;
+    }
+    return 1;
+}
+
+// ---- times
+
+static double seconds(void) {
+    struct timespec t;
+    clock_gettime(CLOCK_THREAD_CPUTIME_ID, &t);
+    return t.tv_sec + t.tv_nsec * 1e-9;
+}
+
+static double timed(int s, int i, uint32_t calls) {
+    double from = seconds();
+    turn(&sides[s], &rows[i], &files[i], calls, whole, SEED, &lent[s]);
+    return seconds() - from;
+}
+
+// Rounds over all rows, so that a noisy moment of the machine does not meet one row alone. A turn takes a millisecond
+// or more. smallest: seconds a step of a run, and a call of the others.
+static int time_all(int rounds, double smallest[ROWS][SIDES]) {
+    uint32_t calls[ROWS];
+    for (int i = 0; i < ROWS; i++) {
+        calls[i] = 1;
+        while (timed(BASELINE, i, calls[i]) < 1e-3)
+            calls[i] *= 2;
+        smallest[i][LIBRARY] = smallest[i][BASELINE] = 1e9;
+    }
+    for (int r = 0; r < rounds; r++)
+        for (int i = 0; i < ROWS; i++) {
+            for (int s = 0; s < SIDES; s++)
+                lend(&lent[s]);
+            for (int k = 0; k < SIDES; k++) {
+                int s = (r + k) % SIDES;
+                double t = timed(s, i, calls[i]) / (rows[i].kind == RUN ? lent[s].all_steps : calls[i]);
+                smallest[i][s] = t < smallest[i][s] ? t : smallest[i][s];
+            }
+            if (!same(i))
+                return 0;
+        }
+    return 1;
+}
+
+// ---- machine instructions
+
+static void counted_turn(int i, int s) {
+    turn(&sides[s], &rows[i], &files[i], counted_calls(i), counted_steps, SEED, &lent[s]);
+}
+
+// Instructions between a call of the row's function and its return, by callgrind on a program that does the turn. Its
+// environment is empty, so that its stack begins at the same place each time.
+static double counted(const char *program, const char *directory, int i, int s) {
+    char command[3000], line[500];
+    unsigned long long count = 0;
+    snprintf(command, sizeof command,
+             "env -i PATH=\"$PATH\" valgrind --tool=callgrind --callgrind-out-file=/dev/null --toggle-collect=%s "
+             "'%s' '%s' --turn %d %d 2>&1",
+             rows[i].kind == CHECK ? sides[s].check_name : sides[s].run_name, program, directory, i, s);
+    FILE *output = popen(command, "r");
+    while (output != NULL && fgets(line, sizeof line, output)) {
+        const char *at = strstr(line, "Collected : ");
+        if (at != NULL)
+            sscanf(at, "Collected : %llu", &count);
+    }
+    if (output == NULL || pclose(output) != 0 || count == 0) {
+        printf("no count from: %s\n", command);
+        exit(2);
+    }
+    counted_turn(i, s);
+    return (double)count / (rows[i].kind == RUN ? lent[s].all_steps : counted_calls(i));
+}
+
+// ---- the table
+
+// Prints all rows; how many ratios are over their limits.
+static int print(const char *what, double scale, double figures[ROWS][SIDES], int limits) {
+    int over = 0;
+    for (int i = 0; i < ROWS; i++) {
+        const Group *group = &groups[rows[i].kind];
+        if (i == 0 || rows[i].kind != rows[i - 1].kind) {
+            char title[100];
+            snprintf(title, sizeof title, "%s, %s %s", group->name, what, group->unit);
+            printf("%s%-48s %10s %10s  ratio%s\n", i ? "\n" : "", title, "library", "C", limits ? "  limit" : "");
+        }
+        double ours = scale * figures[i][LIBRARY], c = scale * figures[i][BASELINE], ratio = ours / c;
+        int decimals = rows[i].kind == RUN ? 2 : 1;
+        printf("  %-46s %10.*f %10.*f  %5.2f", rows[i].name, decimals, ours, decimals, c, ratio);
+        if (limits)
+            printf("  %5.2f%s", group->limit, ratio > group->limit ? "  OVER" : "");
+        printf("\n");
+        over += ratio > group->limit;
+    }
+    return over;
+}
+
+int main(int argc, char **argv) {
+    static double figures[ROWS][SIDES];
+    const char *what = argc > 2 ? argv[2] : "";
+    int rounds = *what ? atoi(what) : ROUNDS;
+    if (argc < 2 || (rounds < 1 && strcmp(what, "--count") && strcmp(what, "--turn"))) {
+        fprintf(stderr, "usage: bench MODULES [ROUNDS | --count]\n");
+        return 2;
+    }
+    load(argv[1]);
+    if (argc == 5 && !strcmp(what, "--turn")) {
+        counted_turn(atoi(argv[3]), atoi(argv[4]));
+        return 0;
+    }
+    for (int i = 0; i < ROWS; i++)
+        if (!compare(i))
+            return 1;
+    if (!strcmp(what, "--count")) {
+        for (int i = 0; i < ROWS; i++)
+            for (int s = 0; s < SIDES; s++)
+                figures[i][s] = counted(argv[0], argv[1], i, s);
+        int over = print("instructions", 1, figures, 1);
+        printf("\n%d of %d ratios are over their limits\n", over, ROWS);
+        return over > 0;
+    }
+    if (!time_all(rounds, figures))
+        return 1;
+    print("ns", 1e9, figures, 0);
+    return 0;
+}

@@ -1,0 +1,59 @@
+#include "calls.h"
+
+#include <string.h>
+
+#include "baseline/baseline.h"
+
+const Side sides[SIDES] = {
+    [LIBRARY] = {limpetskein_check, limpetskein_run, "limpetskein_check", "limpetskein_run"},
+    [BASELINE] = {baseline_check, baseline_run, "baseline_check", "baseline_run"},
+};
+
+void lend(Lent *lent) { memset(lent, 0xA5, sizeof *lent); }
+
+static void run_entry(const Side *side, const Row *row, const File *module, uint64_t allowance, Lent *lent) {
+    lent->answers |= side->run(module->file, module->length, LIMPETSKEIN_ENTRY, NULL, 0, NULL, 0, allowance,
+                               lent->payloads + GUARD, 8 * row->slots, lent->types + GUARD, row->slots, &lent->steps,
+                               &lent->height);
+    lent->all_steps += lent->steps;
+}
+
+// Function 0 of three ints: a pixel's channels.
+static void run_recipe(const Side *side, const Row *row, const File *module, uint64_t allowance, uint32_t random,
+                       Lent *lent) {
+    static const uint8_t types[3] = {LIMPETSKEIN_INT, LIMPETSKEIN_INT, LIMPETSKEIN_INT};
+    uint8_t channels[24] = {[0] = random >> 24, [8] = random >> 16, [16] = random >> 8};
+    lent->answers |= side->run(module->file, module->length, 0, types, 3, channels, 24, allowance,
+                               lent->payloads + GUARD, 8 * row->slots, lent->types + GUARD, row->slots, &lent->steps,
+                               &lent->height);
+    lent->all_steps += lent->steps;
+    lent->all_values += lent->payloads[GUARD] | lent->payloads[GUARD + 1] << 8;
+}
+
+// A run of a function that does not exist: 12, after the whole module was read.
+static void open_only(const Side *side, const File *module, Lent *lent) {
+    lent->answers |= side->run(module->file, module->length, LIMPETSKEIN_ENTRY - 1, NULL, 0, NULL, 0, 1, NULL, 0, NULL,
+                               0, &lent->steps, &lent->height);
+}
+
+void turn(const Side *side, const Row *row, const File *module, uint32_t calls, uint64_t allowance, uint32_t seed,
+          Lent *lent) {
+    lent->answers = 0;
+    lent->all_steps = lent->all_values = 0;
+    for (uint32_t i = 0; i < calls; i++) {
+        switch (row->kind) {
+        case RUN:
+            run_entry(side, row, module, allowance, lent);
+            break;
+        case RECIPE:
+            seed = seed * 1664525u + 1013904223u;
+            run_recipe(side, row, module, allowance, seed, lent);
+            break;
+        case CHECK:
+            lent->answers |= side->check(module->file, module->length, lent->room + GUARD, ROOM, &lent->body);
+            break;
+        default:
+            open_only(side, module, lent);
+        }
+    }
+}

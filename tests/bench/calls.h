@@ -1,0 +1,43 @@
+// Calls of one side, the library or the C, on a row's module and lent memory.
+#ifndef CALLS_H
+#define CALLS_H
+
+#include <stddef.h>
+
+#include "limpetskein.h"
+#include "rows.h"
+
+// The two functions, and their names in the program.
+typedef struct {
+    __typeof__(limpetskein_check) *check;
+    __typeof__(limpetskein_run) *run;
+    const char *check_name, *run_name;
+} Side;
+
+enum { LIBRARY, BASELINE, SIDES };
+
+extern const Side sides[SIDES];
+
+typedef struct {
+    uint8_t file[LIMPETSKEIN_LONGEST_MODULE];
+    size_t length;
+} File;
+
+enum { GUARD = 64, ROOM = LIMPETSKEIN_MOST_LABELS * LIMPETSKEIN_ROOM_PER_LABEL };
+
+// All that a side is lent, with bytes around that must stay, and all that it gives.
+typedef struct {
+    uint8_t payloads[GUARD + 8 * LIMPETSKEIN_MOST_SLOTS + GUARD], types[GUARD + LIMPETSKEIN_MOST_SLOTS + GUARD];
+    uint8_t room[GUARD + ROOM + GUARD];
+    uint64_t steps, height, all_steps, all_values;
+    uint32_t body, answers;
+} Lent;
+
+// The memory as it is before the first call.
+void lend(Lent *lent);
+
+// A turn: this many calls. A recipe gets other arguments in each, which depend on the seed alone.
+void turn(const Side *side, const Row *row, const File *module, uint32_t calls, uint64_t allowance, uint32_t seed,
+          Lent *lent);
+
+#endif

@@ -1,0 +1,28 @@
+// The rows of the benchmark.
+#ifndef ROWS_H
+#define ROWS_H
+
+#include <stdint.h>
+
+typedef enum { RUN, RECIPE, CHECK, OPENING, KINDS } Kind;
+
+// What the rows of a kind have in common. limit: the most machine instructions, as a ratio to C.
+typedef struct {
+    const char *name, *unit;
+    double limit;
+    uint32_t answer;
+} Group;
+
+// A row: its module, and the slots that are lent.
+typedef struct {
+    const char *name, *module;
+    Kind kind;
+    uint32_t slots;
+} Row;
+
+enum { ROWS = 22 };
+
+extern const Group groups[KINDS];
+extern const Row rows[ROWS];
+
+#endif

@@ -1,0 +1,32 @@
+#!/bin/sh
+# Measures the library against the C of baseline, through the same two calls, and compares all that comes out.
+#
+#     run.sh [--library ARCHIVE] [ROUNDS]     times and ratios
+#     run.sh [--library ARCHIVE] --count      machine instructions; fails where a ratio is over its limit
+set -eu
+root=$(cd "$(dirname "$0")/../.." && pwd)
+bench=$root/tests/bench
+made=$root/target/bench
+library=
+if [ "${1:-}" = --library ]; then
+    library=$(realpath "$2")
+    shift 2
+fi
+if [ "${1:-}" = --count ] && ! command -v valgrind >/dev/null; then
+    echo "run.sh: --count needs valgrind (on Debian: apt-get install valgrind)" >&2
+    exit 2
+fi
+mkdir -p "$made/modules"
+if [ -z "$library" ]; then
+    if ! (cd "$root" && rt staticlib limpetskein) >"$made/library.txt" 2>&1; then
+        tail -n 40 "$made/library.txt" >&2
+        exit 1
+    fi
+    library=$root/target/staticlib/liblimpetskein.a
+fi
+(cd "$root/tests" && CARGO_TARGET_DIR="$root/target/tests" cargo build --quiet --release --offline -p workloads)
+"$root/target/tests/release/workloads" "$made/modules"
+"$bench/baseline/build.sh" "$made"
+# -z now: no call is counted that looks a function up
+cc -O2 -Wall -Wextra -Werror -I"$root/include" -Wl,-z,now -o "$made/bench" "$bench"/*.c "$made/libbaseline.a" "$library"
+exec "$made/bench" "$made/modules" "$@"
