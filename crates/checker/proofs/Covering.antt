@@ -1,29 +1,28 @@
 -- Where every body is started and no node waits, the check finds a table for each body, and the nodes show it.
-use Prim.Native.Nat.{ℕ, zero, suc, _+_, _*_, _-_, _≤_, _<_}
+use Prim.Native.Nat.{ℕ, zero, suc, _+_, _-_, _≤_, _<_}
 use mathlib.Core.Path.{_≡_, refl, ap, _∙_, sym, subst}
-use mathlib.Core.Logic.{_⊎_, inl, inr}
+use mathlib.Core.Logic.{inl, inr}
 use native.Mathlib.Omega.{arith}
-use mathlib.Core.Bool.{Bool, true, false}
+use mathlib.Core.Bool.{true}
 use mathlib.Core.Option.{Option, none, some}
-use mathlib.Core.List.{List, [], _∷_, _++_}
-use lib.ListN.{length, getD, take, drop}
+use mathlib.Core.List.{List, [], _∷_}
+use lib.ListN.{getD}
 use lib.Dec.{eqb, ltb}
-use Rattle.rules.specs.Bytes.{zeros}
-use Rattle.rules.specs.ModuleFile.{refusal, labels, functions, Body, entry, fn, bodyOf, bodyStart, bodyEnd, read}
-use Rattle.rules.specs.Instructions.{Ty}
-use Rattle.rules.specs.Typing.{Lists, lists, startOf}
-use Rattle.rules.specs.Check.{Table, checkBody, functionsFrom, bodies, firstUntyped, recordBytes, recordAt, givenAt, labelRecord, labelRecords}
-use Rattle.soundness.specs.Tests.{decide, none-some, some-inj, eqb-is, eqb-isnt, ltb-is, ltb-isnt}
-use Rattle.soundness.specs.Exact.{In, check-consistent, typingOf}
+use Rattle.rules.specs.ModuleFile.{refusal, labels, functions, Body, entry, fn, bodyEnd, read}
+use Rattle.rules.specs.Typing.{Lists, lists}
+use Rattle.rules.specs.Check.{Table, checkBody, functionsFrom, bodies, firstUntyped, recordAt, givenAt, labelRecord}
+use Rattle.soundness.specs.Tests.{decide, some-inj, eqb-is, eqb-isnt, ltb-is, ltb-isnt}
+use Rattle.soundness.specs.Exact.{check-consistent, typingOf}
 use Rattle.soundness.specs.Forced.{Forced, forced-given}
-use Rattle.soundness.specs.Readable.{Has, has-end, start-is, label-is, label-own, label-inside, place-extent, place-onward, cut-apart, orderly, Orderly}
+use Rattle.soundness.specs.Readable.{Has, has-end, label-is, label-own, label-inside, place-extent, place-onward, cut-apart, orderly}
 use Rattle.soundness.specs.Walks.{Covered, covered, Seen, seen-node, met}
-use Rattle.records.specs.Record.{listsOf, Holds}
+use Rattle.records.specs.Record.{listsOf}
 use Rattle.records.specs.Canon.{holds-record}
-use Rattle.checker.specs.Work.{placeOf, ownerOf, Tabled, recordOf, markOf, Recorded, Passed, WalkedIn, GoesIn, Sound, Quiet, Started, Refuted, shownAt, nodeOf, Finished}
-use Rattle.checker.proofs.Copies.{positive}
-use Rattle.checker.proofs.Numbering.{label-at}
-use Rattle.checker.proofs.Shown.{shows-none, shows-record}
+use Rattle.nodes.specs.Nodes.{placeOf, ownerOf, Tabled, recordOf, markOf, listedAt, countOf, doneOf, shownAt, nodeOf}
+use Rattle.nodes.proofs.Copies.{positive}
+use Rattle.nodes.proofs.Numbering.{label-at}
+use Rattle.nodes.proofs.Shown.{shows-none, shows-record}
+use Rattle.checker.specs.Work.{Recorded, Passed, WalkedIn, WalkedNode, Sound, Quiet, Started, Refuted}
 
 -- a body without typing
 pub untyped : (s : List ℕ) (b : Body) → Refuted s b → checkBody (read s) b ≡ none
@@ -36,7 +35,7 @@ untyped s b r = go (checkBody (read s) b) refl
 abbrev pub Typed : List ℕ → Body → Type 0
 Typed s b = (out : Table) × (checkBody (read s) b ≡ some out)
 
-module _ (s table : List ℕ) (e : refusal s ≡ 0) (t : Tabled s table) (room marks : List ℕ) (b₀ : Body) (w : Sound s table room marks b₀) (quiet : Quiet s marks) where
+module _ (s table : List ℕ) (e : refusal s ≡ 0) (t : Tabled s table) (room marks : List ℕ) (b₀ : Body) (w : Sound s table room marks b₀) (quiet : Quiet marks) where
   module _ (b : Body) (has : Has s b) (started : Started s table room marks b) where
     abbrev U : ℕ → Type 0
     U = Passed table (bodyEnd s b)
@@ -63,16 +62,13 @@ module _ (s table : List ℕ) (e : refusal s ≡ 0) (t : Tabled s table) (room m
     walked-all q l r =
         let k : ℕ = r .2 in
         let n : (k < labels s) × (placeOf s k ≡ q) = t .node q k (r .3) in
-        let m : 0 < markOf marks k = r .4 in
-        let m₂ : 2 ≤ markOf marks k = two (markOf marks k) m (quiet k (n .0)) in
+        let x : (i : ℕ) × (i < countOf marks) × (listedAt marks i ≡ k) = w .listed k (n .0) (r .4) in
+        let l : x .0 < countOf marks = x .1 in
+        let d : doneOf marks ≡ countOf marks = quiet in
+        let h : WalkedNode s table room marks k = subst (WalkedNode s table room marks) (x .2) (w .walked (x .0) (omega arith)) in
         subst (λ (x : Lists). WalkedIn s table room marks b q x) (r .5)
         (subst (λ (p : ℕ). WalkedIn s table room marks b p (listsOf (recordOf room k))) (n .1)
-        (subst (λ (x : Body). WalkedIn s table room marks x (placeOf s k) (listsOf (recordOf room k))) (owned-by q k (r .3) (r .0) (r .1)) (w .walked k (n .0) m₂)))
-      where
-        two : (m : ℕ) → 0 < m → (m ≡ 1 → ⊥) → 2 ≤ m
-        two zero h n = absurd (omega arith)
-        two (suc zero) h n = absurd (n refl)
-        two (suc (suc m)) h n = omega arith
+        (subst (λ (x : Body). WalkedIn s table room marks x (placeOf s k) (listsOf (recordOf room k))) (owned-by q k (r .3) (r .0) (r .1)) h))
 
     no-label : (q : ℕ) → U q → (k : ℕ) → read s .label k ≡ some (b, q) → ⊥
     no-label q (inl z) k h = let l : q < bodyEnd s b = label-inside s e k b q (bodyEnd s b) h (has-end s e b has) in omega arith

@@ -1,14 +1,10 @@
-pub mod Copies
-pub mod Blocks
+-- Laws that the proofs share.
 pub mod Growth
 pub mod Arrivals
+pub mod Steps
 pub mod Turns
 pub mod Walking
 pub mod Draining
-pub mod Numbering
-pub mod Bounds
-pub mod Seeds
 pub mod Covering
 pub mod Starting
 pub mod Verdicts
-pub mod Shown

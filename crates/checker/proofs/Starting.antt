@@ -1,31 +1,31 @@
 -- A body checked from its start: begun, then drained; and the bodies in order.
-use Prim.Native.Nat.{ℕ, zero, suc, _+_, _*_, _^_, _≤_, _<_}
+use Prim.Native.Nat.{ℕ, _+_, _≤_, _<_}
 use mathlib.Core.Path.{_≡_, refl, ap, _∙_, sym, subst}
-use mathlib.Core.Logic.{_⊎_, inl, inr}
 use native.Mathlib.Omega.{arith}
 use mathlib.Core.Bool.{Bool, true, false}
-use mathlib.Core.Option.{Option, none, some}
+use mathlib.Core.Option.{some}
 use mathlib.Core.List.{List, [], _∷_}
-use lib.ListN.{length, getD}
+use lib.ListN.{getD}
 use lib.Dec.{ltb}
-use Rattle.rules.specs.ModuleFile.{refusal, labels, functions, Body, entry, fn, bodyOf, bodyNumber, bodyStart, bodyEnd, read}
+use Rattle.rules.specs.ModuleFile.{refusal, labels, functions, Body, entry, fn, bodyOf, bodyNumber, bodyStart, read}
 use Rattle.rules.specs.Instructions.{Ty}
-use Rattle.rules.specs.Typing.{Lists, lists, startOf}
-use Rattle.rules.specs.Check.{checkBody, bodies, firstUntyped}
+use Rattle.rules.specs.Typing.{Lists, lists}
+use Rattle.rules.specs.Check.{bodies}
 use Rattle.format.specs.declared.Sections.{Sections}
 use Rattle.format.specs.Layout.{Packed}
 use Rattle.soundness.specs.Tests.{decide, false-true, some-inj, ltb-is, ltb-isnt}
 use Rattle.soundness.specs.Forced.{Forced, at-start}
-use Rattle.soundness.specs.Readable.{Has, orderly, Orderly, few-functions}
-use Rattle.records.specs.Record.{listsOf, Holds}
-use Rattle.checker.specs.declared.walk.Turn.{Turn}
+use Rattle.soundness.specs.Readable.{Has, orderly, few-functions}
+use Rattle.records.specs.Record.{listsOf}
 use Rattle.checker.specs.declared.walk.Turn.the-variants.{Breaks, Ends, Goes as On}
 use Rattle.checker.specs.declared.bodies.Verdict.{Verdict}
 use Rattle.checker.specs.declared.bodies.Verdict.the-variants.{Typed as AllTyped, Untyped}
-use Rattle.checker.specs.Work.{Tabled, markOf, Fits, Grows, WalkedIn, GoesIn, Sound, Working, Standing, Stands, Quiet, Refuted, Started, Settled, Seeded, Left, Turned, VerdictIs}
+use Rattle.nodes.specs.Nodes.{Tabled, markOf, countOf, doneOf, unseen, Fits, Seeded}
+use Rattle.nodes.proofs.Bounds.{is-entry, is-function}
+use Rattle.nodes.proofs.Lists.{unseen-most}
+use Rattle.checker.specs.Work.{Grows, WalkedIn, GoesIn, Sound, Working, Standing, Quiet, Refuted, Started, Settled, Left, Turned, VerdictIs}
 use Rattle.checker.proofs.Growth.{grows-refl, grows-trans, fits-grows, goes-grows}
-use Rattle.checker.proofs.Bounds.{is-entry, is-function}
-use Rattle.checker.proofs.Covering.{Typed, typed, untyped, first-entry, first-function}
+use Rattle.checker.proofs.Covering.{typed, untyped, first-entry, first-function}
 
 -- ---- the start
 
@@ -74,7 +74,7 @@ module _ (s table : List ℕ) (b : Body) (room marks room₁ marks₁ : List ℕ
   body-refused x = record { grows = x .grows; sound = x .sound; done = λ z. false-true z; refuted = x .refuted }
 
   pub body-drained : Tabled s table → Left s table b room marks room₁ marks₁ true (Started s table room₁ marks₁ b) → (room₂ marks₂ : List ℕ) (ok : Bool)
-      → Left s table b room₁ marks₁ room₂ marks₂ ok (Quiet s marks₂) → Left s table b room marks room₂ marks₂ ok (Settled s table room₂ marks₂ b)
+      → Left s table b room₁ marks₁ room₂ marks₂ ok (Quiet marks₂) → Left s table b room marks room₂ marks₂ ok (Settled s table room₂ marks₂ b)
   body-drained t x room₂ marks₂ ok y =
       record {
         grows = grows-trans (labels s) room marks room₁ marks₁ room₂ marks₂ (x .grows) (y .grows);
@@ -86,8 +86,18 @@ module _ (s table : List ℕ) (b : Body) (room marks room₁ marks₁ : List ℕ
 -- ---- all bodies
 
 -- where no node waits, any body may be next
-sound-for : (s table room marks : List ℕ) (b b′ : Body) → Sound s table room marks b → Quiet s marks → Sound s table room marks b′
-sound-for s table room marks b b′ w q = record { holds = w .holds; forced = w .forced; walked = w .walked; mine = λ k h m. absurd (q k h m) }
+sound-for : (s table room marks : List ℕ) (b b′ : Body) → Sound s table room marks b → Quiet marks → Sound s table room marks b′
+sound-for s table room marks b b′ w q =
+    record {
+      holds = w .holds;
+      forced = w .forced;
+      listed = w .listed;
+      each = w .each;
+      walked = w .walked;
+      mine = λ i h l. let d : doneOf marks ≡ countOf marks = q in absurd (omega arith);
+      behind = w .behind;
+      few = w .few;
+    }
 
 -- the bodies before function i
 abbrev Before : ℕ → Body → Type 0
@@ -98,7 +108,7 @@ pub record Judging (s table room₀ marks₀ : List ℕ) (i : ℕ) (room marks :
   pub few : i ≤ functions s
   pub grows : Grows (labels s) room₀ marks₀ room marks
   pub sound : Sound s table room marks entry
-  pub quiet : Quiet s marks
+  pub quiet : Quiet marks
   pub started : (b : Body) → Before i b → Started s table room marks b
 
 module _ (s : List ℕ) (c : Sections) (table room₀ marks₀ : List ℕ) (packed : Packed s c) (e : refusal s ≡ 0) (t : Tabled s table) (fits : Fits (labels s) room₀ marks₀) where
@@ -111,12 +121,18 @@ module _ (s : List ℕ) (c : Sections) (table room₀ marks₀ : List ℕ) (pack
         tabled = t;
         has = subst (Has s) (sym (is-entry 0xffffffff refl)) tt;
         fits = fits;
-        sound = record {
-          holds = λ k l m. let z : markOf marks₀ k ≡ 0 = h k in absurd (omega arith);
-          forced = λ k l m. let z : markOf marks₀ k ≡ 0 = h k in absurd (omega arith);
-          walked = λ k l m. let z : markOf marks₀ k ≡ 0 = h k in absurd (omega arith);
-          mine = λ k l m. let z : markOf marks₀ k ≡ 0 = h k in absurd (omega arith);
-        };
+        sound = let z : countOf marks₀ ≡ 0 = h 512 in
+            let d : doneOf marks₀ ≡ 0 = h 513 in
+            record {
+              holds = λ k l m. let y : markOf marks₀ k ≡ 0 = h k in absurd (omega arith);
+              forced = λ k l m. let y : markOf marks₀ k ≡ 0 = h k in absurd (omega arith);
+              listed = λ k l m. let y : markOf marks₀ k ≡ 0 = h k in absurd (omega arith);
+              each = λ i l. absurd (omega arith);
+              walked = λ i l. absurd (omega arith);
+              mine = λ i m l. absurd (omega arith);
+              behind = omega arith;
+              few = let u : unseen marks₀ (labels s) ≤ labels s = unseen-most marks₀ (labels s) in omega arith;
+            };
       }
 
   module _ (room marks : List ℕ) where

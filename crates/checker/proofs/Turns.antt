@@ -1,20 +1,18 @@
 -- A walk's turns: what follows an instruction, up to the next nodes.
-use Prim.Native.Nat.{ℕ, zero, suc, _+_, _≤_, _<_}
-use mathlib.Core.Path.{_≡_, refl, ap, _∙_, sym, subst}
-use mathlib.Core.Logic.{_⊎_, inl, inr}
+use Prim.Native.Nat.{ℕ, _≤_}
+use mathlib.Core.Path.{refl}
 use native.Mathlib.Omega.{arith}
-use mathlib.Core.Bool.{Bool, true, false}
+use mathlib.Core.Bool.{true, false}
 use mathlib.Core.List.{List, [], _∷_}
-use lib.ListN.{length, getD}
-use Rattle.rules.specs.ModuleFile.{labels, Body, bodyOf, bodyEnd, read}
+use Rattle.rules.specs.ModuleFile.{labels, Body, bodyOf, bodyEnd}
 use Rattle.format.specs.declared.Sections.{Sections}
 use Rattle.rules.specs.Typing.{Lists}
-use Rattle.soundness.specs.Walks.{Goes, Walked, ends, meets, passes}
-use Rattle.records.specs.Record.{listsOf, Holds}
+use Rattle.soundness.specs.Walks.{ends, meets, passes}
 use Rattle.records.specs.declared.Transfer.{Transfer}
 use Rattle.checker.specs.declared.walk.Turn.{Turn}
 use Rattle.checker.specs.declared.walk.Turn.the-variants.{Breaks, Ends, Goes as On}
-use Rattle.checker.specs.Work.{Tabled, Grows, Recorded, Passed, WalkedIn, GoesIn, Sound, Working, Stands, Refuted, Left, TurnIs, Turned, Leads, TurnLeads}
+use Rattle.nodes.specs.Nodes.{Tabled}
+use Rattle.checker.specs.Work.{Grows, Recorded, Passed, Sound, Working, Stands, Refuted, Left, TurnIs, Turned, Leads, TurnLeads}
 use Rattle.checker.proofs.Growth.{grows-refl, grows-trans, fits-grows, recorded-grows}
 
 module _ (s table : List ℕ) (b : Body) (p q : ℕ) (l : Lists) where

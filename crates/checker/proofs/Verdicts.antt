@@ -1,21 +1,19 @@
 -- The check's answer and its room, from the verdict and the last pass.
 use Prim.Native.Nat.{ℕ, zero, suc, _+_, _*_, _-_, _≤_, _<_}
-use mathlib.Core.Path.{_≡_, refl, ap, _∙_, sym, subst}
+use mathlib.Core.Path.{_≡_, refl, ap, _∙_, sym}
 use mathlib.Core.Logic.{_⊎_, inl, inr}
 use native.Mathlib.Omega.{arith}
-use mathlib.Core.Bool.{Bool, true, false, cond}
 use mathlib.Core.Option.{Option, none, some}
-use mathlib.Core.List.{List, [], _∷_, _++_}
-use lib.ListN.{length, getD, take, drop, replicate, length-replicate, take-append-drop}
+use mathlib.Core.List.{List, _++_}
+use lib.ListN.{length, take, drop, replicate, length-replicate, take-append-drop}
 use lib.Seq.{paste, take-add}
 use lib.Dec.{ltb}
 use Rattle.rules.specs.Bytes.{zeros}
-use Rattle.rules.specs.ModuleFile.{refusal, labels, functions, codeLength, Body, entry, fn, bodyOf, bodyNumber, read}
+use Rattle.rules.specs.ModuleFile.{refusal, labels, functions, Body, entry, fn, bodyOf, read}
 use Rattle.rules.specs.Check.{bodies, firstUntyped, labelRecord, labelRecords}
 use Rattle.rules.specs.declared.CheckAnswer.{CheckAnswer}
 use Rattle.rules.specs.declared.CheckAnswer.the-variants.{Refused, Untyped, Accepted}
 use Rattle.rules.specs.Numbers.{done}
-use Rattle.rules.specs.Demand3.{Demand3}
 use Rattle.rules.specs.Answers.{checkNumber, Checked, checked, judged, checkWith, check}
 use Rattle.format.specs.declared.Sections.{Sections}
 use Rattle.format.specs.Layout.{Packed, sectionsOf}
@@ -26,9 +24,10 @@ use Rattle.soundness.specs.Tests.{decide, ltb-isnt, ltb-yes, ltb-no}
 use Rattle.soundness.specs.Whole.{demand3}
 use Rattle.soundness.specs.Readable.{Has, label-is}
 use Rattle.checker.specs.declared.bodies.Verdict.the-variants.{Typed as AllTyped, Untyped as NotTyped}
-use Rattle.checker.specs.Work.{ownerOf, placeOf, Tabled, recordOf, Fits, Grows, Sound, Quiet, Started, shownAt, nodeOf, Finished, Decides, VerdictIs, CheckIs, Exactly}
-use Rattle.checker.proofs.Copies.{cleared}
-use Rattle.checker.proofs.Numbering.{label-at}
+use Rattle.nodes.specs.Nodes.{ownerOf, placeOf, Tabled, recordOf, Fits, Finished}
+use Rattle.nodes.proofs.Copies.{cleared}
+use Rattle.nodes.proofs.Numbering.{label-at}
+use Rattle.checker.specs.Work.{VerdictIs, CheckIs, Exactly}
 use Rattle.checker.proofs.Covering.{Typed, typed, all-typed, shown-is}
 
 -- ---- refusals
@@ -94,11 +93,11 @@ module _ (s : List ℕ) (e : refusal s ≡ 0) (room : List ℕ) where
 pub room-enough : (s : List ℕ) (c : Sections) (room : List ℕ) → Packed s c → 64 * c .labels ≤ length room → 64 * labels s ≤ length room
 room-enough s c room p h = let e : c .labels ≡ labels s = p .labels-is in omega arith
 
-pub fits-first : (s : List ℕ) (c : Sections) (room : List ℕ) → Packed s c → 64 * c .labels ≤ length room → Fits (labels s) room (replicate 256 0)
+pub fits-first : (s : List ℕ) (c : Sections) (room : List ℕ) → Packed s c → 64 * c .labels ≤ length room → Fits (labels s) room (replicate 514 0)
 fits-first s c room p h =
     let e : c .labels ≡ labels s = p .labels-is in
     let f : c .labels ≤ 256 = p .few-labels in
-    let l : length (replicate {A = ℕ} 256 0) ≡ 256 = length-replicate {A = ℕ} 256 0 in record { room-for = omega arith; mark-for = omega arith; whole = l }
+    record { room-for = omega arith; few = omega arith; whole = length-replicate {A = ℕ} 514 0 }
 
 -- ---- exactness, by the theorem of the crate soundness
 

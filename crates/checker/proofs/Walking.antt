@@ -1,34 +1,38 @@
 -- A walk: from a place straight on, instruction by instruction, until it ends at nodes or the body has no typing.
-use Prim.Native.Nat.{ℕ, zero, suc, _+_, _-_, _≤_, _<_}
+use Prim.Native.Nat.{ℕ, _+_, _-_, _≤_, _<_}
 use mathlib.Core.Path.{_≡_, refl, ap, _∙_, sym, subst}
-use mathlib.Core.Logic.{_⊎_, inl, inr}
+use mathlib.Core.Logic.{inl, inr}
 use native.Mathlib.Omega.{arith}
-use mathlib.Core.Bool.{Bool, true, false, _&&_}
-use mathlib.Core.Option.{Option, none, some}
+use mathlib.Core.Bool.{true, false}
+use mathlib.Core.Option.{none, some}
 use mathlib.Core.List.{List, [], _∷_}
-use lib.ListN.{length, getD}
-use lib.Dec.{leb}
+use lib.ListN.{length, take, drop}
+use lib.Dec.{leb, eqb}
 use Rattle.rules.specs.declared.Instruction.{Instruction}
+use Rattle.rules.specs.Bytes.{word}
 use Rattle.rules.specs.Instructions.{size}
 use Rattle.rules.specs.ModuleFile.{refusal, labels, codeLength, Body, entry, fn, bodyOf, bodyStart, bodyEnd, read}
 use Rattle.format.specs.declared.Sections.{Sections}
-use Rattle.format.specs.Layout.{Packed}
-use Rattle.rules.specs.Typing.{Lists, Flow, only, Typing, Consistent, AllNext, Flows, Gives, endOf, endFlow, past, placeFlow}
+use Rattle.rules.specs.Typing.{Lists, Flow, AllNext, Flows, Gives, endOf, endFlow, placeFlow}
 use Rattle.rules.specs.Check.{small}
-use Rattle.soundness.specs.Tests.{decide, none-some, some-inj, false-true, and-intro, leb-is, leb-isnt, leb-yes}
-use Rattle.soundness.specs.Exact.{In}
-use Rattle.soundness.specs.Forced.{Forced, along, forced-given}
-use Rattle.soundness.specs.Readable.{Has, Orderly, orderly, has-end, place-inside}
-use Rattle.soundness.specs.Walks.{Goes, Walked, size-some}
+use Rattle.soundness.specs.Tests.{decide, none-some, some-inj, false-true, and-intro, leb-isnt, leb-yes, eqb-is, eqb-isnt}
+use Rattle.soundness.specs.Exact.{After as Behind}
+use Rattle.soundness.specs.Forced.{along, forced-given}
+use Rattle.soundness.specs.Readable.{Has, orderly, has-end, place-inside}
+use Rattle.soundness.specs.Walks.{ends, size-some}
+use Rattle.keys.specs.Keys.{fetched}
+use Rattle.keys.specs.declared.Fetched.the-variants.{Key, End}
+use Rattle.keys.proofs.Places.{at-end, at-key}
+use Rattle.transfer.specs.Transfers.{KeyAt, Moves}
 use Rattle.records.specs.Record.{listsOf, Holds, Labelled, flowOf, allSmall, bounded}
 use Rattle.records.specs.Laws.{holds-small}
 use Rattle.records.specs.declared.Transfer.{Transfer}
 use Rattle.records.specs.declared.Transfer.the-variants as Transfer
-use Rattle.transfer.specs.Transfers.{NextPlace, After, Moved}
 use Rattle.checker.specs.declared.walk.Turn.{Turn}
 use Rattle.checker.specs.declared.walk.Turn.the-variants.{Breaks, Ends, Goes as On}
-use Rattle.checker.specs.Work.{Tabled, Grows, WalkedIn, GoesIn, Sound, Working, Stands, Refuted, Left, Heads, targets, TurnIs, Turned, Leads, TurnLeads}
+use Rattle.checker.specs.Work.{Grows, Moved, WalkedIn, GoesIn, Sound, Working, Stands, Refuted, Left, Heads, targets, Turned, Leads, TurnLeads}
 use Rattle.checker.proofs.Growth.{grows-refl, grows-trans}
+use Rattle.checker.proofs.Steps.{code-part, code-long, key-at, moved, entry-ends, function-ends}
 
 flow-live : (a : Transfer) (l : Lists) → Leads a → flowOf a l ≡ some (targets a l)
 flow-live Transfer.Breaks l h = absurd h
@@ -87,7 +91,7 @@ module _ (s table : List ℕ) (e : refusal s ≡ 0) (owner : ℕ) (has : Has s (
       at-end entry z = let k : _≡_ {A = ℕ} 0 1 = cc in omega arith
       at-end (fn k) z = none-some z
 
-  next-stands : (p q : ℕ) → read s .isPlace (bodyOf owner) p ≡ true → p < bodyEnd s (bodyOf owner) → NextPlace (read s) p q → (p + 1 ≤ q) × (read s .isPlace (bodyOf owner) q ≡ true)
+  next-stands : (p q : ℕ) → read s .isPlace (bodyOf owner) p ≡ true → p < bodyEnd s (bodyOf owner) → Behind (read s) (bodyOf owner) p q → (p + 1 ≤ q) × (read s .isPlace (bodyOf owner) q ≡ true)
   next-stands p q h l n =
       let x : (i : Instruction) × (read s .code p ≡ some i) × (read s .isPlace (bodyOf owner) (p + size i) ≡ true) = orderly s e .goes-on (bodyOf owner) (bodyEnd s (bodyOf owner)) p ended h l in
       let z : x .0 ≡ n .0 = some-inj (x .0) (n .0) (sym (x .1) ∙ n .1) in
@@ -134,6 +138,18 @@ module _ (s table : List ℕ) (e : refusal s ≡ 0) (owner : ℕ) (has : Has s (
   pub walk-first : (p : ℕ) (st room marks : List ℕ) → Sound s table room marks (bodyOf owner) → Holds st → Stands s (bodyOf owner) p (listsOf st) → Walking s table owner p st room marks p st room marks
   walk-first p st room marks w h at = record { grows = grows-refl (labels s) room marks; sound = w; holds = h; stands = at; rest = λ room′ marks′ g x. x }
 
+  -- at the body's end
+  pub walk-ended : (p₀ : ℕ) (st₀ room₀ marks₀ : List ℕ) (p : ℕ) (st room marks : List ℕ) → Walking s table owner p₀ st₀ room₀ marks₀ p st room marks → bodyEnd s (bodyOf owner) ≤ p
+      → Left s table (bodyOf owner) room₀ marks₀ room marks (eqb owner 0xffffffff) (WalkedIn s table room marks (bodyOf owner) p₀ (listsOf st₀))
+  walk-ended p₀ st₀ room₀ marks₀ p st room marks w h =
+      record {
+        grows = w .grows;
+        sound = w .sound;
+        done = λ y. w .rest room marks (grows-refl (labels s) room marks)
+            (walked-from p st Transfer.Stops st (w .holds) (w .stands) (entry-ends s e owner has p h st (w .holds) (eqb-is owner 0xffffffff y)) tt room marks ends);
+        refuted = λ y. breaks p st st (w .stands) (function-ends s e owner has p h st (w .holds) (eqb-isnt owner 0xffffffff y));
+      }
+
   module _ (p₀ : ℕ) (st₀ room₀ marks₀ : List ℕ) (p : ℕ) (st room marks : List ℕ) (w : Walking s table owner p₀ st₀ room₀ marks₀ p st room marks)
       (a : Transfer) (st′ : List ℕ) (m : Moved s owner p st a st′) (room′ marks′ : List ℕ) where
     grown : (t : Turn) → Turned s table (bodyOf owner) (p + 1) (listsOf st′) (targets a (listsOf st′)) room marks room′ marks′ t → Grows (labels s) room₀ marks₀ room′ marks′
@@ -168,13 +184,35 @@ module _ (s table : List ℕ) (e : refusal s ≡ 0) (owner : ℕ) (has : Has s (
 -- ---- as the code asks it
 
 module _ (s : List ℕ) (c : Sections) (table : List ℕ) (owner : ℕ) (room₀ marks₀ : List ℕ) (w : Working s c table owner room₀ marks₀) (e : ℕ) (end-is : e ≡ bodyEnd s (bodyOf owner)) where
-  pub walk-bounds : (p : ℕ) (l : Lists) → Stands s (bodyOf owner) p l → (endOf (read s) (bodyOf owner) ≡ some e) × (p ≤ e) × (e ≤ c .extent)
+  pub walk-bounds : (p : ℕ) (l : Lists) → Stands s (bodyOf owner) p l → (p ≤ e) × (e ≤ c .extent)
   walk-bounds p l h =
       let x : (bodyStart s (bodyOf owner) ≤ p) × (p ≤ bodyEnd s (bodyOf owner)) × (bodyEnd s (bodyOf owner) ≤ codeLength s) = place-inside s (w .readable) (bodyOf owner) p (w .has) (h .place) in
       let a : p ≤ bodyEnd s (bodyOf owner) = x .1 in
       let b : bodyEnd s (bodyOf owner) ≤ codeLength s = x .2 in
       let d : c .extent ≡ codeLength s = w .packed .extent-is in
-      (has-end s (w .readable) (bodyOf owner) (w .has) ∙ ap some (sym end-is), omega arith, omega arith)
+      (omega arith, omega arith)
 
   pub walk-less : (p q : ℕ) (l : Lists) → p + 1 ≤ q → Stands s (bodyOf owner) q l → e - q < e - p
-  walk-less p q l h at = let x : q ≤ e = walk-bounds q l at .1 in omega arith
+  walk-less p q l h at = let x : q ≤ e = walk-bounds q l at .0 in omega arith
+
+  -- ---- what is fetched at a place of the body
+
+  abbrev code : List ℕ
+  code = take (length s - c .code) (drop (c .code) s)
+
+  module _ (p : ℕ) (l : Lists) (at : Stands s (bodyOf owner) p l) where
+    pub fetch-fits : e ≤ length code
+    fetch-fits = let x : e ≤ c .extent = walk-bounds p l at .1 in let y : length code ≡ c .extent = code-long s c (w .packed) code (code-part s (c .code)) in omega arith
+
+    pub fetched-late : fetched code p e ≡ End → bodyEnd s (bodyOf owner) ≤ p
+    fetched-late q = let x : e ≤ p = at-end code p e q in omega arith
+
+    module _ (b : ℕ) (key : fetched code p e ≡ Key b) where
+      early : p < bodyEnd s (bodyOf owner)
+      early = let x : p < e = at-key code p e b key .0 in omega arith
+
+      pub fetched-key : KeyAt code p b
+      fetched-key = key-at s c (w .packed) code (code-part s (c .code)) (w .readable) owner (w .has) p (at .place) early b (at-key code p e b key .1)
+
+      pub fetched-moved : (st : List ℕ) (a : Transfer) (st′ : List ℕ) → Moves (read s) (bodyOf owner) b (word 4 code (p + 1)) p st a st′ → Moved s owner p st a st′
+      fetched-moved = moved s c (w .packed) code (code-part s (c .code)) (w .readable) owner (w .has) p (at .place) early b (at-key code p e b key .1)

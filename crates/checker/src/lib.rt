@@ -1,8 +1,5 @@
 // The checker: whether every body of a module has a consistent typing, and what it gives at the labels.
 mod bodies;
-mod finish;
-mod nodes;
-mod room;
 mod walk;
 
 ghost use mathlib.Core.Path.{_≡_};
@@ -19,35 +16,26 @@ use rules::CheckAnswer;
 
 const ROOM_TOO_SHORT: u32 = 10;
 
-// With a blank table for the places; only labels need it.
+// With a blank table for the places.
 fn check_with(file: &[u8], c: Sections, table: &mut [u16], room: &mut [u8]) -> CheckAnswer
     requires { ⌜ Packed (now file) c × (refusal (now file) ≡ 0) × (64 * c .labels ≤ length (now room)) ⌝ }
-    requires { ⌜ (0 < c .labels → c .extent < length (now table)) × Blank (now table) ⌝ }
+    requires { ⌜ (c .extent < length (now table)) × Blank (now table) ⌝ }
     ensures { λ r. ⌜ CheckIs (now (file .entry)) (now (room .entry)) r (now (room .exit)) ⌝ }
 {
-    nodes::fill(file, c, table);
-    let mut marks = [0u8; 256];
+    nodes::table::fill(file, c, table);
+    let mut marks = [0u16; 514];
     let mut st = [0u8; 64];
     let verdict = bodies::bodies(file, c, table, room, &mut marks, &mut st);
     match verdict {
         Verdict::Typed => {
-            finish::finish(file, c, table, room, &marks, &mut st);
+            nodes::finish::finish(file, c, table, room, &marks, &mut st);
             CheckAnswer::Accepted
         }
         Verdict::Untyped(owner) => {
-            room::zero(room, 0, 64 * c.labels);
+            nodes::room::zero(room, 0, 64 * c.labels);
             CheckAnswer::Untyped(owner as u32)
         }
     }
-}
-
-// No labels: no place is looked up.
-fn without_table(file: &[u8], c: Sections, room: &mut [u8]) -> CheckAnswer
-    requires { ⌜ Packed (now file) c × (refusal (now file) ≡ 0) × (64 * c .labels ≤ length (now room)) × (c .labels ≡ 0) ⌝ }
-    ensures { λ r. ⌜ CheckIs (now (file .entry)) (now (room .entry)) r (now (room .exit)) ⌝ }
-{
-    let mut table = [0u16; 1];
-    check_with(file, c, &mut table, room)
 }
 
 fn with_small_table(file: &[u8], c: Sections, room: &mut [u8]) -> CheckAnswer
@@ -81,9 +69,6 @@ fn check_opened(file: &[u8], c: Sections, room: &mut [u8]) -> CheckAnswer
 {
     if room.len() < 64 * c.labels {
         return CheckAnswer::Refused(ROOM_TOO_SHORT);
-    }
-    if c.labels == 0 {
-        return without_table(file, c, room);
     }
     if c.extent < 512 {
         return with_small_table(file, c, room);

@@ -1,15 +1,18 @@
 // A walk: from a place straight on, up to the next nodes.
 ghost use mathlib.Core.Path.{_≡_};
-ghost use Prim.Native.Nat.{suc, _+_, _*_, _<_, _≤_};
+ghost use Prim.Native.Nat.{_<_};
 ghost use mathlib.Core.List.{[], _∷_};
-ghost use lib.ListN.{length, getD};
-ghost use Rattle.rules.specs.ModuleFile.{labels, bodyOf, bodyEnd, read};
-ghost use Rattle.format.specs.Layout.{Packed};
-ghost use Rattle.soundness.specs.Readable.{Has};
+ghost use lib.ListN.{getD};
+ghost use Rattle.rules.specs.ModuleFile.{bodyOf, bodyEnd, read};
 ghost use Rattle.records.specs.Record.{listsOf, Holds, Labelled};
+ghost use Rattle.nodes.specs.Nodes.{doneOf};
 ghost use Rattle.checker.specs.Work.{Working, Standing, Recorded, WalkedIn, Left, Heads, targets, Turned, TurnLeads};
 use format::Sections;
+use keys::Fetched;
 use records::Transfer;
+
+// The number of the entry.
+const ENTRY: usize = 0xffff_ffff;
 
 // A walk is refused, ends at nodes, or goes on at a place.
 pub(crate) enum Turn {
@@ -27,18 +30,19 @@ fn arrive(
     q: usize,
     v: usize,
     room: &mut [u8],
-    marks: &mut [u8],
+    marks: &mut [u16],
     st: &[u8],
 ) -> bool
     requires { ⌜ Working (now file) c (now table) owner (now room) (now marks) ⌝ }
     requires { ⌜ Standing (now file) owner q (now st) ⌝ }
     requires { ⌜ (q < bodyEnd (now file) (bodyOf owner)) × (v ≡ getD (now table) q 0) × (0 < v) ⌝ }
     ensures { λ r. ⌜ Left (now (file .entry)) (now (table .entry)) (bodyOf owner) (now (room .entry)) (now (marks .entry)) (now (room .exit)) (now (marks .exit)) r (Recorded (now (file .entry)) (now (table .entry)) (now (room .exit)) (now (marks .exit)) (bodyOf owner) q (listsOf (now (st .entry)))) ⌝ }
+    ensures { λ r. ⌜ doneOf (now (marks .exit)) ≡ doneOf (now (marks .entry)) ⌝ }
 {
-    crate::room::merge(v - 1, room, marks, st)
+    nodes::merge(v - 1, room, marks, st)
 }
 
-// The walk comes to place q of a body that ends at e.
+// The walk comes to place q of a body that ends at e. A node there is the next body's.
 pub(crate) fn land(
     file: &[u8],
     c: Sections,
@@ -47,19 +51,20 @@ pub(crate) fn land(
     e: usize,
     q: usize,
     room: &mut [u8],
-    marks: &mut [u8],
+    marks: &mut [u16],
     st: &[u8],
 ) -> Turn
     requires { ⌜ Working (now file) c (now table) owner (now room) (now marks) ⌝ }
     requires { ⌜ Standing (now file) owner q (now st) ⌝ }
     requires { ⌜ e ≡ bodyEnd (now file) (bodyOf owner) ⌝ }
     ensures { λ r. ⌜ Turned (now (file .entry)) (now (table .entry)) (bodyOf owner) q (listsOf (now (st .entry))) ((q, listsOf (now (st .entry))) ∷ []) (now (room .entry)) (now (marks .entry)) (now (room .exit)) (now (marks .exit)) r ⌝ }
+    ensures { λ r. ⌜ doneOf (now (marks .exit)) ≡ doneOf (now (marks .entry)) ⌝ }
 {
-    if q == e {
-        return Turn::Goes(e);
-    }
-    let v = crate::nodes::node_at(table, q);
+    let v = nodes::table::node_at(table, q);
     if v == 0 {
+        return Turn::Goes(q);
+    }
+    if q == e {
         return Turn::Goes(q);
     }
     let same = arrive(file, c, table, owner, q, v, room, marks, st);
@@ -77,15 +82,16 @@ fn jump(
     owner: usize,
     q: usize,
     room: &mut [u8],
-    marks: &mut [u8],
+    marks: &mut [u16],
     st: &[u8],
 ) -> bool
     requires { ⌜ Working (now file) c (now table) owner (now room) (now marks) ⌝ }
     requires { ⌜ Standing (now file) owner q (now st) ⌝ }
     requires { ⌜ Labelled (read (now file)) (bodyOf owner) q ⌝ }
     ensures { λ r. ⌜ Left (now (file .entry)) (now (table .entry)) (bodyOf owner) (now (room .entry)) (now (marks .entry)) (now (room .exit)) (now (marks .exit)) r (Recorded (now (file .entry)) (now (table .entry)) (now (room .exit)) (now (marks .exit)) (bodyOf owner) q (listsOf (now (st .entry)))) ⌝ }
+    ensures { λ r. ⌜ doneOf (now (marks .exit)) ≡ doneOf (now (marks .entry)) ⌝ }
 {
-    let v = crate::nodes::node_at(table, q);
+    let v = nodes::table::node_at(table, q);
     arrive(file, c, table, owner, q, v, room, marks, st)
 }
 
@@ -99,7 +105,7 @@ fn follow(
     p: usize,
     next: Transfer,
     room: &mut [u8],
-    marks: &mut [u8],
+    marks: &mut [u16],
     st: &[u8],
 ) -> Turn
     requires { ⌜ Working (now file) c (now table) owner (now room) (now marks) ⌝ }
@@ -107,6 +113,7 @@ fn follow(
     requires { ⌜ e ≡ bodyEnd (now file) (bodyOf owner) ⌝ }
     ensures { λ r. ⌜ Turned (now (file .entry)) (now (table .entry)) (bodyOf owner) p (listsOf (now (st .entry))) (targets next (listsOf (now (st .entry)))) (now (room .entry)) (now (marks .entry)) (now (room .exit)) (now (marks .exit)) r ⌝ }
     ensures { λ r. ⌜ TurnLeads next r ⌝ }
+    ensures { λ r. ⌜ doneOf (now (marks .exit)) ≡ doneOf (now (marks .entry)) ⌝ }
 {
     match next {
         Transfer::Breaks => Turn::Breaks,
@@ -129,21 +136,8 @@ fn follow(
     }
 }
 
-// Where a body ends.
-pub(crate) fn body_end(file: &[u8], c: Sections, owner: usize) -> usize
-    requires { ⌜ Packed (now file) c × Has (now file) (bodyOf owner) ⌝ }
-    ensures { λ r. ⌜ r ≡ bodyEnd (now (file .entry)) (bodyOf owner) ⌝ }
-{
-    if owner == 0xffff_ffff {
-        return c.entry;
-    }
-    let at = c.records + 20 * owner;
-    let start = format::word(file, at);
-    let length = format::word(file, at + 4);
-    start + length
-}
-
-// From place p on, up to the next nodes; false where the body has no typing.
+// From place p on, up to the next nodes; false where the body has no typing. From the entry's end nothing follows, a function's
+// end has no flow.
 pub(crate) fn walk(
     file: &[u8],
     c: Sections,
@@ -151,17 +145,24 @@ pub(crate) fn walk(
     owner: usize,
     p: usize,
     room: &mut [u8],
-    marks: &mut [u8],
+    marks: &mut [u16],
     st: &mut [u8],
 ) -> bool
     requires { ⌜ Working (now file) c (now table) owner (now room) (now marks) ⌝ }
     requires { ⌜ Standing (now file) owner p (now st) ⌝ }
     ensures { λ r. ⌜ Left (now (file .entry)) (now (table .entry)) (bodyOf owner) (now (room .entry)) (now (marks .entry)) (now (room .exit)) (now (marks .exit)) r (WalkedIn (now (file .entry)) (now (table .entry)) (now (room .exit)) (now (marks .exit)) (bodyOf owner) p (listsOf (now (st .entry)))) ⌝ }
+    ensures { λ r. ⌜ doneOf (now (marks .exit)) ≡ doneOf (now (marks .entry)) ⌝ }
 {
-    let e = body_end(file, c, owner);
+    let e = nodes::starts::end(file, c, owner);
+    let from = c.code;
+    let code = &file[from..];
     let mut at = p;
     loop {
-        let next = transfer::transfer(file, c, owner, e, at, st);
+        let found = keys::fetch(code, at, e);
+        let Fetched::Key(b) = found else {
+            return owner == ENTRY;
+        };
+        let next = transfer::transfer(file, c, code, owner, at, b, st);
         let turn = follow(file, c, table, owner, e, at + 1, next, room, marks, st);
         match turn {
             Turn::Breaks => {

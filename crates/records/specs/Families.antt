@@ -1,13 +1,20 @@
 -- The answer of a family of instructions, and what its parts ensure.
 use mathlib.Core.Path.{_≡_}
 use Prim.Native.Nat.{ℕ, suc}
+use mathlib.Core.Bool.{Bool}
 use mathlib.Core.List.{List, [], _∷_}
+use Rattle.rules.specs.declared.Num.{Num}
+use Rattle.rules.specs.declared.Operator.{Operator}
+use Rattle.rules.specs.declared.Unary.{Unary}
+use Rattle.rules.specs.declared.Unary.the-variants.{Convert}
+use Rattle.rules.specs.declared.Binary.the-variants.{Arith, Cmp}
 use Rattle.rules.specs.declared.Instruction.{Instruction}
+use Rattle.rules.specs.declared.Instruction.the-variants.{One, Two}
 use Rattle.rules.specs.Bytes.{byte}
-use Rattle.rules.specs.Instructions.{tyOf}
+use Rattle.rules.specs.Instructions.{Ty, tyOf, numKind}
 use Rattle.rules.specs.ModuleFile.{Body, Module, paramsFrom}
-use Rattle.rules.specs.Operations.{Class, any, number, whole}
-use Rattle.rules.specs.Typing.{Flow, lists, judge}
+use Rattle.rules.specs.Operations.{Class, any, number, whole, class1, classOf}
+use Rattle.rules.specs.Typing.{Flow, lists, judge, gives1}
 use Rattle.records.specs.Record.{listsOf, Holds, Judged}
 use Rattle.records.specs.declared.Transfer.{Transfer}
 
@@ -41,3 +48,21 @@ abbrev pub greatest : Class → ℕ
 greatest any = 134
 greatest number = 6
 greatest whole = 4
+
+-- ---- by what the instructions of one function differ in
+
+-- the answer of every instruction that keeps the type of its operand and takes type bytes up to g
+abbrev pub Keeps : ℕ → ℕ → List ℕ → Transfer → List ℕ → Type 0
+Keeps g q r a r′ = (o : Unary) → g ≡ greatest (class1 o) → ((t : Ty) → gives1 o t ≡ t ∷ []) → Answers (One o) q r a r′
+
+-- of the conversion to the type of byte t
+abbrev pub Converts : ℕ → ℕ → List ℕ → Transfer → List ℕ → Type 0
+Converts t q r a r′ = (τ : Num) → t ≡ numKind τ → Answers (One (Convert τ)) q r a r′
+
+-- of every operator that takes type bytes up to g
+abbrev pub Reduces : ℕ → ℕ → List ℕ → Transfer → List ℕ → Type 0
+Reduces g q r a r′ = (o : Operator) → g ≡ greatest (classOf o) → Answers (Two (Arith o)) q r a r′
+
+-- of both comparisons
+abbrev pub Compares : ℕ → List ℕ → Transfer → List ℕ → Type 0
+Compares q r a r′ = (signed : Bool) → Answers (Two (Cmp signed)) q r a r′

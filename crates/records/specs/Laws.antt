@@ -71,6 +71,14 @@ pointer-byte a is high = go (split-type a is)
     go (inl x) = absurd (let k = kind-low (x .0) in let e = x .2 in omega arith)
     go (inr x) = x
 
+-- no type byte is greater than that of the pointer to a double
+pub type-most : (a : ℕ) → IsType a → a ≤ 134
+type-most a is = go (split-type a is)
+  where
+    go : OfNumber a ⊎ OfPointer a → a ≤ 134
+    go (inl x) = let k = kind-low (x .0) in let e = x .2 in omega arith
+    go (inr x) = let k = kind-low (x .0) in let e = x .2 in omega arith
+
 -- the type number of a type byte
 pub number-kind : (a : ℕ) → IsType a → a < 128 → kindOf (tyOf a) ≡ a
 number-kind a is low = let x = number-byte a is low in ap kindOf (x .1) ∙ sym (x .2)

@@ -1,16 +1,18 @@
--- Where the instruction at a place leads from the lists of a record.
+-- Where an instruction leads from the lists of a record, and its key.
 use mathlib.Core.Path.{_≡_}
-use Prim.Native.Nat.{ℕ, _+_}
+use Prim.Native.Nat.{ℕ, _+_, _^_, _≤_, _<_}
 use mathlib.Core.Bool.{Bool}
 use mathlib.Core.Option.{Option, none, some}
-use mathlib.Core.List.{List, _∷_}
+use mathlib.Core.List.{List, [], _∷_, _++_}
+use lib.ListN.{length}
 use Rattle.rules.specs.declared.Instruction.{Instruction}
-use Rattle.rules.specs.Instructions.{Ty, tyOf, size}
-use Rattle.rules.specs.ModuleFile.{Body, Module, bodyOf, read}
-use Rattle.rules.specs.Typing.{Lists, Flow, to, only, strip, judge, endFlow, placeFlow}
-use Rattle.records.specs.Record.{listsOf, Holds, flowOf, bounded, Labelled, Judged}
+use Rattle.rules.specs.Bytes.{word}
+use Rattle.rules.specs.Instructions.{Ty, tyOf, edition3, opcodeOf, instructionOf, size}
+use Rattle.rules.specs.ModuleFile.{Body, Module}
+use Rattle.rules.specs.Typing.{Flow, to, only, strip, judge}
+use Rattle.keys.specs.Keys.{Known, each}
+use Rattle.records.specs.Record.{listsOf, Holds, Judged}
 use Rattle.records.specs.declared.Transfer.{Transfer}
-use Rattle.records.specs.declared.Transfer.the-variants.{Breaks, Stops, Falls, Jumps, Forks}
 use Rattle.transfer.specs.declared.FoundPlace.{FoundPlace}
 use Rattle.transfer.specs.declared.FoundPlace.the-variants.{At, Nothing}
 
@@ -34,27 +36,21 @@ pub record Stripped (ps : List Ty) (r : List ℕ) (ok : Bool) (r′ : List ℕ) 
   pub locals-kept : listsOf r′ .locals ≡ listsOf r .locals
   pub strips : (k : List Ty → Flow) → strip ps (listsOf r .operands) k ≡ only ok (k (listsOf r′ .operands))
 
--- ---- places
+-- ---- keys
 
--- q is the place after the instruction at p
-abbrev pub NextPlace : Module → ℕ → ℕ → Type 0
-NextPlace m p q = (i : Instruction) × (m .code p ≡ some i) × (q ≡ p + size i)
+-- the keys of each match, the last first
+abbrev pub wides : List (List ℕ)
+wides = each (40 ∷ 39 ∷ 38 ∷ 37 ∷ 36 ∷ 35 ∷ 34 ∷ 33 ∷ 32 ∷ 5 ∷ 4 ∷ 3 ∷ 1 ∷ [])
 
--- every place that the instruction at p goes to comes after it or has a label of its own body
-abbrev pub After : Module → Body → ℕ → Transfer → Type 0
-After m b p Breaks = Unit {0}
-After m b p Stops = Unit {0}
-After m b p (Falls q) = NextPlace m p q
-After m b p (Jumps q) = Labelled m b q
-After m b p (Forks l q) = Labelled m b l × NextPlace m p q
+abbrev pub singles : List (List ℕ)
+singles = each (18 ∷ 17 ∷ 16 ∷ 15 ∷ 14 ∷ 13 ∷ 12 ∷ 11 ∷ 10 ∷ 9 ∷ 8 ∷ 7 ∷ 2 ∷ []) ++ wides
 
--- the answer a, and the record r′ after it, are the flow of the place p with the lists of the record r
-pub record Moved (s : List ℕ) (owner p : ℕ) (r : List ℕ) (a : Transfer) (r′ : List ℕ) : Type 0 where
-  pub flow : bounded (placeFlow (read s) (bodyOf owner) p (listsOf r)) ≡ flowOf a (listsOf r′)
-  pub leads : After (read s) (bodyOf owner) p a
-  pub holds : Holds r′
+-- b is the key of an instruction whose bytes are all in the code, from the place p on
+pub record KeyAt (code : List ℕ) (p b : ℕ) : Type 0 where
+  pub known : Known b
+  pub whole : (i : Instruction) → instructionOf (opcodeOf edition3 b) (word 4 code (p + 1)) ≡ some i → p + size i ≤ length code
+  pub near : p < 2 ^ 32
 
--- the answer a is the flow of the end of the body of this number
-pub record Ends (owner : ℕ) (a : Transfer) : Type 0 where
-  pub flow : (l : Lists) → bounded (endFlow (bodyOf owner)) ≡ flowOf a l
-  pub leads : (m : Module) (p : ℕ) → After m (bodyOf owner) p a
+-- the answer a, and the record r′ after it, are the flow at place p of the instruction whose key is b and whose word is w
+abbrev pub Moves : Module → Body → ℕ → ℕ → ℕ → List ℕ → Transfer → List ℕ → Type 0
+Moves m d b w p r a r′ = (i : Instruction) → instructionOf (opcodeOf edition3 b) w ≡ some i → Judges m d i (p + size i) r a r′

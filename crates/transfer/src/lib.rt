@@ -1,27 +1,21 @@
 // One instruction judged by types alone, on the lists of a record: the checker's transfer function.
 ghost use mathlib.Core.Path.{_≡_};
 ghost use mathlib.Core.List.{List};
-ghost use mathlib.Core.Option.{some};
-ghost use Prim.Native.Nat.{ℕ, _+_, _<_, _≤_};
+ghost use Prim.Native.Nat.{ℕ, _+_, _^_, _<_, _≤_};
 ghost use Rattle.rules.specs.declared.Condition.{Condition};
 ghost use Rattle.rules.specs.declared.Instruction.the-variants.{Push, Jmp, Branch, Call, Ret};
-ghost use Rattle.rules.specs.Bytes.{byte};
-ghost use Rattle.rules.specs.ModuleFile.{Body, bodyOf, functionAt, numberType, paramsFrom, read, refusal};
+ghost use Rattle.rules.specs.Bytes.{byte, word};
+ghost use Rattle.rules.specs.ModuleFile.{Body, Module, bodyOf, functionAt, numberType, paramsFrom, read, refusal};
 ghost use Rattle.rules.specs.Machine.{owned};
-ghost use Rattle.rules.specs.Typing.{endOf};
 ghost use Rattle.format.specs.Layout.{Packed};
 ghost use Rattle.records.specs.Record.{Holds, IsType};
-ghost use Rattle.transfer.specs.Transfers.{Judges, Pushes, placeOf, Stripped, Ends, Moved};
-
-mod decode;
-
+ghost use Rattle.keys.specs.Keys.{Known, Outside};
+ghost use Rattle.transfer.specs.Transfers.{Judges, Pushes, placeOf, Stripped, KeyAt, Moves, wides, singles};
 use format::Sections;
-use reader::decode::Decoded;
 use reader::entries::FoundConstant;
 use reader::entries::FoundFunction;
 use reader::entries::FoundLabel;
 use records::Transfer;
-use rules::Instruction;
 
 fn wide(x: u8) -> usize
     ensures { λ r. ⌜ r ≡ x ⌝ }
@@ -190,69 +184,92 @@ fn ret(file: &[u8], c: Sections, owner: usize, st: &[u8]) -> Transfer
     Transfer::Stops
 }
 
-// ---- places
+// ---- by the key of an instruction, in three matches that the compiler makes one. Every number below 64 is a key of theirs, so
+// that the jump has no default. Those of the last two arms are no instruction's, and are never met; as no two neighbours stand
+// in one arm, they stay in the jump's table.
 
-// From the entry's end nothing follows. A function's end has no flow.
-fn at_end(owner: usize) -> Transfer
-    ensures { λ a. ⌜ Ends owner a ⌝ }
-{
-    if owner == 0xffff_ffff {
-        return Transfer::Stops;
-    }
-    Transfer::Breaks
-}
-
-// The instruction i before the place q.
-fn judged(
-    file: &[u8],
-    c: Sections,
-    owner: usize,
-    i: Instruction,
-    q: usize,
-    st: &mut [u8],
-) -> Transfer
-    requires { ⌜ Packed (now file) c × (refusal (now file) ≡ 0) ⌝ }
+// The last instructions that have no word.
+fn other(b: u8, p: usize, st: &mut [u8]) -> Transfer
+    requires { ⌜ Known b × Outside b singles × (p < 2 ^ 32) ⌝ }
     requires { ⌜ Holds (now st) ⌝ }
-    ensures { λ a. ⌜ Judges (read (now (file .entry))) (bodyOf owner) i q (now (st .entry)) a (now (st .exit)) ⌝ }
+    ensures { λ a. ⌜ ((m : Module) (d : Body) (w : ℕ) → Moves m d b w p (now (st .entry)) a (now (st .exit))) ⌝ }
 {
-    match i {
-        Instruction::Push(k) => push_constant(file, c, k, q, st),
-        Instruction::Load(n) => records::locals::load(n, q, st),
-        Instruction::Store(n) => records::locals::store(n, q, st),
-        Instruction::Lea(n) => records::locals::lea(n, q, st),
-        Instruction::One(o) => records::operands::one(o, q, st),
-        Instruction::Two(o) => records::operands::two(o, q, st),
-        Instruction::Tload => records::pointers::tload(q, st),
-        Instruction::Tstore => records::pointers::tstore(q, st),
-        Instruction::Bump(up) => records::pointers::bump(up, q, st),
-        Instruction::Jmp(k) => jmp(file, c, owner, k),
-        Instruction::Branch(_, k) => branch(file, c, owner, k, q, st),
-        Instruction::Call(k) => call(file, c, k, q, st),
-        Instruction::Ret => ret(file, c, owner, st),
+    match b {
+        0x13 => records::operands::keep(6, p + 1, st),
+        0x14 => records::pointers::bump(p + 1, st),
+        0x15 => records::pointers::bump(p + 1, st),
+        0x16 => records::operands::arith(4, p + 1, st),
+        0x17 => records::operands::arith(4, p + 1, st),
+        0x18 => records::operands::arith(4, p + 1, st),
+        0x19 => records::operands::keep(4, p + 1, st),
+        0x1a => records::operands::arith(4, p + 1, st),
+        0x1b => records::operands::arith(4, p + 1, st),
+        0x1c => records::operands::arith(4, p + 1, st),
+        0x1d => records::operands::arith(4, p + 1, st),
+        0x1e => records::operands::compare(p + 1, st),
+        0x1f => records::operands::compare(p + 1, st),
+        0x2b => records::operands::convert(3, p + 1, st),
+        0x2c => records::operands::convert(4, p + 1, st),
+        0x2e => records::operands::convert(6, p + 1, st),
+        0x00 | 0x06 | 0x29 | 0x2d | 0x30 | 0x32 | 0x34 | 0x36 | 0x38 | 0x3a | 0x3c | 0x3e =>
+            Transfer::Breaks,
+        0x2a | 0x2f | 0x31 | 0x33 | 0x35 | 0x37 | 0x39 | 0x3b | 0x3d | 0x3f => Transfer::Stops,
+        _ => Transfer::Jumps(0),
     }
 }
 
-// What follows from the place p of a body that ends at the place `end`.
+// Instructions that have no word.
+fn single(b: u8, p: usize, st: &mut [u8]) -> Transfer
+    requires { ⌜ Known b × Outside b wides × (p < 2 ^ 32) ⌝ }
+    requires { ⌜ Holds (now st) ⌝ }
+    ensures { λ a. ⌜ ((m : Module) (d : Body) (w : ℕ) → Moves m d b w p (now (st .entry)) a (now (st .exit))) ⌝ }
+{
+    match b {
+        0x02 => records::operands::pop(p + 1, st),
+        0x07 => records::pointers::tload(p + 1, st),
+        0x08 => records::pointers::tstore(p + 1, st),
+        0x09 => records::operands::copy(p + 1, st),
+        0x0a => records::operands::swap(p + 1, st),
+        0x0b => records::operands::arith(6, p + 1, st),
+        0x0c => records::operands::arith(6, p + 1, st),
+        0x0d => records::operands::arith(6, p + 1, st),
+        0x0e => records::operands::arith(6, p + 1, st),
+        0x0f => records::operands::arith(6, p + 1, st),
+        0x10 => records::operands::arith(6, p + 1, st),
+        0x11 => records::operands::arith(4, p + 1, st),
+        0x12 => records::operands::arith(4, p + 1, st),
+        _ => other(b, p, st),
+    }
+}
+
+// What follows from the place p, where the key b stands.
 pub fn transfer(
     file: &[u8],
     c: Sections,
+    code: &[u8],
     owner: usize,
-    end: usize,
     p: usize,
+    b: u8,
     st: &mut [u8],
 ) -> Transfer
     requires { ⌜ Packed (now file) c × (refusal (now file) ≡ 0) ⌝ }
-    requires { ⌜ Holds (now st) ⌝ }
-    requires { ⌜ (endOf (read (now file)) (bodyOf owner) ≡ some end) × (p ≤ end) × (end ≤ c .extent) ⌝ }
-    ensures { λ a. ⌜ Moved (now (file .entry)) owner p (now (st .entry)) a (now (st .exit)) ⌝ }
+    requires { ⌜ Holds (now st) × KeyAt (now code) p b ⌝ }
+    ensures { λ a. ⌜ Moves (read (now (file .entry))) (bodyOf owner) b (word 4 (now (code .entry)) (p + 1)) p (now (st .entry)) a (now (st .exit)) ⌝ }
 {
-    if p == end {
-        return at_end(owner);
+    match b {
+        0x01 => push_constant(file, c, keys::operand(code, p), p + 5, st),
+        0x03 => records::locals::load(keys::operand(code, p), p + 5, st),
+        0x04 => records::locals::store(keys::operand(code, p), p + 5, st),
+        0x05 => records::locals::lea(keys::operand(code, p), p + 5, st),
+        0x20 => jmp(file, c, owner, keys::operand(code, p)),
+        0x21 => branch(file, c, owner, keys::operand(code, p), p + 5, st),
+        0x22 => branch(file, c, owner, keys::operand(code, p), p + 5, st),
+        0x23 => branch(file, c, owner, keys::operand(code, p), p + 5, st),
+        0x24 => branch(file, c, owner, keys::operand(code, p), p + 5, st),
+        0x25 => branch(file, c, owner, keys::operand(code, p), p + 5, st),
+        0x26 => branch(file, c, owner, keys::operand(code, p), p + 5, st),
+        0x27 => call(file, c, keys::operand(code, p), p + 5, st),
+        0x28 => ret(file, c, owner, st),
+        _ => single(b, p, st),
     }
-    let found = decode::instruction(file, c, p);
-    let Decoded::Known(i) = found else {
-        return Transfer::Breaks;
-    };
-    let q = p + reader::decode::size(i);
-    judged(file, c, owner, i, q, st)
 }

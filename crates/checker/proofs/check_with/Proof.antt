@@ -1,19 +1,13 @@
 use denote.Ref.{now}
 use native.Mathlib.Omega.{arith}
-use mathlib.Core.Path.{_≡_, refl, ap, _∙_, sym}
+use mathlib.Core.Path.{refl, ap}
 use Prim.Native.Nat.{ℕ, _*_}
-use Rattle.checker.proofs.Copies.{zeros-at}
+use Rattle.nodes.proofs.Copies.{zeros-at}
 use Rattle.checker.proofs.Growth.{fits-grows}
 use Rattle.checker.proofs.Verdicts.{room-enough, fits-first, typed-check, untyped-check}
 use borrow.Author.Needs.{needs}
 use Rattle.checker.proofs.check_with.Statement.{statement}
 use Rattle.checker.proofs.check_with.Tie as tie
-use Rattle.checker.proofs.check_with.Reads as reads
-use Rattle.checker.proofs.check_with.Lts as lts
-use Rattle.checker.proofs.bodies.bodies.Reads as bodies-reads
-use Rattle.checker.proofs.finish.finish.Reads as finish-reads
-use Rattle.checker.proofs.nodes.fill.Reads as fill-reads
-use Rattle.checker.proofs.room.zero.Reads as zero-reads
 
 fill-requires : tie.Need-fill-requires
 fill-requires c κs = search needs
@@ -25,7 +19,7 @@ slice-aggregate-bodies-2 : tie.Need-slice-aggregate-bodies-2
 slice-aggregate-bodies-2 c = search needs
 
 bodies-requires : tie.Need-bodies-requires
-bodies-requires c κs = (((c .before .before .before .before .before .before .before .before .before .before .before .pre) .0 .0, (c .before .before .before .before .before .before .before .before .before .before .before .pre) .0 .1, (c .before .before .before .before .before .before .fill) .ensures), (fits-first _ _ _ ((c .before .before .before .before .before .before .before .before .before .before .before .pre) .0 .0) ((c .before .before .before .before .before .before .before .before .before .before .before .pre) .0 .2), zeros-at 256, refl))
+bodies-requires c κs = (((c .before .before .before .before .before .before .before .before .before .before .before .pre) .0 .0, (c .before .before .before .before .before .before .before .before .before .before .before .pre) .0 .1, (c .before .before .before .before .before .before .fill) .ensures), (fits-first _ _ _ ((c .before .before .before .before .before .before .before .before .before .before .before .pre) .0 .0) ((c .before .before .before .before .before .before .before .before .before .before .before .pre) .0 .2), zeros-at 514, refl))
 
 enum-told : tie.Need-enum-told
 enum-told c = search needs

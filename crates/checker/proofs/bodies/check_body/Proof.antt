@@ -4,11 +4,6 @@ use Rattle.checker.proofs.Starting.{body-refused, body-drained}
 use borrow.Author.Needs.{needs}
 use Rattle.checker.proofs.bodies.check_body.Statement.{statement}
 use Rattle.checker.proofs.bodies.check_body.Tie as tie
-use Rattle.checker.proofs.bodies.check_body.Reads as reads
-use Rattle.checker.proofs.bodies.check_body.Lts as lts
-use Rattle.checker.proofs.bodies.begin.Reads as begin-reads
-use Rattle.checker.proofs.bodies.drain.Reads as drain-reads
-use Rattle.checker.proofs.bodies.seed.Reads as seed-reads
 
 seed-requires : tie.Need-seed-requires
 seed-requires c κs = search needs

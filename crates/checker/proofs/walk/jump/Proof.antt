@@ -1,15 +1,11 @@
+use Rattle.checker.proofs.Arrivals.{label-node, place-in-table}
 use native.Mathlib.Omega.{arith}
-use Rattle.checker.proofs.Arrivals.{label-node}
 use borrow.Author.Needs.{needs}
 use Rattle.checker.proofs.walk.jump.Statement.{statement}
 use Rattle.checker.proofs.walk.jump.Tie as tie
-use Rattle.checker.proofs.walk.jump.Reads as reads
-use Rattle.checker.proofs.walk.jump.Lts as lts
-use Rattle.checker.proofs.nodes.node_at.Reads as node-at-reads
-use Rattle.checker.proofs.walk.arrive.Reads as arrive-reads
 
 node-at-requires : tie.Need-node-at-requires
-node-at-requires c κs = search needs
+node-at-requires c κs = place-in-table _ _ ((c .before .before .before .before .before .pre) .0 .readable) ((c .before .before .before .before .before .pre) .0 .tabled) _ ((c .before .before .before .before .before .pre) .0 .has) _ ((c .before .before .before .before .before .pre) .1 .0 .stands .place)
 
 arrive-requires : tie.Need-arrive-requires
 arrive-requires c κs = let n = label-node _ _ ((c .before .before .before .before .before .before .before .before .pre) .0 .readable) ((c .before .before .before .before .before .before .before .before .pre) .0 .tabled) _ ((c .before .before .before .before .before .before .before .before .pre) .0 .has) _ ((c .before .before .before .before .before .before .before .before .pre) .1 .1) in ((c .before .before .before .before .before .before .before .before .pre) .0, ((c .before .before .before .before .before .before .before .before .pre) .1 .0, (n .0, (c .before .before .node-at) .ensures, omega (arith, (c .before .before .node-at) .ensures, n .1))))

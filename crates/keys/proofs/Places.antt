@@ -1,0 +1,64 @@
+-- The key of an instruction that stands at a place.
+use Prim.Native.Nat.{ℕ, _+_, _%_, _≤_, _<_}
+use native.Mathlib.Omega.{arith}
+use mathlib.Core.Path.{_≡_, refl, sym, ap, _∙_}
+use mathlib.Core.Bool.{Bool, true, false, cond, true≢false}
+use mathlib.Core.Option.{some}
+use mathlib.Core.List.{List}
+use lib.ListN.{List·getD-eq-default}
+use lib.Dec.{leb, ltb, ltb→lt, nltb→le}
+use borrow.Author.Tests.{le-leb, lt-leb, leb-true, leb-false}
+use Rattle.rules.specs.declared.Instruction.{Instruction}
+use Rattle.rules.specs.Bytes.{byte, word}
+use Rattle.rules.specs.Instructions.{Opcode, absent, bare, wide, edition3, opcodeOf, isAbsent, instructionOf}
+use Rattle.keys.specs.declared.Fetched.the-variants.{Key, End}
+use Rattle.keys.specs.Keys.{fetched, Says, Known}
+
+pub fetched-end : (code : List ℕ) (q stop : ℕ) → stop ≤ q → End ≡ fetched code q stop
+unfolding fetched
+fetched-end code q stop h = rw (le-leb stop q h) refl
+
+pub fetched-key : (code : List ℕ) (q stop : ℕ) → q < stop → Key (byte code q % 64) ≡ fetched code q stop
+unfolding fetched
+fetched-key code q stop h = rw (lt-leb stop q h) refl
+
+module _ (code : List ℕ) (q stop : ℕ) where
+  pub at-end : fetched code q stop ≡ End → stop ≤ q
+  unfolding fetched
+  at-end e = go (leb stop q) refl e
+    where
+      go : (x : Bool) → leb stop q ≡ x → cond x End (Key (byte code q % 64)) ≡ End → stop ≤ q
+      go true y f = leb-true stop q y
+      go false y f = absurd (let z : _≡_ {A = ℕ} 0 1 = cc in omega arith)
+
+  pub at-key : (b : ℕ) → fetched code q stop ≡ Key b → (q < stop) × (b ≡ byte code q % 64)
+  unfolding fetched
+  at-key b e = go (leb stop q) refl e
+    where
+      go : (x : Bool) → leb stop q ≡ x → cond x End (Key (byte code q % 64)) ≡ Key b → (q < stop) × (b ≡ byte code q % 64)
+      go true y f = absurd (let z : _≡_ {A = ℕ} 0 1 = cc in omega arith)
+      go false y f = (leb-false stop q y, cc)
+
+-- an opcode that has an instruction is known
+known-opcode : (o : Opcode) (w : ℕ) (i : Instruction) → instructionOf o w ≡ some i → isAbsent o ≡ false
+known-opcode absent w i e = absurd (let z : _≡_ {A = ℕ} 0 1 = cc in omega arith)
+known-opcode (bare j) w i e = refl
+known-opcode (wide j) w i e = refl
+
+pub says-known : (code : List ℕ) (q : ℕ) (i : Instruction) → Says code q i → Known (byte code q)
+says-known code q i s = known-opcode (opcodeOf edition3 (byte code q)) (word 4 code (q + 1)) i (s .is)
+
+-- the table ends at 2e
+pub known-low : (b : ℕ) → Known b → b < 47
+known-low b k = go (ltb b 47) refl
+  where
+    go : (x : Bool) → ltb b 47 ≡ x → b < 47
+    go true e = ltb→lt b 47 (rw e tt)
+    go false e =
+        let l : 47 ≤ b = nltb→le b 47 (rw e tt) in
+        let z : opcodeOf edition3 b ≡ absent = List·getD-eq-default edition3 absent {n = b} l in
+        absurd (true≢false (sym (ap isAbsent z) ∙ k))
+
+-- so all of its bits are kept
+pub says-key : (code : List ℕ) (q : ℕ) (i : Instruction) → Says code q i → byte code q % 64 ≡ byte code q
+says-key code q i s = let l : byte code q < 47 = known-low (byte code q) (says-known code q i s) in omega arith

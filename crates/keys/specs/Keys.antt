@@ -1,0 +1,60 @@
+-- Keys of instructions, at places of the code and in the matches that take them apart.
+use mathlib.Core.Path.{_≡_}
+use Prim.Native.Nat.{ℕ, zero, suc, _+_, _%_, _≤_}
+use mathlib.Core.Bool.{Bool, true, false, _&&_, _||_, cond}
+use mathlib.Core.Option.{some}
+use mathlib.Core.List.{List, [], _∷_}
+use types.Run.{OneOf}
+use lib.ListN.{length}
+use lib.Dec.{leb, eqb}
+use Rattle.rules.specs.declared.Instruction.{Instruction}
+use Rattle.rules.specs.Bytes.{byte, word}
+use Rattle.rules.specs.Instructions.{edition3, opcodeOf, isAbsent, instructionOf, size}
+use Rattle.keys.specs.declared.Fetched.{Fetched}
+use Rattle.keys.specs.declared.Fetched.the-variants.{Key, End}
+
+-- ---- at a place
+
+-- what stands at place q of a body that ends at `stop`
+unfoldable pub fetched : List ℕ → ℕ → ℕ → Fetched
+fetched code q stop = cond (leb stop q) End (Key (byte code q % 64))
+
+-- the bytes at place q of the code are the key of the instruction i and its word, and all of them are there
+pub record Says (code : List ℕ) (q : ℕ) (i : Instruction) : Type 0 where
+  pub is : instructionOf (opcodeOf edition3 (byte code q)) (word 4 code (q + 1)) ≡ some i
+  pub whole : q + size i ≤ length code
+
+-- ---- in matches
+
+-- b is the key of an instruction
+abbrev pub Known : ℕ → Type 0
+Known b = isAbsent (opcodeOf edition3 b) ≡ false
+
+-- what a match knows of b in its last arm: it is none of each arm's keys, the last of the arms first
+abbrev pub Outside : ℕ → List (List ℕ) → Type 0
+Outside b [] = Unit {0}
+Outside b (ks ∷ kss) = Outside b kss × (OneOf ks b → ⊥)
+
+-- arms of one key each
+abbrev pub each : List ℕ → List (List ℕ)
+each [] = []
+each (k ∷ ks) = (k ∷ []) ∷ each ks
+
+-- b is one of these keys
+abbrev pub among : ℕ → List ℕ → Bool
+among b [] = false
+among b (k ∷ ks) = among b ks || eqb b k
+
+abbrev pub amongAny : ℕ → List (List ℕ) → Bool
+amongAny b [] = false
+amongAny b (ks ∷ kss) = amongAny b kss || among b ks
+
+-- every number below n is one of these keys
+abbrev pub complete : ℕ → List (List ℕ) → Bool
+complete zero kss = true
+complete (suc n) kss = complete n kss && amongAny n kss
+
+-- none of these keys is an instruction's
+abbrev pub absents : List ℕ → Bool
+absents [] = true
+absents (k ∷ ks) = isAbsent (opcodeOf edition3 k) && absents ks
