@@ -1,4 +1,5 @@
+pub mod Files
 pub mod Frames
-pub mod Jumps
-pub mod Calls
-pub mod Returns
+pub mod JumpLaws
+pub mod CallLaws
+pub mod ReturnLaws

@@ -1,18 +1,27 @@
 // Doubles: from patterns and back, their order, and conversions from and to whole numbers.
 ghost use mathlib.Core.Path.{_≡_};
+ghost use mathlib.Core.Bool.{not};
 ghost use lib.Ieee as Ieee;
 ghost use Rattle.rules.specs.Words.{orderOf};
 ghost use Rattle.rules.specs.Doubles.{decodeOf, encodeOf, cutOf, todOf};
+
+// Whether a pattern is a number's, and no NaN's. Doubling drops the sign.
+fn number(p: u64) -> bool
+    ensures { λ r. ⌜ r ≡ not (Ieee.nanBits Ieee.binary64 p) ⌝ }
+{
+    let d = std::num::wrapping_add_u64(p, p);
+    d <= 0xffe0_0000_0000_0000
+}
 
 // The double of a pattern. Every NaN's pattern gives a NaN.
 pub fn decode(p: u64) -> f64
     ensures { λ r. ⌜ r ≡ decodeOf p ⌝ }
 {
-    if 0x7ff0_0000_0000_0000 < p % 0x8000_0000_0000_0000 {
-        0.0 / 0.0
-    } else {
-        f64::from_bits(p)
+    let n = number(p);
+    if n {
+        return f64::from_bits(p);
     }
+    0.0 / 0.0
 }
 
 // The pattern of a double, 7FF8000000000000 for a NaN.

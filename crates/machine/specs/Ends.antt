@@ -1,27 +1,46 @@
 -- How a run's end stands in the registers and the lent bytes.
-use Prim.Native.Nat.{ℕ, _*_, _≤_}
+use Prim.Native.Nat.{ℕ, _+_, _*_, _-_, _≤_}
 use mathlib.Core.Path.{_≡_}
 use mathlib.Core.Bool.{cond}
 use mathlib.Core.List.{List}
-use lib.ListN.{length, drop}
+use lib.ListN.{length, getD, drop}
 use lib.Dec.{eqb}
-use Rattle.rules.specs.Machine.{Outcome, outcome}
+use Rattle.rules.specs.ModuleFile.{Module}
+use Rattle.rules.specs.Machine.{State, Outcome, outcome, run}
 use Rattle.rules.specs.Stack.{slotsOf}
+use Rattle.soundness.specs.Started.{Fit}
+use Rattle.soundness.specs.Kinds.{OfKind}
+use Rattle.state.specs.State.{stateOf, Ready}
 use Rattle.state.specs.declared.Registers.{Registers}
 use Rattle.machine.specs.declared.Ended.{Ended}
 
 abbrev pub endWith : ℕ → ℕ → Registers → Ended
-endWith n k r = record { number = n; steps = k; last = r }
+endWith n k r = record { number = n; rest = k; last = r }
 
 -- at the end of a body
-unfoldable pub endAtStop : Registers → ℕ → Ended
-endAtStop r k = cond (eqb (r .body) 65535) (endWith 0 k r) (endWith 29 k r)
+unfoldable pub endAtStop : List ℕ → Registers → ℕ → Ended
+endAtStop f r k = cond (eqb (getD f (r .frame) 0) 65535) (endWith 0 k r) (endWith 29 k r)
 
--- the run ended as o says; its stack is in the first slots, and what lies past the capacity is as it was
-pub record RunsTo (cap : ℕ) (e : Ended) (p t p′ t′ : List ℕ) (o : Outcome) : Type 0 where
-  pub result : outcome (e .number) (e .steps) (record { stack = slotsOf p′ t′ (e .last .height) }) ≡ o
+-- ready in a state that a run can come to
+pub record Fits (m : Module) (cap : ℕ) (r : Registers) (p t f : List ℕ) : Type 0 where
+  pub ready : Ready cap r p t f
+  pub fit : Fit m OfKind cap (stateOf r p t f)
+
+-- the run from the state s on n steps is that from these registers and bytes on the rest; k steps were counted before
+pub record Resumes (m : Module) (cap n : ℕ) (s : State) (e : Ended) (p t f : List ℕ) : Type 0 where
+  pub fits : Fits m cap (e .last) p t f
+  pub same : (k : ℕ) → run m cap (e .rest) (k + (n - e .rest)) (stateOf (e .last) p t f) ≡ run m cap n k s
+
+-- the run from the state s on n steps ended as e says: its stack is in the first slots, and what lies past the capacity is as it was.
+-- A run that met a call for which there were no words lent stands as it was before the call, with the number 20 and the rest of its steps
+pub record RunsTo (m : Module) (cap n : ℕ) (s : State) (e : Ended) (p t f p′ t′ f′ : List ℕ) : Type 0 where
+  pub exact : (e .number ≡ 20 → 1536 ≤ length f)
+      → (k : ℕ) → outcome (e .number) (k + (n - e .rest)) (record { stack = slotsOf p′ t′ (e .last .height) }) ≡ run m cap n k s
+  pub resumes : e .number ≡ 20 → Resumes m cap n s e p′ t′ f′
+  pub left : e .rest ≤ n
   pub high : e .last .height ≤ cap
   pub rest-payloads : drop (cap * 8) p′ ≡ drop (cap * 8) p
   pub rest-types : drop cap t′ ≡ drop cap t
   pub same-payloads : length p′ ≡ length p
   pub same-types : length t′ ≡ length t
+  pub same-words : length f′ ≡ length f

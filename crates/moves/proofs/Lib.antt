@@ -1,4 +1,4 @@
 -- Laws that the proofs cite.
-pub mod OperandLaws
+pub mod StackLaws
 pub mod LocalLaws
 pub mod PointerLaws

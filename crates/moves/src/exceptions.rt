@@ -13,6 +13,4 @@ pub(crate) const LOCALVARIABLE_INVALIDINDEX: u32 = 26;
 
 pub(crate) const POINTER_NOTPOINTER: u32 = 31;
 
-pub(crate) const POINTER_INVALIDFORPOINTER: u32 = 32;
-
 pub(crate) const POINTER_UNKNOWNADDRESS: u32 = 33;

@@ -1,5 +1,5 @@
-// Instructions that stay in their frame, family by family.
+// Instructions that move slots within their frame. A slot is copied with its type byte, as it is.
 mod exceptions;
 pub mod locals;
-pub mod operands;
 pub mod pointers;
+pub mod stack;

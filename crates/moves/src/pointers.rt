@@ -1,21 +1,19 @@
-// Instructions through a pointer: type 7, its payload the number of the slot that it names.
+// Moves through a pointer: type 7, its payload the number of the slot that it names.
 ghost use Prim.Native.Nat.{_<_};
 ghost use Rattle.rules.specs.ModuleFile.{Module};
 ghost use Rattle.rules.specs.Machine.{execIn};
-ghost use Rattle.rules.specs.declared.Instruction.the-variants.{Tload, Tstore, Bump};
-ghost use Rattle.moves.specs.Moves.{Fit, Acts};
-use crate::exceptions::POINTER_INVALIDFORPOINTER;
+ghost use Rattle.rules.specs.declared.Instruction.the-variants.{Tload, Tstore};
+ghost use Rattle.state.specs.State.{ReadyOn, Acts};
 use crate::exceptions::POINTER_NOTPOINTER;
 use crate::exceptions::POINTER_UNKNOWNADDRESS;
 use crate::exceptions::STACK_DIFFERENTTYPE;
 use crate::exceptions::STACK_EMPTY;
-use rules::Slot;
 use state::Progress;
 use state::Registers;
 
 // `tload`.
 pub fn tload(cap: usize, r: Registers, p: &mut [u8], t: &mut [u8]) -> Progress
-    requires { ⌜ Fit cap r (now p) (now t) ⌝ }
+    requires { ⌜ ReadyOn cap r (now p) (now t) ⌝ }
     requires { ⌜ r .place < r .stop ⌝ }
     ensures { λ a. ⌜ ((m : Module) → Acts cap r a (now (p .entry)) (now (t .entry)) (now (p .exit)) (now (t .exit)) (execIn m cap Tload)) ⌝ }
 {
@@ -35,11 +33,11 @@ pub fn tload(cap: usize, r: Registers, p: &mut [u8], t: &mut [u8]) -> Progress
     Progress::Goes(state::moved(r, r.place + 1, h))
 }
 
-// `tstore`: the pointer is under the value.
-pub fn tstore(cap: usize, r: Registers, p: &mut [u8], t: &mut [u8]) -> Progress
-    requires { ⌜ Fit cap r (now p) (now t) ⌝ }
+// `tstore`: the pointer is under the value. The slot that it names keeps its type byte.
+pub fn tstore(cap: usize, r: Registers, p: &mut [u8], t: &[u8]) -> Progress
+    requires { ⌜ ReadyOn cap r (now p) (now t) ⌝ }
     requires { ⌜ r .place < r .stop ⌝ }
-    ensures { λ a. ⌜ ((m : Module) → Acts cap r a (now (p .entry)) (now (t .entry)) (now (p .exit)) (now (t .exit)) (execIn m cap Tstore)) ⌝ }
+    ensures { λ a. ⌜ ((m : Module) → Acts cap r a (now (p .entry)) (now (t .entry)) (now (p .exit)) (now (t .entry)) (execIn m cap Tstore)) ⌝ }
 {
     let h = r.height;
     if h < r.floor + 2 {
@@ -58,32 +56,6 @@ pub fn tstore(cap: usize, r: Registers, p: &mut [u8], t: &mut [u8]) -> Progress
     if v.kind != old.kind {
         return Progress::Stops(STACK_DIFFERENTTYPE);
     }
-    state::put_slot(p, t, s, v);
+    memory::store64(p, s * 8, v.payload);
     Progress::Goes(state::moved(r, r.place + 1, h - 2))
-}
-
-// `inc` where up, else `dec`.
-pub fn bump(cap: usize, r: Registers, up: bool, p: &mut [u8], t: &mut [u8]) -> Progress
-    requires { ⌜ Fit cap r (now p) (now t) ⌝ }
-    requires { ⌜ r .place < r .stop ⌝ }
-    ensures { λ a. ⌜ ((m : Module) → Acts cap r a (now (p .entry)) (now (t .entry)) (now (p .exit)) (now (t .exit)) (execIn m cap (Bump up))) ⌝ }
-{
-    let h = r.height;
-    if h < r.floor + 1 {
-        return Progress::Stops(STACK_EMPTY);
-    }
-    let at = state::slot_at(p, t, h - 1);
-    if at.kind != 7 {
-        return Progress::Stops(POINTER_NOTPOINTER);
-    }
-    if (h - 1) as u64 <= at.payload {
-        return Progress::Stops(POINTER_UNKNOWNADDRESS);
-    }
-    let s = at.payload as usize;
-    let old = state::slot_at(p, t, s);
-    if old.kind == 7 {
-        return Progress::Stops(POINTER_INVALIDFORPOINTER);
-    }
-    state::put_slot(p, t, s, values::bump(up, old));
-    Progress::Goes(state::moved(r, r.place + 1, h - 1))
 }

@@ -1,23 +1,20 @@
 -- The opcode table of edition 3 against what the code tests, by computing all 256 bytes.
-use Prim.Native.Nat.{ℕ, zero, suc, _+_, _/_, _%_, _^_, _<_, _≤_}
+use Prim.Native.Nat.{ℕ, zero, suc, _+_, _/_, _%_, _^_, _<_}
 use native.Mathlib.Nat.{eq-or-lt-of-le, le-of-suc-le-suc}
 use native.Mathlib.Omega.{arith}
 use mathlib.Core.Path.{_≡_, refl, sym, ap, _∙_}
 use mathlib.Core.Logic.{⊎-elim}
 use mathlib.Core.Bool.{Bool, true, false, not, xor, _&&_, _||_, cond, true≢false}
-use mathlib.Core.List.{List, [], _∷_}
-use mathlib.Core.Option.{none}
+use mathlib.Core.List.{List}
 use lib.Dec.{ltb, leb, eqb}
-use lib.ListN.{List·getD-eq-default}
-use borrow.Author.Tests.{eqb-true, eq-eqb, ne-eqb}
-use Rattle.rules.specs.Instructions.{Opcode, absent, bare, wide, edition3, opcodeOf, isAbsent, instructionOf}
-use Rattle.rules.specs.ModuleFile.{opcodeAt, codeAt, codeOf}
+use borrow.Author.Tests.{eqb-true, eq-eqb}
+use Rattle.rules.specs.Instructions.{edition3, opcodeOf, instructionOf}
+use Rattle.rules.specs.ModuleFile.{opcodeAt, codeOf}
 use Rattle.rules.specs.Bytes.{byte, word}
 use Rattle.format.specs.declared.Sections.{Sections}
 use Rattle.format.proofs.Tests.{and-left, and-right}
 use Rattle.format.specs.Layout.{Packed}
 use Rattle.reader.specs.Cut.{sizeIn, isBare}
-use Rattle.reader.specs.Families.{among, wides, arithmetics, others}
 
 allBelow : ℕ → (ℕ → Bool) → Bool
 allBelow zero f = true
@@ -71,36 +68,3 @@ module _ (s : List ℕ) (c : Sections) (k : Packed s c) (p : ℕ) where
   pub code-at : instructionOf (opcodeOf edition3 (byte s (c .code + p))) (word 4 s (c .code + p + 1)) ≡ codeOf s p
   unfolding codeOf
   code-at = simp (eq-eqb _ _ (k .third), k .code-is)
-
-  pub code-out : c .extent ≤ p → none ≡ codeOf s p
-  unfolding codeOf
-  code-out h =
-      let z : byte s (codeAt s + p) ≡ 0 = List·getD-eq-default s 0 (omega arith) in
-      simp (eq-eqb _ _ (k .third), z)
-
--- ---- families
-
--- what a match knows of a number in its last arm
-abbrev pub Outside : ℕ → List ℕ → Type 0
-Outside b [] = Unit
-Outside b (k ∷ ks) = Outside b ks × (b ≡ k → ⊥)
-
-pub outside : (b : ℕ) (ks : List ℕ) → Outside b ks → among b ks ≡ false
-outside b [] h = refl
-outside b (k ∷ ks) h = simp (outside b ks (h .0), ne-eqb b k (h .1))
-
-absentBut : ℕ → Bool
-absentBut b = among b wides || among b arithmetics || among b others || isAbsent (opcodeOf edition3 b)
-
-families : allBelow 256 absentBut ≡ true
-unfolding allBelow absentBut
-families = refl
-
-absent-is : (o : Opcode) → isAbsent o ≡ true → o ≡ absent
-absent-is absent h = refl
-absent-is (bare i) h = absurd (true≢false (sym h))
-absent-is (wide i) h = absurd (true≢false (sym h))
-
-pub in-no-family : (b : ℕ) → b < 256 → among b wides ≡ false → among b arithmetics ≡ false → among b others ≡ false → opcodeOf edition3 b ≡ absent
-unfolding absentBut
-in-no-family b h w a o = absent-is (opcodeOf edition3 b) (simp (w, a, o) at (all-at 256 absentBut families b h))

@@ -5,7 +5,6 @@ use mathlib.Core.Bool.{Bool}
 use mathlib.Core.List.{List, [], _∷_}
 use mathlib.Core.Option.{Option, none, some}
 use Rattle.rules.specs.Bytes.{byte}
-use Rattle.rules.specs.declared.Instruction.{Instruction}
 use Rattle.rules.specs.declared.Slot.{Slot}
 use Rattle.rules.specs.Instructions.{numOf, tyOf}
 use Rattle.rules.specs.ModuleFile.{refusal, badConstants, badFunctions, badCode, badLabels, Function, Body, bodyOf, paramsFrom, functionAt, functionOf}
@@ -17,8 +16,6 @@ use Rattle.reader.specs.declared.Opened.the-variants.{Refused, Module}
 use Rattle.reader.specs.declared.entries.FoundConstant.{FoundConstant}
 use Rattle.reader.specs.declared.entries.FoundFunction.{FoundFunction}
 use Rattle.reader.specs.declared.entries.FoundLabel.{FoundLabel}
-use Rattle.reader.specs.declared.decode.Decoded.{Decoded}
-use Rattle.reader.specs.declared.decode.Decoded.the-variants.{Known, Unknown}
 use Rattle.reader.specs.declared.entries.FoundConstant.the-variants as FoundConstant
 use Rattle.reader.specs.declared.entries.FoundFunction.the-variants as FoundFunction
 use Rattle.reader.specs.declared.entries.FoundLabel.the-variants as FoundLabel
@@ -58,7 +55,3 @@ ParamIs s k j r =
 abbrev pub labelIn : FoundLabel → Option (Body × ℕ)
 labelIn (FoundLabel.Record l) = some (bodyOf (l .owner), l .place)
 labelIn FoundLabel.Nothing = none
-
-abbrev pub decodedOf : Decoded → Option Instruction
-decodedOf (Known i) = some i
-decodedOf Unknown = none

@@ -2,18 +2,17 @@
 use Prim.Native.Nat.{ℕ, _+_, _≤_, _<_}
 use native.Mathlib.Omega.{arith}
 use mathlib.Core.Path.{_≡_, refl, sym, ap, _∙_}
-use mathlib.Core.Bool.{false}
 use mathlib.Core.Option.{none, some}
 use mathlib.Core.List.{List}
 use borrow.Author.Tests.{eq-eqb, ne-eqb}
-use Rattle.rules.specs.ModuleFile.{badFunctions, bodyOf, functionAt, read}
+use Rattle.rules.specs.ModuleFile.{refusal, bodyOf, functionAt, read}
 use Rattle.rules.specs.Typing.{startOf}
 use Rattle.format.specs.declared.Sections.{Sections}
 use Rattle.format.specs.Layout.{Packed}
 use Rattle.reader.specs.declared.entries.FunctionRecord.{FunctionRecord}
 use Rattle.reader.specs.declared.entries.FoundFunction.the-variants.{Record}
 use Rattle.reader.specs.Answers.{functionIn}
-use Rattle.control.proofs.Calls.{callee}
+use Rattle.control.proofs.Files.{callee}
 use Rattle.runs.specs.Runs.{BodyIs}
 
 module _ (s : List ℕ) (c : Sections) (packed : Packed s c) (f : ℕ) where
@@ -34,16 +33,16 @@ module _ (s : List ℕ) (c : Sections) (packed : Packed s c) (f : ℕ) where
     pub names-none : read s .function f ≡ none → startOf (read s) (bodyOf f) ≡ none
     names-none e = rw (ne-eqb f 0xffffffff other, e) refl
 
-    pub names-function : badFunctions s ≡ false → (g : FunctionRecord) → functionIn s (functionAt s f) (Record g) ≡ read s .function f
+    pub names-function : refusal s ≡ 0 → (g : FunctionRecord) → functionIn s (functionAt s f) (Record g) ≡ read s .function f
         → BodyIs s c f (record { body = f; start = g .start; end = g .end; params = g .params })
-    names-function good g e =
-        let k = callee s good c packed f g e in
+    names-function readable g e =
+        let k = callee s readable f g e in
         record {
-          named = rw (ne-eqb f 0xffffffff other, ne-eqb f 65535 (λ q. omega (arith, k .0, packed .few-functions))) refl;
+          named = rw (ne-eqb f 0xffffffff other, ne-eqb f 65535 (λ q. omega (arith, k .0, packed .functions-is, packed .few-functions))) refl;
           starts = rw (ne-eqb f 0xffffffff other, ← e) refl;
           ends = rw (ne-eqb f 0xffffffff other, ← e) refl;
-          declares = λ h. k .0;
+          declares = λ h. omega (arith, k .0, packed .functions-is);
           few = k .1;
           near = k .2;
-          body-fits = omega (arith, k .0, packed .few-functions);
+          body-fits = omega (arith, k .0, packed .functions-is, packed .few-functions);
         }

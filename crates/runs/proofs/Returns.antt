@@ -16,6 +16,7 @@ use Rattle.rules.specs.Stack.{slotsOf}
 use Rattle.rules.specs.Machine.{Outcome, outcome, run}
 use Rattle.rules.specs.Typing.{startOf}
 use Rattle.rules.specs.Answers.{admitted, arguments, startState, outcomeOf, ran, runRefusal, runModule}
+use Rattle.soundness.specs.Kinds.{start-kinds}
 use Rattle.format.specs.declared.Sections.{Sections}
 use Rattle.format.specs.Layout.{sectionsOf}
 use Rattle.reader.specs.declared.Opened.the-variants.{Refused}
@@ -24,10 +25,9 @@ use Rattle.reader.proofs.Opening.{opened-refused}
 use Rattle.state.specs.State.{stateOf, Ready}
 use Rattle.state.specs.declared.Registers.{Registers}
 use Rattle.state.proofs.Stack.{length-slots}
-use Rattle.control.specs.Control.{argumentsIn, firstAt}
+use Rattle.control.specs.Control.{openedIn, firstAt}
 use Rattle.control.proofs.Frames.{state-first, ready-first}
-use Rattle.machine.specs.declared.Ended.{Ended}
-use Rattle.machine.specs.Ends.{RunsTo}
+use Rattle.machine.specs.Ends.{Fits}
 use Rattle.runs.specs.declared.BodyRecord.{BodyRecord}
 use Rattle.runs.specs.Runs.{lentOf, slotsIn, ClosedAs, RunIs, Copied, BodyIs}
 use Rattle.runs.proofs.Final.{capacity-payloads, capacity-types, capacity-most, leaves-of}
@@ -96,47 +96,44 @@ module _ (s : List ℕ) (f : ℕ) (a b p t : List ℕ) where
         )
 
         -- p₁ and t₁ have the arguments; r and w′ are the first frame
-        module _ (p₁ t₁ w w′ : List ℕ) (r : Registers) (copied : Copied a b p t (g .params) p₁ t₁) (words : length w ≡ 1536)
-            (er : r ≡ firstAt (g .body) (g .start) (g .end) (g .params)) (ew : w′ ≡ argumentsIn w 0 0 (g .params)) where
-          pub ready : Ready cap r p₁ t₁ w′
+        module _ (p₁ t₁ w w′ : List ℕ) (r : Registers) (copied : Copied a b p t (g .params) p₁ t₁) (words : length w ≡ 96)
+            (er : r ≡ firstAt (g .start) (g .end) (g .params)) (ew : w′ ≡ openedIn w 0 (g .body) 0 (g .params)) where
+          ready : Ready cap r p₁ t₁ w′
           ready =
               rw (er, ew)
-              (ready-first p₁ t₁ w (g .body) (g .start) (g .end) (g .params) cap
+              (ready-first p₁ t₁ w (g .body) (g .start) (g .end) (g .params) (omega arith) (omega (arith, is .few)) cap
               (omega (arith, capacity-most p t))
               (omega (arith, capacity-payloads p t, copied .same-payloads))
               (omega (arith, capacity-types p t, copied .same-types))
-              words enough (omega (arith, is .few)) (is .near) (is .body-fits))
+              (omega arith) enough (is .near))
 
           start-is : stateOf r p₁ t₁ w′ ≡ startState (read s) (bodyOf f) held
           start-is =
               rw (er, ew)
-              (state-first p₁ t₁ w (g .body) (g .start) (g .end) (g .params) (omega (arith, is .few))
+              (state-first p₁ t₁ w (g .body) (g .start) (g .end) (g .params) (omega arith) (omega (arith, is .few))
               ∙ rw (is .starts, is .ends, is .named, count, copied .slots, ← lengths .0) refl)
 
-          came : (n : ℕ) → outcomeOf (read s) (bodyOf f) held n cap ≡ run (read s) cap n 0 (stateOf r p₁ t₁ w′)
+          few-held : length held ≤ cap
+          few-held = omega (arith, count)
+
+          pub starts-fit : refusal s ≡ 0 → Fits (read s) cap r p₁ t₁ w′
+          unfolding runRefusal
+          starts-fit readable =
+              record {
+                ready = ready;
+                fit = rw start-is (start-kinds s f (lentOf a b) (rw (readable, is .starts, fit) refl) cap few-held);
+              }
+
+          pub same-slots : cap ≡ slotsIn p₁ t₁
+          same-slots = rw (copied .same-payloads, copied .same-types) ec
+
+          pub run-over : (n : ℕ) → refusal s ≡ 0 → (p′ t′ : List ℕ) (x : RunAnswer) → ClosedAs (run (read s) cap n 0 (stateOf r p₁ t₁ w′)) p₁ t₁ p′ t′ x
+              → RunIs s f a b n p t p′ t′ x
           unfolding outcomeOf
-          came n =
-              let l : length held ≤ cap = omega (arith, count) in
-              rw (le-leb (length held) cap l) (ap (run (read s) cap n 0) (sym start-is))
-
-          -- p₂ and t₂ are left by the run, which ended as e
-          module _ (n : ℕ) (p₂ t₂ : List ℕ) (e : Ended) (d : RunsTo cap e p₁ t₁ p₂ t₂ (run (read s) cap n 0 (stateOf r p₁ t₁ w′))) where
-            same-payloads : length p₂ ≡ length p
-            same-payloads = d .same-payloads ∙ copied .same-payloads
-
-            same-types : length t₂ ≡ length t
-            same-types = d .same-types ∙ copied .same-types
-
-            pub still : (cap ≡ slotsIn p₂ t₂) × (e .last .height ≤ cap)
-            still = (rw (same-payloads, same-types) ec, d .high)
-
-            abbrev ending : Outcome
-            ending = outcome (e .number) (e .steps) (record { stack = slotsOf p₂ t₂ (e .last .height) })
-
-            pub run-over : refusal s ≡ 0 → (p′ t′ : List ℕ) (x : RunAnswer) → ClosedAs ending p₂ t₂ p′ t′ x → RunIs s f a b n p t p′ t′ x
-            run-over readable p′ t′ x left =
-                left
-                ∙ leaves-of ending p t p₂ t₂ cap ec same-payloads same-types
-                (d .rest-payloads ∙ copied .rest-payloads cap enough) (d .rest-types ∙ copied .rest-types cap enough)
-                ∙ ap (λ (y : Outcome). ran y (lentOf p t)) (d .result ∙ sym (came n))
-                ∙ sym (runs n readable)
+          run-over n readable p′ t′ x left =
+              let o : Outcome = run (read s) cap n 0 (stateOf r p₁ t₁ w′) in
+              let came : outcomeOf (read s) (bodyOf f) held n cap ≡ o = rw (le-leb (length held) cap few-held) (ap (run (read s) cap n 0) (sym start-is)) in
+              left
+              ∙ leaves-of o p t p₁ t₁ cap ec (copied .same-payloads) (copied .same-types) (copied .rest-payloads cap enough) (copied .rest-types cap enough)
+              ∙ ap (λ (y : Outcome). ran y (lentOf p t)) (sym came)
+              ∙ sym (runs n readable)

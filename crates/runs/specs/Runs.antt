@@ -5,7 +5,7 @@ use mathlib.Core.Bool.{Bool, false, _&&_}
 use mathlib.Core.Option.{none, some}
 use mathlib.Core.List.{List, _++_}
 use lib.Dec.{eqb}
-use lib.ListN.{length, take, drop, replicate}
+use lib.ListN.{length, getD, take, drop, replicate}
 use Rattle.rules.specs.declared.RunAnswer.{RunAnswer}
 use Rattle.rules.specs.declared.Slot.{Slot}
 use Rattle.rules.specs.Instructions.{Ty, num, ptr, numKind}
@@ -71,3 +71,9 @@ pub record BodyIs (s : List ℕ) (c : Sections) (f : ℕ) (b : BodyRecord) : Typ
 abbrev pub FoundIs : List ℕ → Sections → ℕ → FoundBody → Type 0
 FoundIs s c f (Record b) = BodyIs s c f b
 FoundIs s c f Nothing = startOf (read s) (bodyOf f) ≡ none
+
+-- ---- words of frames
+
+-- f′ begins with the words of f
+abbrev pub Begins : List ℕ → List ℕ → Type 0
+Begins f′ f = (i : ℕ) → i < length f → getD f′ i 0 ≡ getD f i 0

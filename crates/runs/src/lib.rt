@@ -1,16 +1,18 @@
 // The run of a body by number on lent arguments: refusals, the arguments in their slots, the first frame, the answer.
 ghost use mathlib.Core.Path.{_≡_};
-ghost use mathlib.Core.Bool.{false};
-ghost use Prim.Native.Nat.{_+_, _*_, _<_, _≤_, min};
+ghost use Prim.Native.Nat.{_+_, _-_, _*_, _<_, _≤_, min};
 ghost use lib.ListN.{length, replicate};
 ghost use Rattle.rules.specs.Answers as Answers;
 ghost use Rattle.rules.specs.Instructions.{tyOf};
-ghost use Rattle.rules.specs.Machine.{outcome};
-ghost use Rattle.rules.specs.ModuleFile.{badFunctions, functionAt, paramsFrom, refusal};
+ghost use Rattle.rules.specs.Machine.{outcome, run as runOf};
+ghost use Rattle.rules.specs.ModuleFile.{functionAt, paramsFrom, read, refusal};
 ghost use Rattle.rules.specs.Stack.{slotsOf};
 ghost use Rattle.format.specs.Layout.{Packed};
-ghost use Rattle.runs.specs.Runs.{lentOf, slotsIn, clearedTo, ClosedAs, RunIs, suits, Copied, FoundIs};
+ghost use Rattle.state.specs.State.{stateOf};
+ghost use Rattle.machine.specs.Ends.{Fits};
+ghost use Rattle.runs.specs.Runs.{lentOf, slotsIn, clearedTo, ClosedAs, RunIs, suits, Copied, FoundIs, Begins};
 use format::Sections;
+use machine::Ended;
 use reader::Opened;
 use reader::entries::FoundFunction;
 use rules::RunAnswer;
@@ -158,7 +160,7 @@ enum FoundBody {
 
 // The body that the host names.
 fn find(file: &[u8], c: Sections, function: u32) -> FoundBody
-    requires { ⌜ Packed (now file) c × (badFunctions (now file) ≡ false) ⌝ }
+    requires { ⌜ Packed (now file) c × (refusal (now file) ≡ 0) ⌝ }
     ensures { λ r. ⌜ FoundIs (now (file .entry)) c function r ⌝ }
 {
     if function == ENTRY {
@@ -184,6 +186,47 @@ fn find(file: &[u8], c: Sections, function: u32) -> FoundBody
 
 // ---- the run
 
+// Copies words, so that frames go on where more are lent.
+fn copy_words(from: &[u16], to: &mut [u16])
+    requires { ⌜ length (now from) ≤ length (now to) ⌝ }
+    ensures { λ r. ⌜ Begins (now (to .exit)) (now (from .entry)) ⌝ }
+{
+    let mut i = 0;
+    while i < from.len() {
+        to[i] = from[i];
+        i += 1;
+    }
+}
+
+// The same run with words for all 64 frames, where a call found none left of the few that were lent.
+fn deeper(
+    file: &[u8],
+    c: Sections,
+    cap: usize,
+    e: Ended,
+    allowance: u64,
+    p: &mut [u8],
+    t: &mut [u8],
+    few: &[u16],
+) -> RunAnswer
+    requires { ⌜ Packed (now file) c × (refusal (now file) ≡ 0) ⌝ }
+    requires { ⌜ (cap ≡ slotsIn (now p) (now t)) × (e .rest ≤ allowance) × Fits (read (now file)) cap (e .last) (now p) (now t) (now few) ⌝ }
+    ensures { λ r. ⌜ ClosedAs (runOf (read (now (file .entry))) cap (e .rest) (allowance - e .rest) (stateOf (e .last) (now (p .entry)) (now (t .entry)) (now (few .entry)))) (now (p .entry)) (now (t .entry)) (now (p .exit)) (now (t .exit)) r ⌝ }
+{
+    let mut f = [0u16; 1536];
+    copy_words(few, &mut f);
+    let last = e.last;
+    let ended = machine::run_from(file, c, cap, last, e.rest, p, t, &mut f);
+    close(
+        ended.number,
+        allowance - ended.rest,
+        ended.last.height,
+        cap,
+        p,
+        t,
+    )
+}
+
 // The run of a body of a module that can be read.
 fn run_opened(
     file: &[u8],
@@ -195,7 +238,7 @@ fn run_opened(
     p: &mut [u8],
     t: &mut [u8],
 ) -> RunAnswer
-    requires { ⌜ Packed (now file) c × (badFunctions (now file) ≡ false) × (refusal (now file) ≡ 0) ⌝ }
+    requires { ⌜ Packed (now file) c × (refusal (now file) ≡ 0) ⌝ }
     ensures { λ r. ⌜ RunIs (now (file .entry)) function (now (args .entry)) (now (kinds .entry)) allowance (now (p .entry)) (now (t .entry)) (now (p .exit)) (now (t .exit)) r ⌝ }
 {
     let found = find(file, c, function);
@@ -212,10 +255,13 @@ fn run_opened(
         return close(STACK_OVERFLOW, 0, 0, cap, p, t);
     }
     copy_arguments(args, kinds, n, p, t);
-    let mut f = [0u16; 1536];
-    let first = control::first_frame(b.body, b.start, b.end, n, &mut f);
+    let mut f = [0u16; 96];
+    let first = control::calls::first_frame(b.body, b.start, b.end, n, &mut f);
     let e = machine::run_from(file, c, cap, first, allowance, p, t, &mut f);
-    close(e.number, e.steps, e.last.height, cap, p, t)
+    if e.number == 20 {
+        return deeper(file, c, cap, e, allowance, p, t, &f);
+    }
+    close(e.number, allowance - e.rest, e.last.height, cap, p, t)
 }
 
 // The run of any body of any bytes. ffffffff names the entry.

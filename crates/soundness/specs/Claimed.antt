@@ -72,8 +72,10 @@ module _ (s : List ℕ) (f : ℕ) (args : Lent) (e : runRefusal s f args ≡ 0) 
   C : Closed (read s) P
   C = narrow-closed s readable
 
-  start-fit : (cap : ℕ) → length (arguments args) ≤ cap → Fit (read s) P cap (startState (read s) (bodyOf f) (arguments args))
-  start-fit cap l =
+  -- a property of the arguments is one of the first state's slots
+  pub start-fits : (Q : Slot → Type 0) → ((ts : List Ty) (vs : List Slot) → declared ts vs ≡ true → All Q vs)
+      → (cap : ℕ) → length (arguments args) ≤ cap → Fit (read s) Q cap (startState (read s) (bodyOf f) (arguments args))
+  start-fits Q declared-all cap l =
       let h : Starts (read s) (bodyOf f) (arguments args) = started s f args e in
       let n : length (arguments args) ≡ length (h .0 .1) = declared-length (h .0 .1) (arguments args) (h .2) in
       let few : length (h .0 .1) ≤ 8 = few-params (read s) O (bodyOf f) (h .0) (h .1) in
@@ -81,12 +83,15 @@ module _ (s : List ℕ) (f : ℕ) (args : Lent) (e : runRefusal s f args ≡ 0) 
         frames = (opened-fit (read s) (bodyOf f) _ _ 0 (length (arguments args)) (has-end (read s) (bodyOf f) (h .0) (h .1)) (begins (startOf (read s) (bodyOf f)) refl (h .0) (h .1)) (omega arith), omega arith, tt);
         depth = omega arith;
         height = l;
-        slots = declared-narrow (AreBytes s) (h .0 .1) (arguments args) (h .2);
+        slots = declared-all (h .0 .1) (arguments args) (h .2);
       }
     where
       begins : (o : Option (ℕ × List Ty)) → startOf (read s) (bodyOf f) ≡ o → (x : ℕ × List Ty) → o ≡ some x → read s .isPlace (bodyOf f) (maybe o 0 (λ x. x .0)) ≡ true
       begins none q x h = none-some h
       begins (some y) q x h = O .enters (bodyOf f) y q
+
+  start-fit : (cap : ℕ) → length (arguments args) ≤ cap → Fit (read s) P cap (startState (read s) (bodyOf f) (arguments args))
+  start-fit = start-fits P (declared-narrow (AreBytes s))
 
   at-moment : (cap : ℕ) (t : State) → MomentOf s f args cap t → Fit (read s) P cap t
   at-moment cap t h = moment-fit (read s) O P C cap (start-fit cap (h .1)) (h .2)

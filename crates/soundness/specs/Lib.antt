@@ -14,4 +14,6 @@ pub mod Readable
 pub mod Started
 pub mod Narrow
 pub mod Claimed
+pub mod Kinds
+pub mod Placed
 pub mod Sharp

@@ -112,11 +112,11 @@ compared-narrow true k x y =
 
 -- ---- what operations raise
 
-abbrev Refusal : Option ℕ → Type 0
+abbrev pub Refusal : Option ℕ → Type 0
 Refusal none = Unit {0}
 Refusal (some e) = RunEnd e
 
-refuse-raises : (c : Class) (a b : ℕ) → Refusal (refuse c a b)
+pub refuse-raises : (c : Class) (a b : ℕ) → Refusal (refuse c a b)
 refuse-raises any a b = decide (eqb a b) (λ y. rw y tt) (λ y. rw y (exception 22 (omega arith) (omega arith)))
 refuse-raises numbers a b =
     decide (eqb a 7 || eqb b 7) (λ x. rw x (exception 32 (omega arith) (omega arith)))
@@ -127,11 +127,11 @@ refuse-raises whole a b =
     (λ y. rw y (decide (eqb a 6) (λ z. rw z (exception 34 (omega arith) (omega arith))) (λ z. rw z tt)))
     (λ y. rw y (exception 22 (omega arith) (omega arith)))))
 
-module _ (B : Type 0) where
-  applied : (o : Option ℕ) → Refusal o → (x : Result) → Yielded (Narrow B) x → Yielded (Narrow B) (maybe o x (λ e. raises e))
-  applied none r x h = h
-  applied (some e) r x h = r
+pub applied : (P : Slot → Type 0) (o : Option ℕ) → Refusal o → (x : Result) → Yielded P x → Yielded P (maybe o x (λ e. raises e))
+applied P none r x h = h
+applied P (some e) r x h = r
 
+module _ (B : Type 0) where
   ones : (o : Unary) (v : Slot) → Narrow B v → Yielded (Narrow B) (eval1 o v)
   ones pop v p = tt
   ones copy v p = (p, (p, tt))
@@ -193,7 +193,7 @@ module _ (s : List ℕ) (e : refusal s ≡ 0) where
       record {
         constants = constants-narrow;
         pointers = λ x b q. absurd (omega arith);
-        ones = λ o v p. applied (AreBytes s) (refuse (class1 o) (v .kind) (v .kind)) (refuse-raises (class1 o) (v .kind) (v .kind)) (eval1 o v) (ones (AreBytes s) o v p);
-        twos = λ o v w p q. applied (AreBytes s) (refuse (class2 o) (v .kind) (w .kind)) (refuse-raises (class2 o) (v .kind) (w .kind)) (eval2 o v w) (twos (AreBytes s) o v w p q);
+        ones = λ o v p. applied (Narrow (AreBytes s)) (refuse (class1 o) (v .kind) (v .kind)) (refuse-raises (class1 o) (v .kind) (v .kind)) (eval1 o v) (ones (AreBytes s) o v p);
+        twos = λ o v w p q. applied (Narrow (AreBytes s)) (refuse (class2 o) (v .kind) (w .kind)) (refuse-raises (class2 o) (v .kind) (w .kind)) (eval2 o v w) (twos (AreBytes s) o v w p q);
         bumps = λ u w p b q. bumped-narrow u (w .kind) (w .payload) q;
       }

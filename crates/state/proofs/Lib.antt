@@ -2,3 +2,4 @@
 pub mod Stack
 pub mod Outcomes
 pub mod Locals
+pub mod Families

@@ -1,19 +1,20 @@
 -- What an instruction's outcome comes to, for each kind of change that instructions make to registers and memory.
-use Prim.Native.Nat.{ℕ, _+_, _*_, _-_, _^_, _≤_, _<_}
+use Prim.Native.Nat.{ℕ, suc, _+_, _*_, _-_, _^_, _≤_, _<_}
 use native.Mathlib.Omega.{arith}
 use mathlib.Core.Path.{_≡_, refl, sym, ap, _∙_}
 use mathlib.Core.List.{List, _∷_}
-use lib.ListN.{length, drop, length-set}
+use lib.ListN.{length, getD, drop, length-set}
 use lib.Seq.{drop-set-lt}
 use Rattle.rules.specs.declared.Slot.{Slot}
 use Rattle.rules.specs.Stack.{slotsOf, put}
-use Rattle.rules.specs.Machine.{State, goto, becomes, Next, stops}
+use Rattle.rules.specs.Machine.{State, goto, bind, becomes, Next, stops}
 use Rattle.memory.proofs.Words.{drop-written, length-written}
 use Rattle.state.specs.Slots.{payloadsWith, typesWith}
-use Rattle.state.specs.State.{stateOf, movedTo, Ready, Does}
+use Rattle.state.specs.State.{callersOf, depthOf, topOf, stateOf, movedTo, boundTo, boundIn, Ready, Does}
 use Rattle.state.specs.declared.Registers.{Registers}
 use Rattle.state.specs.declared.Progress.the-variants.{Goes, Stops}
 use Rattle.state.proofs.Stack.{slots-push, slots-put}
+use Rattle.state.proofs.Locals.{Alike, callers-alike, waiting-alike, length-bound, bound-alike, bound-count, bound-locals}
 
 -- the state at another place, with another stack
 abbrev pub shifted : State → ℕ → List Slot → Next
@@ -26,14 +27,14 @@ ready-moved q h k ep et le fl =
       small = k .small;
       payloads = omega (arith, k .payloads);
       types = omega (arith, k .types);
+      most = k .most;
       words = k .words;
+      whole = k .whole;
       high = le;
       over = fl;
       low = k .low;
       few = k .few;
-      shallow = k .shallow;
       near = k .near;
-      body-fits = k .body-fits;
       waiting = k .waiting;
     }
 
@@ -41,7 +42,7 @@ module _ (cap : ℕ) (r : Registers) (p t f : List ℕ) (k : Ready cap r p t f) 
   -- nothing changes, and the run is over with e
   pub stopping : (e : ℕ) (x : Next) → x ≡ stops e → Does cap r (Stops e) p t f p t f x
   stopping e x q =
-      record { result = sym q; kept = refl; ready = k; rest-payloads = refl; rest-types = refl; same-payloads = refl; same-types = refl }
+      record { result = sym q; unchanged = refl; ready = k; rest-payloads = refl; rest-types = refl; same-payloads = refl; same-types = refl }
 
   -- the place changes, and the stack loses its top slots down to h
   pub dropping : (q h : ℕ) (x : Next) → h ≤ r .height → r .floor ≤ h → x ≡ shifted (stateOf r p t f) q (slotsOf p t h)
@@ -49,7 +50,7 @@ module _ (cap : ℕ) (r : Registers) (p t f : List ℕ) (k : Ready cap r p t f) 
   dropping q h x le fl is =
       record {
         result = sym is;
-        kept = tt;
+        unchanged = tt;
         ready = ready-moved q h k refl refl (omega (arith, k .high)) fl;
         rest-payloads = refl;
         rest-types = refl;
@@ -81,7 +82,7 @@ module _ (cap : ℕ) (r : Registers) (p t f : List ℕ) (k : Ready cap r p t f) 
     writing q h x le fl is =
         record {
           result = sym is;
-          kept = tt;
+          unchanged = tt;
           ready = ready-moved q h k (lengths .0) (lengths .1) le fl;
           rest-payloads = rests .0;
           rest-types = rests .1;
@@ -102,3 +103,50 @@ module _ (cap : ℕ) (r : Registers) (p t f : List ℕ) (k : Ready cap r p t f) 
     putting q h x lt le fl is =
         writing q h x (omega (arith, k .high)) fl
         (is ∙ ap (shifted (stateOf r p t f) q) (sym (rw (ep, et) (slots-put p t i v room-payloads room-types fits h lt))))
+
+  -- the top becomes the local n, the next one
+  module _ (n : ℕ) (next : n ≡ getD f (r .frame + 3) 0) (few : n < 16) (has : r .floor + 1 ≤ r .height) where
+    abbrev f′ : List ℕ
+    f′ = boundIn f (r .frame) n (r .height - 1)
+
+    below : Alike f′ f (r .frame + 3)
+    below = bound-alike f (r .frame) n (r .height - 1)
+
+    waits : Alike f′ f (depthOf r * 24)
+    waits i l = below i (omega (arith, k .whole))
+
+    pub binding : (q : ℕ) (x : Next)
+        → x ≡ becomes (stateOf r p t f .memory) (slotsOf p t (r .height)) (bind (r .height - 1) (goto q (topOf r f))) (callersOf f (depthOf r))
+        → Does cap r (Goes (boundTo r q)) p t f p t f′ x
+    binding q x is =
+        let up : suc (r .height - 1) ≡ r .height = omega arith in
+        record {
+          result = sym (is ∙ rw (
+            below (r .frame) (omega arith),
+            below (r .frame + 2) (omega arith),
+            bound-count f (r .frame) n (r .height - 1) few (k .words),
+            bound-locals f (r .frame) n (r .height - 1) few (k .words),
+            callers-alike f′ f (depthOf r) _ (k .waiting) waits,
+            next,
+            up,
+          ) refl);
+          unchanged = tt;
+          ready = record {
+            small = k .small;
+            payloads = k .payloads;
+            types = k .types;
+            most = omega (arith, length-bound f (r .frame) n (r .height - 1), k .most);
+            words = omega (arith, length-bound f (r .frame) n (r .height - 1), k .words);
+            whole = k .whole;
+            high = k .high;
+            over = omega arith;
+            low = rw (below (r .frame + 2) (omega arith)) (omega (arith, k .low));
+            few = rw (bound-count f (r .frame) n (r .height - 1) few (k .words)) (omega arith);
+            near = k .near;
+            waiting = rw (below (r .frame + 2) (omega arith)) (waiting-alike f′ f (depthOf r) _ waits (k .waiting));
+          };
+          rest-payloads = refl;
+          rest-types = refl;
+          same-payloads = refl;
+          same-types = refl;
+        }

@@ -1,4 +1,4 @@
-// The machine's state as the code keeps it: registers, waiting frames as words, slots in lent bytes.
+// The machine's state as the code keeps it: registers, frames as words, slots in lent bytes.
 ghost use mathlib.Core.Path.{_≡_};
 ghost use Prim.Native.Nat.{_+_, _*_, _<_, _≤_};
 ghost use lib.ListN.{length};
@@ -7,16 +7,13 @@ ghost use Rattle.state.specs.Slots.{payloadsWith, typesWith};
 ghost use Rattle.state.specs.State.{movedTo, boundTo};
 use rules::Slot;
 
-// The running frame, and the slots in use. body is the function's number, 65535 for the entry; stop is its body's end, base
-// its first slot, floor where its operands begin; depth counts the frames that wait.
+// The running frame, and the slots in use. stop is its body's end, floor where its operands begin, frame where its words begin.
+// The words have its body, first slot, count of locals and locals.
 pub struct Registers {
     pub place: usize,
     pub stop: usize,
-    pub body: usize,
-    pub base: usize,
     pub floor: usize,
-    pub locals: usize,
-    pub depth: usize,
+    pub frame: usize,
     pub height: usize,
 }
 
@@ -58,12 +55,10 @@ pub fn moved(r: Registers, place: usize, height: usize) -> Registers
 
 // The registers past a binding store.
 pub fn bound(r: Registers, place: usize) -> Registers
-    requires { ⌜ r .locals ≤ 16 ⌝ }
     ensures { λ q. ⌜ q ≡ boundTo r place ⌝ }
 {
     let mut q = r;
     q.place = place;
     q.floor = r.height;
-    q.locals = r.locals + 1;
     q
 }

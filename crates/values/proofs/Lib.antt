@@ -1,3 +1,3 @@
--- Laws that the proofs cite.
+-- Laws of values.
 pub mod Cases
-pub mod Answers
+pub mod Order

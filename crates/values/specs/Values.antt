@@ -1,24 +1,38 @@
--- Values and answers of the code in the rules' terms.
-use Prim.Native.Nat.{ℕ}
-use mathlib.Core.Bool.{cond, _&&_}
+-- Values, and what operations give for them, in the rules' terms.
+use mathlib.Core.Path.{_≡_}
+use mathlib.Core.Bool.{Bool, cond}
 use mathlib.Core.List.{[], _∷_}
+use Prim.Native.Nat.{ℕ}
 use lib.Dec.{eqb}
 use Rattle.rules.specs.Doubles.{decodeOf, encodeOf}
-use Rattle.rules.specs.Numbers.{stack-different-type, arithmetic-divide-by-zero, pointer-invalid-for-pointer, double-invalid-for-double}
-use Rattle.rules.specs.Operations.{forType, low, onWords, onDoubles, divides, wholeOnly, Result, yields, raises}
+use Rattle.rules.specs.Instructions.{numKind}
+use Rattle.rules.specs.Numbers.{pointer-invalid-for-pointer}
+use Rattle.rules.specs.Operations.{low, bumped, apply1, apply2, Result, yields, raises}
 use Rattle.rules.specs.Stack.{slot}
-use Rattle.rules.specs.declared.Operator.{Operator}
+use Rattle.rules.specs.declared.Binary.{Binary}
+use Rattle.rules.specs.declared.Num.{Num}
 use Rattle.rules.specs.declared.Slot.{Slot}
+use Rattle.rules.specs.declared.Unary.{Unary}
+use Rattle.rules.specs.declared.Unary.the-variants.{Convert}
+use Rattle.soundness.specs.Kinds.{Kind}
 use Rattle.values.specs.declared.Value.{Value}
 use Rattle.values.specs.declared.Value.the-variants.{Int, Long, Double, Pointer}
 use Rattle.values.specs.declared.Computed.{Computed}
 use Rattle.values.specs.declared.Computed.the-variants.{Yields, Raises}
 
--- the value of a slot, and the payload of a value
+-- the value of a slot
 unfoldable pub valueOf : Slot → Value
 valueOf v =
-    forType (v .kind) (Int (low (v .payload))) (Long (v .payload))
-    (cond (eqb (v .kind) 7) (Pointer (v .payload)) (Double (decodeOf (v .payload))))
+    cond (eqb (v .kind) 3) (Int (low (v .payload)))
+    (cond (eqb (v .kind) 6) (Double (decodeOf (v .payload)))
+    (cond (eqb (v .kind) 7) (Pointer (v .payload)) (Long (v .payload))))
+
+-- the type number and the payload of a value, and its slot
+abbrev pub kindOfValue : Value → ℕ
+kindOfValue (Int n) = 3
+kindOfValue (Long n) = 4
+kindOfValue (Double x) = 6
+kindOfValue (Pointer p) = 7
 
 abbrev pub payloadOf : Value → ℕ
 payloadOf (Int n) = n
@@ -26,23 +40,33 @@ payloadOf (Long n) = n
 payloadOf (Double x) = encodeOf x
 payloadOf (Pointer p) = p
 
+abbrev pub slotOf : Value → Slot
+slotOf v = slot (kindOfValue v) (payloadOf v)
+
 -- the result that an answer stands for
 abbrev pub resultOf : Computed → Result
-resultOf (Yields s) = yields (s ∷ [])
+resultOf (Yields v) = yields (slotOf v ∷ [])
 resultOf (Raises e) = raises e
 
 -- one slot
 abbrev pub gives : ℕ → ℕ → Result
 gives k x = yields (slot k x ∷ [])
 
--- an operator on two words of n bits, of type number k
-unfoldable pub wordsOf : ℕ → ℕ → Operator → ℕ → ℕ → Result
-wordsOf n k o x y = cond (divides o && eqb y 0) (raises arithmetic-divide-by-zero) (gives k (onWords n o x y))
+-- r is what o gives for two slots of which a, the deeper, and b are the values
+abbrev pub Computes : Binary → Value → Value → Computed → Type 0
+Computes o a b r = (s u : Slot) → Kind (s .kind) → Kind (u .kind) → a ≡ valueOf s → b ≡ valueOf u → resultOf r ≡ apply2 o s u
 
--- an operator on two doubles' patterns, of type number k
-unfoldable pub doublesOf : ℕ → Operator → ℕ → ℕ → Result
-doublesOf k o p q = cond (wholeOnly o && eqb k 6) (raises double-invalid-for-double) (gives k (onDoubles o p q))
+-- r is what o gives for a slot of the value a
+abbrev pub Turns : Unary → Value → Computed → Type 0
+Turns o a r = (s : Slot) → Kind (s .kind) → a ≡ valueOf s → resultOf r ≡ apply1 o s
 
--- operands of two types: the first is no pointer, the second has type number k
-unfoldable pub unlikeOf : ℕ → Result
-unlikeOf k = raises (cond (eqb k 7) pointer-invalid-for-pointer stack-different-type)
+-- the same of a conversion to the type n, which a slot does not have
+abbrev pub Converts : Num → Value → Computed → Type 0
+Converts n a r = (s : Slot) → Kind (s .kind) → (s .kind ≡ numKind n → ⊥) → a ≡ valueOf s → resultOf r ≡ apply1 (Convert n) s
+
+-- `inc` (u) or `dec` of what a slot holds: a pointer there is refused
+unfoldable pub bumpOf : Bool → Slot → Result
+bumpOf u s = cond (eqb (s .kind) 7) (raises pointer-invalid-for-pointer) (gives (s .kind) (bumped u (s .kind) (s .payload)))
+
+abbrev pub Bumps : Bool → Value → Computed → Type 0
+Bumps u a r = (s : Slot) → Kind (s .kind) → a ≡ valueOf s → resultOf r ≡ bumpOf u s

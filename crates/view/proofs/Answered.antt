@@ -13,15 +13,13 @@ use denote.RattleType.{RattleType}
 use denote.Laws.{Is}
 use denote.Enum.Laws as EL
 use Rattle.rules.specs.ModuleFile.{read, functionAt}
-use Rattle.reader.specs.Answers.{slotIn, functionIn, labelIn, decodedOf}
+use Rattle.reader.specs.Answers.{slotIn, functionIn, labelIn}
 use Rattle.reader.proofs.entries.FoundConstant as FoundConstant
 use Rattle.reader.proofs.entries.FoundConstant.Laws as FoundConstant′
 use Rattle.reader.proofs.entries.FoundFunction as FoundFunction
 use Rattle.reader.proofs.entries.FoundFunction.Laws as FoundFunction′
 use Rattle.reader.proofs.entries.FoundLabel as FoundLabel
 use Rattle.reader.proofs.entries.FoundLabel.Laws as FoundLabel′
-use Rattle.reader.proofs.decode.Decoded as Decoded
-use Rattle.reader.proofs.decode.Decoded.Laws as Decoded′
 
 -- what an answer of the type R is to meet, of the file's bytes and the number
 abbrev pub Promise : RattleType → Type 1
@@ -59,12 +57,4 @@ labels = record {
   mir = FoundLabel′.mir;
   typed = λ 𝓤 H A W r u is. EL.lawful FoundLabel.the-type FoundLabel′.the-laws 𝓤 H A W tt .typed r (u ∷ []) is .0;
   promise = λ s k r. labelIn r ≡ read s .label k;
-}
-
-abbrev pub instructions : Answer
-instructions = record {
-  row = Decoded.the-row;
-  mir = Decoded′.mir;
-  typed = λ 𝓤 H A W r u is. EL.lawful Decoded.the-type Decoded′.the-laws 𝓤 H A W tt .typed r (u ∷ []) is .0;
-  promise = λ s k r. decodedOf r ≡ read s .code k;
 }

@@ -2,9 +2,8 @@
 ghost use mathlib.Core.Path.{_≡_};
 ghost use Rattle.rules.specs.ModuleFile.{read, functionAt};
 ghost use Rattle.format.specs.Layout.{Packed};
-ghost use Rattle.reader.specs.Answers.{slotIn, functionIn, labelIn, decodedOf};
+ghost use Rattle.reader.specs.Answers.{slotIn, functionIn, labelIn};
 use format::Sections;
-use reader::decode::Decoded;
 use reader::entries::FoundConstant;
 use reader::entries::FoundFunction;
 use reader::entries::FoundLabel;
@@ -48,14 +47,6 @@ impl<'a> Module<'a> {
     {
         reader::entries::label(self.bytes, self.counts, k)
     }
-
-    // The instruction at a place.
-    pub fn instruction(self, place: usize) -> Decoded
-        requires { ⌜ Packed (now (self .bytes)) (self .counts) ⌝ }
-        ensures { λ r. ⌜ decodedOf r ≡ read (now (self .entry .bytes)) .code place ⌝ }
-    {
-        reader::decode::instruction(self.bytes, self.counts, place)
-    }
 }
 
 // The same on a lent file and its counts, for callers that hold no view: they are covered.
@@ -78,11 +69,4 @@ pub fn label(file: &[u8], c: Sections, k: usize) -> FoundLabel
     ensures { λ r. ⌜ labelIn r ≡ read (now (file .entry)) .label k ⌝ }
 {
     Module::label(Module::of(file, c), k)
-}
-
-pub fn instruction(file: &[u8], c: Sections, place: usize) -> Decoded
-    requires { ⌜ Packed (now file) c ⌝ }
-    ensures { λ r. ⌜ decodedOf r ≡ read (now (file .entry)) .code place ⌝ }
-{
-    Module::instruction(Module::of(file, c), place)
 }

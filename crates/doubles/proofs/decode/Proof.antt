@@ -1,20 +1,24 @@
 -- `doubles::decode` meets its contract. Assumes nothing.
-use mathlib.Core.Path.{sym}
+use mathlib.Core.Path.{_∙_, sym, subst}
 use lib.Ieee.{ofBits, div}
+use lib.Dec.{T}
 use borrow.Author.Needs.{needs}
-use Rattle.doubles.proofs.Nan.{above-nan, not-above}
+use Rattle.doubles.proofs.Nan.{nan-pattern}
 use Rattle.doubles.proofs.decode.Statement.{statement}
 use Rattle.doubles.proofs.decode.Tie as tie
 
+number-requires : tie.Need-number-requires
+number-requires c κs = search needs
+
 float-from-bits-result : tie.Need-float-from-bits-result
-float-from-bits-result c = not-above (c .before .args .p) (c .if1 .left)
+float-from-bits-result c = subst T (sym ((c .if1) .taken) ∙ (c .before .number) .ensures) tt
 
 returns : tie.Need-returns
-unfolding ofBits div
-returns c = sym (above-nan (c .before .args .p) (c .if1 .taken))
+returns c = search needs
 
 returns-2 : tie.Need-returns-2
-returns-2 c = search needs
+unfolding ofBits div
+returns-2 c = sym (nan-pattern _ (sym ((c .before .number) .ensures) ∙ (c .if1) .left))
 
 pub decode-spec : {M : Type 1} → statement M
-decode-spec = tie.close (tie.spec float-from-bits-result returns returns-2)
+decode-spec = tie.close (tie.spec number-requires float-from-bits-result returns returns-2)

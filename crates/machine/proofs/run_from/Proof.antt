@@ -1,105 +1,124 @@
-use Rattle.machine.proofs.Turns.{Going, starts, ends, used-up, goes-on, returned, stopped}
-use borrow.Author.Needs.{needs}
+-- The proof of `machine::run_from`.
 use native.Mathlib.Omega.{arith}
-use Prim.Native.Nat.{_-_}
-use mathlib.Core.Path.{_∙_}
+use mathlib.Core.Path.{sym, _∙_}
+use denote.Ref.{now}
+use borrow.Author.Needs.{needs}
+use Rattle.keys.proofs.Places.{at-end, at-key}
+use Rattle.keys.proofs.Files.{code-part}
+use Rattle.machine.proofs.Turns.{Going, starts, stop-there, stands, stepped, computes, ends, used-up, goes-on, returned, stopped}
 use Rattle.machine.proofs.run_from.Statement.{statement}
 use Rattle.machine.proofs.run_from.Tie as tie
-use Rattle.machine.proofs.run_from.Reads as reads
-use Rattle.machine.proofs.run_from.Lts as lts
-use Rattle.machine.proofs.at_end.Reads as at-end-reads
-use Rattle.machine.proofs.ending.Reads as ending-reads
-use Rattle.machine.proofs.step.Reads as step-reads
 
 abbrev Inv-loop : tie.InvT-loop
-Inv-loop file c cap allowance p₀ t₀ f₀ r₀ steps₀ p t f r steps = Going file c cap allowance p₀ t₀ f₀ r₀ p t f r steps
+Inv-loop file c cap n p₀ t₀ f₀ from code r₀ rest₀ p t f r rest = Going file c cap n p₀ t₀ f₀ r₀ p t f r rest
 
 abbrev μ-loop : tie.MeasureT-loop
-μ-loop file c cap allowance p₀ t₀ f₀ r₀ steps₀ p t f r steps = allowance - steps
+μ-loop file c cap n p₀ t₀ f₀ from code r₀ rest₀ p t f r rest = rest
+
+sub-code : tie.Need-sub-code Inv-loop μ-loop
+sub-code c = omega (arith, (c .before .before .before .before .pre) .0 .0 .whole)
+
+part-code-start : tie.Need-part-code-start Inv-loop μ-loop
+part-code-start c = omega (arith, (c .before .before .before .before .pre) .0 .0 .whole)
+
+part-code-end : tie.Need-part-code-end Inv-loop μ-loop
+part-code-end c = omega (arith, (c .before .before .before .before .pre) .0 .0 .whole)
 
 loop-holds : tie.Need-loop-holds Inv-loop μ-loop
-loop-holds c = starts _ _ _ _ _ _ _ _ ((c .before .before .before .before .pre) .0) ((c .before .before .before .before .pre) .1)
+loop-holds c = starts _ _ _ _ _ _ _ _ ((c .before .before .before .before .before .pre) .0) ((c .before .before .before .before .before .pre) .1)
+
+fetch-requires : tie.Need-fetch-requires Inv-loop μ-loop
+fetch-requires c κs = stop-there _ _ _ _ _ _ _ _ _ _ _ _ _ ((c .loop) .inv) _ (code-part (now ((c .before .before .before .before .before .before .args) .file)) ((c .before .before .before .before .before .before .args) .c .code))
+
+enum-known-fetched : tie.Need-enum-known-fetched Inv-loop μ-loop
+enum-known-fetched c = search needs
+
+enum-told : tie.Need-enum-told Inv-loop μ-loop
+enum-told c = search needs
 
 at-end-requires : tie.Need-at-end-requires Inv-loop μ-loop
-at-end-requires c κs = search needs
+at-end-requires c κs = omega (arith, (c .before .before .before .before .loop) .inv .fits .ready .words)
 
 same-length : tie.Need-same-length Inv-loop μ-loop
-same-length c = (c .before .before .before .loop) .inv .same-p
+same-length c = (c .before .before .before .before .before .loop) .inv .same-p
 
 same-length-2 : tie.Need-same-length-2 Inv-loop μ-loop
-same-length-2 c = (c .before .before .before .loop) .inv .same-t
+same-length-2 c = (c .before .before .before .before .before .loop) .inv .same-t
 
 same-length-3 : tie.Need-same-length-3 Inv-loop μ-loop
-same-length-3 c = (c .before .before .before .loop) .inv .same-f
+same-length-3 c = (c .before .before .before .before .before .loop) .inv .same-f
 
 returns : tie.Need-returns Inv-loop μ-loop
-returns c = ends _ _ _ _ _ _ _ _ _ _ _ _ _ ((c .before .before .before .loop) .inv) _ ((c .at-end) .ensures) ((c .before .if1) .taken)
+returns c = ends _ _ _ _ _ _ _ _ _ _ _ _ _ ((c .before .before .before .before .before .loop) .inv) _ ((c .at-end) .ensures) (at-end _ _ _ (sym ((c .before .before .before .before .fetch) .ensures) ∙ (c .before .before .enum-told) .given .1))
 
 ending-requires : tie.Need-ending-requires Inv-loop μ-loop
 ending-requires c κs = search needs
 
 same-length-4 : tie.Need-same-length-4 Inv-loop μ-loop
-same-length-4 c = (c .before .before .before .before .loop) .inv .same-p
+same-length-4 c = (c .before .before .before .before .before .before .loop) .inv .same-p
 
 same-length-5 : tie.Need-same-length-5 Inv-loop μ-loop
-same-length-5 c = (c .before .before .before .before .loop) .inv .same-t
+same-length-5 c = (c .before .before .before .before .before .before .loop) .inv .same-t
 
 same-length-6 : tie.Need-same-length-6 Inv-loop μ-loop
-same-length-6 c = (c .before .before .before .before .loop) .inv .same-f
+same-length-6 c = (c .before .before .before .before .before .before .loop) .inv .same-f
 
 returns-2 : tie.Need-returns-2 Inv-loop μ-loop
-returns-2 c = rw ((c .ending) .ensures) (used-up _ _ _ _ _ _ _ _ _ _ _ _ _ ((c .before .before .before .before .loop) .inv) ((c .before .before .if1) .left) ((c .before .if2) .taken))
-
-add-next : tie.Need-add-next Inv-loop μ-loop
-add-next c = omega (arith, (c .before .before .before .loop) .inv .within, (c .if2) .left, (c .before .before .before .before .before .before .before .before .fits) .allowance)
+returns-2 c = let k = at-key _ _ _ _ (sym ((c .before .before .before .before .before .fetch) .ensures) ∙ (c .before .before .before .fetched) .given .1) in rw ((c .ending) .ensures) (used-up _ _ _ _ _ _ _ _ _ _ _ _ _ ((c .before .before .before .before .before .before .loop) .inv) (k .0) ((c .before .if1) .taken))
 
 step-requires : tie.Need-step-requires Inv-loop μ-loop
-step-requires c κs = ((c .before .before .before .before .before .before .loop) .inv .module-is, ((c .before .before .before .before .before .before .loop) .inv .ready, (c .before .before .before .before .if1) .left))
+step-requires c κs = let k = at-key _ _ _ _ (sym ((c .before .before .before .before .before .before .before .fetch) .ensures) ∙ (c .before .before .before .before .before .fetched) .given .1) in ((c .before .before .before .before .before .before .before .before .before .before .before .before .before .before .pre) .0, ((k .0, stands _ _ _ _ _ _ _ _ _ _ _ _ _ ((c .before .before .before .before .before .before .before .before .loop) .inv) _ (code-part (now ((c .before .before .before .before .before .before .before .before .before .before .before .before .before .before .args) .file)) ((c .before .before .before .before .before .before .before .before .before .before .before .before .before .before .args) .c .code)) (k .0) _ (k .1)), ((c .before .before .before .before .before .before .before .before .loop) .inv .fits .ready, computes _ _ _ _ _ _ _ _ _ _ _ _ _ ((c .before .before .before .before .before .before .before .before .loop) .inv) (k .0))))
 
 enum-known-a : tie.Need-enum-known-a Inv-loop μ-loop
 enum-known-a c = search needs
 
+sub-rest : tie.Need-sub-rest Inv-loop μ-loop
+sub-rest c = omega (arith, (c .before .before .before .before .before .before .before .before .before .before .before .before .before .if1) .left)
+
 loop-less : tie.Need-loop-less Inv-loop μ-loop
-loop-less c = omega (arith, (c .before .before .before .before .before .before .before .before .before .before .before .before .before .before .before .before .loop) .inv .within, (c .before .before .before .before .before .before .before .before .before .before .before .before .before .if2) .left, (c .before .before .before .before .before .before .before .before .before .before .before .before .before .before .before .before .before .before .before .before .before .fits) .allowance)
+loop-less c = omega (arith, (c .before .before .before .before .before .before .before .before .before .before .before .before .before .if1) .left)
 
 loop-again : tie.Need-loop-again Inv-loop μ-loop
-loop-again c = goes-on _ _ _ _ _ _ _ _ _ _ _ _ _ ((c .before .before .before .before .before .before .before .before .before .before .before .before .before .before .before .before .loop) .inv) ((c .before .before .before .before .before .before .before .before .before .before .before .before .before .before .if1) .left) ((c .before .before .before .before .before .before .before .before .before .before .before .before .before .if2) .left) _ _ _ _ (rw ((c .before .a) .given .1) at ((c .before .before .before .before .before .before .before .before .before .step) .ensures)) ((c .before .before .before .before .before .before .before .before .before .step) .kept .1 .1 .1 .1 .1 .1 .0)
+loop-again c = let k = at-key _ _ _ _ (sym ((c .before .before .before .before .before .before .before .before .before .before .before .before .before .before .before .before .before .fetch) .ensures) ∙ (c .before .before .before .before .before .before .before .before .before .before .before .before .before .before .before .fetched) .given .1) in goes-on _ _ _ _ _ _ _ _ _ _ _ _ _ ((c .before .before .before .before .before .before .before .before .before .before .before .before .before .before .before .before .before .before .loop) .inv) (k .0) ((c .before .before .before .before .before .before .before .before .before .before .before .before .before .if1) .left) _ _ _ ((c .before .before .before .before .before .before .before .before .before .step) .kept .1 .1 .1 .1 .1 .1 .1 .1 .0) _ (rw ((c .before .a) .given .1) at (stepped _ _ _ _ _ _ _ _ _ _ _ _ _ ((c .before .before .before .before .before .before .before .before .before .before .before .before .before .before .before .before .before .before .loop) .inv) _ (code-part (now ((c .before .before .before .before .before .before .before .before .before .before .before .before .before .before .before .before .before .before .before .before .before .before .before .before .args) .file)) ((c .before .before .before .before .before .before .before .before .before .before .before .before .before .before .before .before .before .before .before .before .before .before .before .before .args) .c .code)) (k .0) _ _ _ _ ((c .before .before .before .before .before .before .before .before .before .step) .ensures)))
 
 enum-known-a-2 : tie.Need-enum-known-a-2 Inv-loop μ-loop
 enum-known-a-2 c = search needs
 
+sub-ending : tie.Need-sub-ending Inv-loop μ-loop
+sub-ending c = omega (arith, (c .before .before .before .before .before .before .before .before .before .before .before .before .before .if1) .left)
+
 ending-requires-2 : tie.Need-ending-requires-2 Inv-loop μ-loop
-ending-requires-2 c κs = search needs
+ending-requires-2 c = search needs
 
 same-length-7 : tie.Need-same-length-7 Inv-loop μ-loop
-same-length-7 c = (c .before .before .before .before .before .before .before .before .before .before .step) .ensures .same-payloads ∙ (c .before .before .before .before .before .before .before .before .before .before .before .before .before .before .before .before .before .loop) .inv .same-p
+same-length-7 c = (c .before .before .before .before .before .before .before .before .before .before .step) .kept .1 .1 .1 .1 .1 .1 .0 ∙ (c .before .before .before .before .before .before .before .before .before .before .before .before .before .before .before .before .before .before .before .loop) .inv .same-p
 
 same-length-8 : tie.Need-same-length-8 Inv-loop μ-loop
-same-length-8 c = (c .before .before .before .before .before .before .before .before .before .before .step) .ensures .same-types ∙ (c .before .before .before .before .before .before .before .before .before .before .before .before .before .before .before .before .before .loop) .inv .same-t
+same-length-8 c = (c .before .before .before .before .before .before .before .before .before .before .step) .kept .1 .1 .1 .1 .1 .1 .1 .0 ∙ (c .before .before .before .before .before .before .before .before .before .before .before .before .before .before .before .before .before .before .before .loop) .inv .same-t
 
 same-length-9 : tie.Need-same-length-9 Inv-loop μ-loop
-same-length-9 c = (c .before .before .before .before .before .before .before .before .before .before .step) .kept .1 .1 .1 .1 .1 .1 .0 ∙ (c .before .before .before .before .before .before .before .before .before .before .before .before .before .before .before .before .before .loop) .inv .same-f
+same-length-9 c = (c .before .before .before .before .before .before .before .before .before .before .step) .kept .1 .1 .1 .1 .1 .1 .1 .1 .0 ∙ (c .before .before .before .before .before .before .before .before .before .before .before .before .before .before .before .before .before .before .before .loop) .inv .same-f
 
 returns-3 : tie.Need-returns-3 Inv-loop μ-loop
-returns-3 c = rw ((c .ending2) .ensures) (returned _ _ _ _ _ _ _ _ _ _ _ _ _ ((c .before .before .before .before .before .before .before .before .before .before .before .before .before .before .before .before .before .loop) .inv) ((c .before .before .before .before .before .before .before .before .before .before .before .before .before .before .before .if1) .left) ((c .before .before .before .before .before .before .before .before .before .before .before .before .before .before .if2) .left) _ _ _ _ (rw ((c .before .before .a2) .given .1) at ((c .before .before .before .before .before .before .before .before .before .before .step) .ensures)))
+returns-3 c = let k = at-key _ _ _ _ (sym ((c .before .before .before .before .before .before .before .before .before .before .before .before .before .before .before .before .before .before .fetch) .ensures) ∙ (c .before .before .before .before .before .before .before .before .before .before .before .before .before .before .before .before .fetched) .given .1) in rw ((c .ending2) .ensures) (returned _ _ _ _ _ _ _ _ _ _ _ _ _ ((c .before .before .before .before .before .before .before .before .before .before .before .before .before .before .before .before .before .before .before .loop) .inv) (k .0) ((c .before .before .before .before .before .before .before .before .before .before .before .before .before .before .if1) .left) _ _ _ ((c .before .before .before .before .before .before .before .before .before .before .step) .kept .1 .1 .1 .1 .1 .1 .1 .1 .0) _ (rw ((c .before .before .a2) .given .1) at (stepped _ _ _ _ _ _ _ _ _ _ _ _ _ ((c .before .before .before .before .before .before .before .before .before .before .before .before .before .before .before .before .before .before .before .loop) .inv) _ (code-part (now ((c .before .before .before .before .before .before .before .before .before .before .before .before .before .before .before .before .before .before .before .before .before .before .before .before .before .args) .file)) ((c .before .before .before .before .before .before .before .before .before .before .before .before .before .before .before .before .before .before .before .before .before .before .before .before .before .args) .c .code)) (k .0) _ _ _ _ ((c .before .before .before .before .before .before .before .before .before .before .step) .ensures))))
 
 enum-known-a-3 : tie.Need-enum-known-a-3 Inv-loop μ-loop
 enum-known-a-3 c = search needs
 
 ending-requires-3 : tie.Need-ending-requires-3 Inv-loop μ-loop
-ending-requires-3 c κs = search needs
+ending-requires-3 c = search needs
 
 same-length-10 : tie.Need-same-length-10 Inv-loop μ-loop
-same-length-10 c = (c .before .before .before .before .before .before .before .before .before .before .step) .ensures .same-payloads ∙ (c .before .before .before .before .before .before .before .before .before .before .before .before .before .before .before .before .before .loop) .inv .same-p
+same-length-10 c = (c .before .before .before .before .before .before .before .before .before .before .step) .kept .1 .1 .1 .1 .1 .1 .0 ∙ (c .before .before .before .before .before .before .before .before .before .before .before .before .before .before .before .before .before .before .before .loop) .inv .same-p
 
 same-length-11 : tie.Need-same-length-11 Inv-loop μ-loop
-same-length-11 c = (c .before .before .before .before .before .before .before .before .before .before .step) .ensures .same-types ∙ (c .before .before .before .before .before .before .before .before .before .before .before .before .before .before .before .before .before .loop) .inv .same-t
+same-length-11 c = (c .before .before .before .before .before .before .before .before .before .before .step) .kept .1 .1 .1 .1 .1 .1 .1 .0 ∙ (c .before .before .before .before .before .before .before .before .before .before .before .before .before .before .before .before .before .before .before .loop) .inv .same-t
 
 same-length-12 : tie.Need-same-length-12 Inv-loop μ-loop
-same-length-12 c = (c .before .before .before .before .before .before .before .before .before .before .step) .kept .1 .1 .1 .1 .1 .1 .0 ∙ (c .before .before .before .before .before .before .before .before .before .before .before .before .before .before .before .before .before .loop) .inv .same-f
+same-length-12 c = (c .before .before .before .before .before .before .before .before .before .before .step) .kept .1 .1 .1 .1 .1 .1 .1 .1 .0 ∙ (c .before .before .before .before .before .before .before .before .before .before .before .before .before .before .before .before .before .before .before .loop) .inv .same-f
 
 returns-4 : tie.Need-returns-4 Inv-loop μ-loop
-returns-4 c = rw ((c .ending3) .ensures) (stopped _ _ _ _ _ _ _ _ _ _ _ _ _ ((c .before .before .before .before .before .before .before .before .before .before .before .before .before .before .before .before .before .loop) .inv) ((c .before .before .before .before .before .before .before .before .before .before .before .before .before .before .before .if1) .left) ((c .before .before .before .before .before .before .before .before .before .before .before .before .before .before .if2) .left) _ _ _ _ (rw ((c .before .before .a3) .given .1) at ((c .before .before .before .before .before .before .before .before .before .before .step) .ensures)))
+returns-4 c = let k = at-key _ _ _ _ (sym ((c .before .before .before .before .before .before .before .before .before .before .before .before .before .before .before .before .before .before .fetch) .ensures) ∙ (c .before .before .before .before .before .before .before .before .before .before .before .before .before .before .before .before .fetched) .given .1) in rw ((c .ending3) .ensures) (stopped _ _ _ _ _ _ _ _ _ _ _ _ _ ((c .before .before .before .before .before .before .before .before .before .before .before .before .before .before .before .before .before .before .before .loop) .inv) (k .0) ((c .before .before .before .before .before .before .before .before .before .before .before .before .before .before .if1) .left) _ _ _ ((c .before .before .before .before .before .before .before .before .before .before .step) .kept .1 .1 .1 .1 .1 .1 .1 .1 .0) _ (rw ((c .before .before .a3) .given .1) at (stepped _ _ _ _ _ _ _ _ _ _ _ _ _ ((c .before .before .before .before .before .before .before .before .before .before .before .before .before .before .before .before .before .before .before .loop) .inv) _ (code-part (now ((c .before .before .before .before .before .before .before .before .before .before .before .before .before .before .before .before .before .before .before .before .before .before .before .before .before .args) .file)) ((c .before .before .before .before .before .before .before .before .before .before .before .before .before .before .before .before .before .before .before .before .before .before .before .before .before .args) .c .code)) (k .0) _ _ _ _ ((c .before .before .before .before .before .before .before .before .before .before .step) .ensures))))
 
 pub run-from-spec : {M : Type 1} → statement M
 run-from-spec =
@@ -107,7 +126,13 @@ run-from-spec =
     (tie.spec
     Inv-loop
     μ-loop
+    sub-code
+    part-code-start
+    part-code-end
     loop-holds
+    fetch-requires
+    enum-known-fetched
+    enum-told
     at-end-requires
     same-length
     same-length-2
@@ -118,12 +143,13 @@ run-from-spec =
     same-length-5
     same-length-6
     returns-2
-    add-next
     step-requires
     enum-known-a
+    sub-rest
     loop-less
     loop-again
     enum-known-a-2
+    sub-ending
     ending-requires-2
     same-length-7
     same-length-8

@@ -1,7 +1,7 @@
 -- The proof of `runs::run`.
 use mathlib.Core.Path.{sym, _∙_}
 use borrow.Author.Needs.{needs}
-use Rattle.reader.proofs.Opening.{opened-sections, opened-packed, opened-rows}
+use Rattle.reader.proofs.Opening.{opened-sections, opened-packed}
 use Rattle.runs.proofs.Returns.{run-unread}
 use Rattle.runs.proofs.run.Statement.{statement}
 use Rattle.runs.proofs.run.Tie as tie
@@ -20,7 +20,7 @@ run-opened-requires c κs =
     let at-opened2 = c .before .before .before in
     let at-open = at-opened2 .before .before in
     let module-is = sym (at-opened2 .opened2 .given .1) ∙ at-open .«open» .ensures in
-    (opened-packed _ _ module-is, opened-rows _ _ module-is .1, opened-sections _ _ module-is .0)
+    (opened-packed _ _ module-is, opened-sections _ _ module-is .0)
 
 returns : tie.Need-returns
 returns c =

@@ -1,8 +1,10 @@
 -- The proof of `runs::run_opened`.
-use mathlib.Core.Path.{refl}
-use borrow.Author.Tests.{not-true, not-false}
+use native.Mathlib.Omega.{arith}
+use mathlib.Core.Path.{refl, _∙_}
 use borrow.Author.Needs.{needs}
-use Rattle.runs.proofs.Returns.{run-12, run-13, run-20, room, ready, still, run-over}
+use borrow.Author.Tests.{not-true, not-false}
+use Rattle.runs.proofs.Resumed.{still, closed-over, closed-deeper}
+use Rattle.runs.proofs.Returns.{run-12, run-13, run-20, room, starts-fit, same-slots, run-over}
 use Rattle.runs.proofs.run_opened.Statement.{statement}
 use Rattle.runs.proofs.run_opened.Tie as tie
 
@@ -17,8 +19,9 @@ enum-told c = search needs
 
 returns : tie.Need-returns
 returns c =
-    let start = c .before .before .before .before .before .before .before .before in
-    run-12 _ _ _ _ _ _ _ (start .pre .2) (rw (c .enum-told .given .1) at (c .before .before .find .ensures))
+    let at-find = c .before .before in
+    let start = at-find .before .before .before .before .before .before in
+    run-12 _ _ _ _ _ _ _ (start .pre .1) (rw (c .enum-told .given .1) at (at-find .find .ensures))
 
 admits-requires : tie.Need-admits-requires
 admits-requires c κs =
@@ -31,7 +34,7 @@ returns-2 c =
     let at-found = c .before .before .before in
     let at-find = at-found .before .before in
     let start = at-find .before .before .before .before .before .before in
-    run-13 _ _ _ _ _ _ _ (at-found .found .given .0 .0) (rw (at-found .found .given .1) at (at-find .find .ensures)) _ (start .pre .2) _ (c .before .admits .ensures) (not-true _ (c .if1 .taken))
+    run-13 _ _ _ _ _ _ _ (at-found .found .given .0 .0) (rw (at-found .found .given .1) at (at-find .find .ensures)) _ (start .pre .1) _ (c .before .admits .ensures) (not-true _ (c .if1 .taken))
 
 capacity-requires : tie.Need-capacity-requires
 capacity-requires c κs = search needs
@@ -55,17 +58,18 @@ returns-3 c =
     let at-found = at-admits .before .before in
     let at-find = at-found .before .before in
     let start = at-find .before .before .before .before .before .before in
-    run-20 _ _ _ _ _ _ _ (at-found .found .given .0 .0) (rw (at-found .found .given .1) at (at-find .find .ensures)) _ (at-admits .admits .ensures) (not-false _ (at-if1 .if1 .left)) _ (at-capacity .capacity .ensures) _ (start .pre .2) (at-if2 .if2 .taken) _ _ _ (at-close .close .ensures)
+    run-20 _ _ _ _ _ _ _ (at-found .found .given .0 .0) (rw (at-found .found .given .1) at (at-find .find .ensures)) _ (at-admits .admits .ensures) (not-false _ (at-if1 .if1 .left)) _ (at-capacity .capacity .ensures) _ (start .pre .1) (at-if2 .if2 .taken) _ _ _ (at-close .close .ensures)
 
 copy-arguments-requires : tie.Need-copy-arguments-requires
 copy-arguments-requires c κs =
-    let at-capacity = c .before .before .before in
+    let at-if2 = c .before .before in
+    let at-capacity = at-if2 .before in
     let at-if1 = at-capacity .before .before .before in
     let at-admits = at-if1 .before in
     let at-found = at-admits .before .before in
     let at-find = at-found .before .before in
     let start = at-find .before .before .before .before .before .before in
-    room _ _ (start .args .args .now) (start .args .kinds .now) (start .args .p .now) (start .args .t .now) _ (at-found .found .given .0 .0) (rw (at-found .found .given .1) at (at-find .find .ensures)) _ (at-admits .admits .ensures) (not-false _ (at-if1 .if1 .left)) _ (at-capacity .capacity .ensures) (c .before .before .if2 .left)
+    room _ _ (start .args .args .now) (start .args .kinds .now) (start .args .p .now) (start .args .t .now) _ (at-found .found .given .0 .0) (rw (at-found .found .given .1) at (at-find .find .ensures)) _ (at-admits .admits .ensures) (not-false _ (at-if1 .if1 .left)) _ (at-capacity .capacity .ensures) (at-if2 .if2 .left)
 
 slice-aggregate-first-frame : tie.Need-slice-aggregate-first-frame
 slice-aggregate-first-frame c = search needs
@@ -74,7 +78,7 @@ first-frame-requires : tie.Need-first-frame-requires
 first-frame-requires c κs =
     let at-found = c .before .before .before .before .before .before .before .before .before .before .before .before .before .before .before in
     let at-find = at-found .before .before in
-    let is = rw (at-found .found .given .1) at (at-find .find .ensures) in (refl, is .few)
+    let is = rw (at-found .found .given .1) at (at-find .find .ensures) in (omega arith, is .body-fits, is .few)
 
 slice-aggregate-run-from : tie.Need-slice-aggregate-run-from
 slice-aggregate-run-from c = search needs
@@ -90,31 +94,15 @@ run-from-requires c κs =
     let at-found = at-admits .before .before in
     let at-find = at-found .before .before in
     let start = at-find .before .before .before .before .before .before in
-    ((start .pre .0, start .pre .1), ready _ _ _ _ _ _ _ (at-found .found .given .0 .0) (rw (at-found .found .given .1) at (at-find .find .ensures)) _ (at-admits .admits .ensures) (not-false _ (at-if1 .if1 .left)) _ (at-capacity .capacity .ensures) (at-if2 .if2 .left) _ _ _ _ _ (at-copy-arguments .copy-arguments .ensures) refl (at-first-frame .first-frame .ensures .0) (at-first-frame .first-frame .ensures .1))
+    ((start .pre .0, start .pre .1), starts-fit _ _ _ _ _ _ _ (at-found .found .given .0 .0) (rw (at-found .found .given .1) at (at-find .find .ensures)) _ (at-admits .admits .ensures) (not-false _ (at-if1 .if1 .left)) _ (at-capacity .capacity .ensures) (at-if2 .if2 .left) _ _ _ _ _ (at-copy-arguments .copy-arguments .ensures) refl (at-first-frame .first-frame .ensures .0) (at-first-frame .first-frame .ensures .1) (start .pre .1))
 
-close-requires-2 : tie.Need-close-requires-2
-close-requires-2 c κs =
-    let at-run-from = c .before .before .before .before .before .before .before in
-    let at-first-frame = at-run-from .before .before .before .before .before in
-    let at-copy-arguments = at-first-frame .before .before .before .before .before .before in
-    let at-if2 = at-copy-arguments .before .before .before in
-    let at-capacity = at-if2 .before in
-    let at-if1 = at-capacity .before .before .before in
-    let at-admits = at-if1 .before in
-    let at-found = at-admits .before .before in
-    let at-find = at-found .before .before in
-    still _ _ _ _ _ _ _ (at-found .found .given .0 .0) (rw (at-found .found .given .1) at (at-find .find .ensures)) _ (at-admits .admits .ensures) (not-false _ (at-if1 .if1 .left)) _ (at-capacity .capacity .ensures) (at-if2 .if2 .left) _ _ _ _ _ (at-copy-arguments .copy-arguments .ensures) refl (at-first-frame .first-frame .ensures .0) (at-first-frame .first-frame .ensures .1) _ _ _ _ (at-run-from .run-from .ensures)
+slice-aggregate-deeper : tie.Need-slice-aggregate-deeper
+slice-aggregate-deeper c = search needs
 
-same-length-3 : tie.Need-same-length-3
-same-length-3 c = search needs
-
-same-length-4 : tie.Need-same-length-4
-same-length-4 c = search needs
-
-returns-4 : tie.Need-returns-4
-returns-4 c =
-    let at-close2 = c .before .before .before .before in
-    let at-run-from = at-close2 .before .before .before .before .before .before .before .before in
+deeper-requires : tie.Need-deeper-requires
+deeper-requires c κs =
+    let at-if3 = c .before .before .before in
+    let at-run-from = at-if3 .before .before .before .before .before .before .before in
     let at-first-frame = at-run-from .before .before .before .before .before in
     let at-copy-arguments = at-first-frame .before .before .before .before .before .before in
     let at-if2 = at-copy-arguments .before .before .before in
@@ -124,7 +112,83 @@ returns-4 c =
     let at-found = at-admits .before .before in
     let at-find = at-found .before .before in
     let start = at-find .before .before .before .before .before .before in
-    run-over _ _ _ _ _ _ _ (at-found .found .given .0 .0) (rw (at-found .found .given .1) at (at-find .find .ensures)) _ (at-admits .admits .ensures) (not-false _ (at-if1 .if1 .left)) _ (at-capacity .capacity .ensures) (at-if2 .if2 .left) _ _ _ _ _ (at-copy-arguments .copy-arguments .ensures) refl (at-first-frame .first-frame .ensures .0) (at-first-frame .first-frame .ensures .1) _ _ _ _ (at-run-from .run-from .ensures) (start .pre .2) _ _ _ (at-close2 .close2 .ensures)
+    (start .pre, (still _ _ _ _ _ _ _ _ _ _ _ (same-slots _ _ _ _ _ _ _ (at-found .found .given .0 .0) (rw (at-found .found .given .1) at (at-find .find .ensures)) _ (at-admits .admits .ensures) (not-false _ (at-if1 .if1 .left)) _ (at-capacity .capacity .ensures) (at-if2 .if2 .left) _ _ _ _ _ (at-copy-arguments .copy-arguments .ensures) refl (at-first-frame .first-frame .ensures .0) (at-first-frame .first-frame .ensures .1)) (at-run-from .run-from .ensures), at-run-from .run-from .ensures .left, at-run-from .run-from .ensures .resumes (at-if3 .if3 .taken) .fits))
+
+same-length-3 : tie.Need-same-length-3
+same-length-3 c =
+    let at-deeper = c .before .before .before .before in
+    let at-run-from = at-deeper .before .before .before .before .before .before .before .before .before .before .before in
+    let at-copy-arguments = at-run-from .before .before .before .before .before .before .before .before .before .before .before in
+    at-deeper .deeper .kept .1 .1 .1 .1 .1 .0 ∙ at-run-from .run-from .ensures .same-payloads ∙ at-copy-arguments .copy-arguments .ensures .same-payloads
+
+same-length-4 : tie.Need-same-length-4
+same-length-4 c =
+    let at-deeper = c .before .before .before .before in
+    let at-run-from = at-deeper .before .before .before .before .before .before .before .before .before .before .before in
+    let at-copy-arguments = at-run-from .before .before .before .before .before .before .before .before .before .before .before in
+    at-deeper .deeper .kept .1 .1 .1 .1 .1 .1 .0 ∙ at-run-from .run-from .ensures .same-types ∙ at-copy-arguments .copy-arguments .ensures .same-types
+
+returns-4 : tie.Need-returns-4
+returns-4 c =
+    let at-deeper = c .before .before .before .before in
+    let at-if3 = at-deeper .before .before .before .before in
+    let at-run-from = at-if3 .before .before .before .before .before .before .before in
+    let at-first-frame = at-run-from .before .before .before .before .before in
+    let at-copy-arguments = at-first-frame .before .before .before .before .before .before in
+    let at-if2 = at-copy-arguments .before .before .before in
+    let at-capacity = at-if2 .before in
+    let at-if1 = at-capacity .before .before .before in
+    let at-admits = at-if1 .before in
+    let at-found = at-admits .before .before in
+    let at-find = at-found .before .before in
+    let start = at-find .before .before .before .before .before .before in
+    run-over _ _ _ _ _ _ _ (at-found .found .given .0 .0) (rw (at-found .found .given .1) at (at-find .find .ensures)) _ (at-admits .admits .ensures) (not-false _ (at-if1 .if1 .left)) _ (at-capacity .capacity .ensures) (at-if2 .if2 .left) _ _ _ _ _ (at-copy-arguments .copy-arguments .ensures) refl (at-first-frame .first-frame .ensures .0) (at-first-frame .first-frame .ensures .1) _ (start .pre .1) _ _ _ (closed-deeper _ _ _ _ _ _ _ _ _ _ _ (same-slots _ _ _ _ _ _ _ (at-found .found .given .0 .0) (rw (at-found .found .given .1) at (at-find .find .ensures)) _ (at-admits .admits .ensures) (not-false _ (at-if1 .if1 .left)) _ (at-capacity .capacity .ensures) (at-if2 .if2 .left) _ _ _ _ _ (at-copy-arguments .copy-arguments .ensures) refl (at-first-frame .first-frame .ensures .0) (at-first-frame .first-frame .ensures .1)) (at-run-from .run-from .ensures) _ _ _ (at-if3 .if3 .taken) (at-deeper .deeper .ensures))
+
+sub-close : tie.Need-sub-close
+sub-close c = search needs
+
+close-requires-2 : tie.Need-close-requires-2
+close-requires-2 c κs =
+    let at-run-from = c .before .before .before .before .before .before .before .before .before .before in
+    let at-first-frame = at-run-from .before .before .before .before .before in
+    let at-copy-arguments = at-first-frame .before .before .before .before .before .before in
+    let at-if2 = at-copy-arguments .before .before .before in
+    let at-capacity = at-if2 .before in
+    let at-if1 = at-capacity .before .before .before in
+    let at-admits = at-if1 .before in
+    let at-found = at-admits .before .before in
+    let at-find = at-found .before .before in
+    (still _ _ _ _ _ _ _ _ _ _ _ (same-slots _ _ _ _ _ _ _ (at-found .found .given .0 .0) (rw (at-found .found .given .1) at (at-find .find .ensures)) _ (at-admits .admits .ensures) (not-false _ (at-if1 .if1 .left)) _ (at-capacity .capacity .ensures) (at-if2 .if2 .left) _ _ _ _ _ (at-copy-arguments .copy-arguments .ensures) refl (at-first-frame .first-frame .ensures .0) (at-first-frame .first-frame .ensures .1)) (at-run-from .run-from .ensures), at-run-from .run-from .ensures .high)
+
+same-length-5 : tie.Need-same-length-5
+same-length-5 c =
+    let at-close2 = c .before .before .before .before in
+    let at-run-from = at-close2 .before .before .before .before .before .before .before .before .before .before .before in
+    let at-copy-arguments = at-run-from .before .before .before .before .before .before .before .before .before .before .before in
+    at-close2 .close2 .kept .1 .1 .1 .1 .0 ∙ at-run-from .run-from .ensures .same-payloads ∙ at-copy-arguments .copy-arguments .ensures .same-payloads
+
+same-length-6 : tie.Need-same-length-6
+same-length-6 c =
+    let at-close2 = c .before .before .before .before in
+    let at-run-from = at-close2 .before .before .before .before .before .before .before .before .before .before .before in
+    let at-copy-arguments = at-run-from .before .before .before .before .before .before .before .before .before .before .before in
+    at-close2 .close2 .kept .1 .1 .1 .1 .1 .0 ∙ at-run-from .run-from .ensures .same-types ∙ at-copy-arguments .copy-arguments .ensures .same-types
+
+returns-5 : tie.Need-returns-5
+returns-5 c =
+    let at-close2 = c .before .before .before .before in
+    let at-if3 = at-close2 .before .before .before .before in
+    let at-run-from = at-if3 .before .before .before .before .before .before .before in
+    let at-first-frame = at-run-from .before .before .before .before .before in
+    let at-copy-arguments = at-first-frame .before .before .before .before .before .before in
+    let at-if2 = at-copy-arguments .before .before .before in
+    let at-capacity = at-if2 .before in
+    let at-if1 = at-capacity .before .before .before in
+    let at-admits = at-if1 .before in
+    let at-found = at-admits .before .before in
+    let at-find = at-found .before .before in
+    let start = at-find .before .before .before .before .before .before in
+    run-over _ _ _ _ _ _ _ (at-found .found .given .0 .0) (rw (at-found .found .given .1) at (at-find .find .ensures)) _ (at-admits .admits .ensures) (not-false _ (at-if1 .if1 .left)) _ (at-capacity .capacity .ensures) (at-if2 .if2 .left) _ _ _ _ _ (at-copy-arguments .copy-arguments .ensures) refl (at-first-frame .first-frame .ensures .0) (at-first-frame .first-frame .ensures .1) _ (start .pre .1) _ _ _ (closed-over _ _ _ _ _ _ _ _ _ _ _ (same-slots _ _ _ _ _ _ _ (at-found .found .given .0 .0) (rw (at-found .found .given .1) at (at-find .find .ensures)) _ (at-admits .admits .ensures) (not-false _ (at-if1 .if1 .left)) _ (at-capacity .capacity .ensures) (at-if2 .if2 .left) _ _ _ _ _ (at-copy-arguments .copy-arguments .ensures) refl (at-first-frame .first-frame .ensures .0) (at-first-frame .first-frame .ensures .1)) (at-run-from .run-from .ensures) _ _ _ 0 _ (omega arith) (λ q. absurd (at-if3 .if3 .left q)) (at-close2 .close2 .ensures))
 
 pub run-opened-spec : {M : Type 1} → statement M
 run-opened-spec =
@@ -146,7 +210,13 @@ run-opened-spec =
     first-frame-requires
     slice-aggregate-run-from
     run-from-requires
-    close-requires-2
+    slice-aggregate-deeper
+    deeper-requires
     same-length-3
     same-length-4
-    returns-4)
+    returns-4
+    sub-close
+    close-requires-2
+    same-length-5
+    same-length-6
+    returns-5)

@@ -1,0 +1,95 @@
+-- What `inc` and `dec` do, a law for each way out. Assumes nothing.
+use Prim.Native.Nat.{ℕ, _+_, _-_, _≤_, _<_}
+use native.Mathlib.Omega.{arith}
+use mathlib.Core.Path.{_≡_, refl, sym, ap, _∙_, subst}
+use mathlib.Core.Bool.{Bool, true, false, cond}
+use mathlib.Core.Option.{none}
+use mathlib.Core.List.{List, [], _∷_}
+use lib.Dec.{eqb}
+use Rattle.rules.specs.ModuleFile.{Module}
+use Rattle.rules.specs.Machine.{Memory, Frame, Next, stops, goto, becomes, bumping, execIn, deref}
+use Rattle.rules.specs.Operations.{Result, yields, raises}
+use Rattle.rules.specs.Stack.{slot, slotAt, slotsOf, put}
+use Rattle.rules.specs.declared.Instruction.the-variants.{Bump}
+use Rattle.rules.specs.declared.Slot.{Slot}
+use Rattle.values.specs.Values.{slotOf, resultOf, bumpOf, Bumps}
+use Rattle.values.specs.declared.Value.{Value}
+use Rattle.values.specs.declared.Computed.{Computed}
+use Rattle.values.specs.declared.Computed.the-variants.{Yields, Raises}
+use Rattle.state.specs.State.{stateOf, Ready, Does}
+use Rattle.state.specs.declared.Registers.{Registers}
+use Rattle.state.specs.declared.Progress.{Progress}
+use Rattle.state.specs.declared.Progress.the-variants.{Stops}
+use Rattle.state.proofs.Stack.{take1-has, take1-short}
+use Rattle.state.proofs.Outcomes.{stopping, putting}
+use Rattle.state.proofs.Families.{named-31, named-33, named, types-same}
+use Rattle.operands.specs.Operands.{Computable, Executes, Puts, Points, Finds}
+use Rattle.operands.specs.declared.pointers.Pointee.{Pointee}
+use Rattle.operands.specs.declared.pointers.Pointee.the-variants.{At, Nowhere}
+use Rattle.operands.proofs.OperandLaws.{kind-at, only, Typed}
+
+bump-typed : (u : Bool) (s : Slot) (x : Computed) → resultOf x ≡ bumpOf u s → Typed (s .kind) x
+unfolding bumpOf
+bump-typed u s x e v y = only none (eqb (s .kind) 7) 32 (s .kind) _ v (sym (ap resultOf y) ∙ e)
+
+-- x put to slot i of what is left
+abbrev backOf : Memory → ℕ → List Slot → Frame → List Frame → Result → Next
+backOf M i st f cs (yields []) = stops 0
+backOf M i st f cs (yields (v ∷ vs)) = becomes M (put st i v) f cs
+backOf M i st f cs (raises e) = stops e
+
+back-cond : (M : Memory) (i : ℕ) (st : List Slot) (f : Frame) (cs : List Frame) (b : Bool) (e : ℕ) (v : Slot)
+    → cond b (stops e) (becomes M (put st i v) f cs) ≡ backOf M i st f cs (cond b (raises e) (yields (v ∷ [])))
+back-cond M i st f cs true e v = refl
+back-cond M i st f cs false e v = refl
+
+module _ (cap : ℕ) (r : Registers) (p t f : List ℕ) (k : Ready cap r p t f) (m : Module) (u : Bool) where
+  abbrev bumps : ℕ → Slot → Next
+  bumps i v = bumping (stateOf r p t f .memory) u i v (slotsOf p t (r .height - 1)) (goto (r .place + 1) (stateOf r p t f .top)) (stateOf r p t f .callers)
+
+  bump-takes : r .floor + 1 ≤ r .height → execIn m cap (Bump u) (stateOf r p t f) ≡ deref (slotAt p t (r .height - 1)) (slotsOf p t (r .height - 1)) bumps
+  unfolding execIn
+  bump-takes has = take1-has p t (r .floor) (r .height) _ has
+
+  back-is : (i : ℕ) (x : Computed) (q : Progress) (p′ : List ℕ) (y : Next) → r .floor + 1 ≤ r .height → i < r .height - 1 → Typed (slotAt p t i .kind) x
+      → Puts r i (r .height - 1) x q p p′
+      → y ≡ backOf (stateOf r p t f .memory) i (slotsOf p t (r .height - 1)) (goto (r .place + 1) (stateOf r p t f .top)) (stateOf r p t f .callers) (resultOf x)
+      → Does cap r q p t f p′ t f y
+  back-is i (Yields v) q p′ y has below ty e is =
+      rw (e .0)
+      (putting cap r p t f k (slotOf v) i p′ t (e .1 .0) (types-same p t i (slotOf v) (ty v refl)) (e .1 .1) (omega (arith, k .high)) (r .place + 1) (r .height - 1) y
+      below (omega arith) (omega arith) is)
+  back-is i (Raises n) q p′ y has below ty e is = rw (e .0, e .1) (stopping cap r p t f k n y is)
+
+module _ {r : Registers} {p t : List ℕ} (u : Bool) where
+  pub bump-21 : r .height < r .floor + 1 → Executes (Bump u) r (Stops 21) p t p t
+  unfolding execIn
+  bump-21 h m cap f k = stopping cap r p t f k 21 _ (take1-short p t (r .floor) (r .height) _ h)
+
+  module _ (has : r .floor + 1 ≤ r .height) where
+    pub bump-31 : (slotAt p t (r .height - 1) .kind ≡ 7 → ⊥) → Executes (Bump u) r (Stops 31) p t p t
+    bump-31 ne m cap f k =
+        named-31 cap r p t f k m (Bump u) (slotAt p t (r .height - 1)) (r .height - 1) (bumps cap r p t f k m u) (bump-takes cap r p t f k m u has) ne
+
+    pub bump-33 : slotAt p t (r .height - 1) .kind ≡ 7 → r .height - 1 ≤ slotAt p t (r .height - 1) .payload → Executes (Bump u) r (Stops 33) p t p t
+    bump-33 is out m cap f k =
+        named-33 cap r p t f k m (Bump u) (slotAt p t (r .height - 1)) (r .height - 1) (bumps cap r p t f k m u) (bump-takes cap r p t f k m u has) is out
+
+  pub bump-put : Computable r p t → {i : ℕ} {a : Value} (x : Computed) {q : Progress} {p′ : List ℕ} → Points r p t i a → Bumps u a x → Puts r i (r .height - 1) x q p p′
+      → Executes (Bump u) r q p t p′ t
+  unfolding bumpOf
+  bump-put c {i} x {q} {p′} at e put m cap f k =
+      let v = slotAt p t i in
+      let is : resultOf x ≡ bumpOf u v = e v (kind-at p t (r .height) i (c .kinds) (let b = at .below in omega arith)) (at .held) in
+      let w = slotAt p t (r .height - 1) in
+      let below : w .payload < r .height - 1 = subst (λ (n : ℕ). n < r .height - 1) (at .slot) (at .below) in
+      let names = named cap r p t f k m (Bump u) w (r .height - 1) (bumps cap r p t f k m u) (bump-takes cap r p t f k m u (at .has)) (at .pointer) below in
+      back-is cap r p t f k m u i x q p′ _ (at .has) (at .below) (bump-typed u v x is) put
+      (rw (← at .slot) at names ∙ back-cond _ i _ _ _ (eqb (v .kind) 7) 32 _ ∙ ap (backOf _ i _ _ _) (sym is))
+
+-- what `find` found
+pub points : {r : Registers} {p t : List ℕ} {x : Pointee} {i : ℕ} {a : Value} → x ≡ At i a → Finds r p t x → Points r p t i a
+points {r} {p} {t} e h = subst (Finds r p t) e h
+
+pub nowhere : {r : Registers} {p t : List ℕ} {x : Pointee} {n : ℕ} → x ≡ Nowhere n → Finds r p t x → (u : Bool) → Executes (Bump u) r (Stops n) p t p t
+nowhere {r} {p} {t} e h = subst (Finds r p t) e h

@@ -1,0 +1,75 @@
+-- What `cmp` and `icmp` give for two operands, by their values. Assumes nothing.
+use mathlib.Core.Path.{_≡_, refl, sym, _∙_}
+use mathlib.Core.Bool.{Bool, true, false, cond}
+use Prim.Native.Nat.{ℕ}
+use lib.Ieee as Ieee
+use lib.Ieee.{Float}
+use borrow.Author.Tests.{eq-eqb, ne-eqb}
+use Rattle.rules.specs.Doubles.{dcmpOf}
+use Rattle.rules.specs.Operations.{apply2, compared, low, Result, raises}
+use Rattle.rules.specs.Words.{cmpOf, icmpOf, orderOf}
+use Rattle.rules.specs.declared.Binary.the-variants.{Cmp}
+use Rattle.rules.specs.declared.Slot.{Slot}
+use Rattle.values.specs.Values.{kindOfValue, gives}
+use Rattle.values.specs.declared.Value.{Value}
+use Rattle.values.specs.declared.Value.the-variants.{Int, Long, Double, Pointer}
+use Rattle.values.proofs.Cases.{ComputesTo, kind-by, int-kind, long-kind, double-kind, pointer-kind}
+
+-- ---- the order of two payloads, signed where g holds
+
+compared-ints : (g : Bool) (x y : ℕ) → compared g 3 x y ≡ cond g (icmpOf 32 (low x) (low y)) (cmpOf (low x) (low y))
+unfolding compared
+compared-ints true x y = refl
+compared-ints false x y = refl
+
+compared-longs : (g : Bool) (x y : ℕ) → compared g 4 x y ≡ cond g (icmpOf 64 x y) (cmpOf x y)
+unfolding compared
+compared-longs true x y = refl
+compared-longs false x y = refl
+
+compared-doubles : (g : Bool) (x y : ℕ) → compared g 6 x y ≡ dcmpOf x y
+unfolding compared
+compared-doubles true x y = refl
+compared-doubles false x y = refl
+
+compared-pointers : (g : Bool) (x y : ℕ) → compared g 7 x y ≡ cmpOf x y
+unfolding compared
+compared-pointers true x y = refl
+compared-pointers false x y = refl
+
+-- ---- order, signed where g holds
+
+cmp-like : (g : Bool) (w : Result) (s u : Slot) (k n : ℕ) → s .kind ≡ k → u .kind ≡ k → w ≡ gives 3 n → compared g k (s .payload) (u .payload) ≡ n
+    → w ≡ apply2 (Cmp g) s u
+cmp-like g w s u k n e f h i = h ∙ sym (rw (e, f, eq-eqb k k refl, i) refl)
+
+module _ (g : Bool) {a b : Value} {w : Result} where
+  pub cmp-unlike : (kindOfValue a ≡ kindOfValue b → ⊥) → w ≡ raises 22 → ComputesTo (Cmp g) a b w
+  cmp-unlike d e s u k l ea eb =
+      let i = kind-by s a k ea in
+      let j = kind-by u b l eb in
+      e ∙ sym (rw (ne-eqb (s .kind) (u .kind) (λ h. d (sym i ∙ h ∙ j))) refl)
+
+  pub cmp-ints : {x y : ℕ} → a ≡ Int x → b ≡ Int y → w ≡ gives 3 (cond g (icmpOf 32 x y) (cmpOf x y)) → ComputesTo (Cmp g) a b w
+  cmp-ints f h e s u k l ea eb =
+      let i = int-kind s k ea f in
+      let j = int-kind u l eb h in
+      cmp-like g w s u 3 _ (i .0) (j .0) e (rw (i .1, j .1) (compared-ints g (s .payload) (u .payload)))
+
+  pub cmp-longs : {x y : ℕ} → a ≡ Long x → b ≡ Long y → w ≡ gives 3 (cond g (icmpOf 64 x y) (cmpOf x y)) → ComputesTo (Cmp g) a b w
+  cmp-longs f h e s u k l ea eb =
+      let i = long-kind s k ea f in
+      let j = long-kind u l eb h in
+      cmp-like g w s u 4 _ (i .0) (j .0) e (rw (i .1, j .1) (compared-longs g (s .payload) (u .payload)))
+
+  pub cmp-doubles : {x y : Float} → a ≡ Double x → b ≡ Double y → w ≡ gives 3 (orderOf (Ieee.lt y x) (Ieee.eq x y)) → ComputesTo (Cmp g) a b w
+  cmp-doubles f h e s u k l ea eb =
+      let i = double-kind s k ea f in
+      let j = double-kind u l eb h in
+      cmp-like g w s u 6 _ (i .0) (j .0) e (rw (i .1, j .1) (compared-doubles g (s .payload) (u .payload)))
+
+  pub cmp-pointers : {x y : ℕ} → a ≡ Pointer x → b ≡ Pointer y → w ≡ gives 3 (cmpOf x y) → ComputesTo (Cmp g) a b w
+  cmp-pointers f h e s u k l ea eb =
+      let i = pointer-kind s k ea f in
+      let j = pointer-kind u l eb h in
+      cmp-like g w s u 7 _ (i .0) (j .0) e (rw (i .1, j .1) (compared-pointers g (s .payload) (u .payload)))

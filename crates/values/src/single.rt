@@ -1,0 +1,93 @@
+// `neg`, `not`, conversions, and a number one up or down.
+ghost use mathlib.Core.Bool.{true, false};
+ghost use Rattle.rules.specs.declared.Num.the-variants.{Int as int, Long as long, Double as double};
+ghost use Rattle.rules.specs.declared.Unary.the-variants.{Neg, Not, Convert};
+ghost use Rattle.values.specs.Values.{Turns, Converts, Bumps};
+use crate::Computed;
+use crate::DOUBLE_INVALIDFORDOUBLE;
+use crate::POINTER_INVALIDFORPOINTER;
+use crate::Value;
+
+// `neg`: wraps, or flips a double's sign.
+pub fn neg_value(a: Value) -> Computed
+    ensures { λ r. ⌜ Turns Neg a r ⌝ }
+{
+    match a {
+        Value::Int(x) => Computed::Yields(Value::Int(words::neg32(x))),
+        Value::Long(x) => Computed::Yields(Value::Long(words::neg64(x))),
+        Value::Double(x) => Computed::Yields(Value::Double(-x)),
+        Value::Pointer(_) => Computed::Raises(POINTER_INVALIDFORPOINTER),
+    }
+}
+
+// `not`, of ints and longs.
+pub fn not_value(a: Value) -> Computed
+    ensures { λ r. ⌜ Turns Not a r ⌝ }
+{
+    match a {
+        Value::Int(x) => Computed::Yields(Value::Int(words::not32(x))),
+        Value::Long(x) => Computed::Yields(Value::Long(words::not64(x))),
+        Value::Double(_) => Computed::Raises(DOUBLE_INVALIDFORDOUBLE),
+        Value::Pointer(_) => Computed::Raises(POINTER_INVALIDFORPOINTER),
+    }
+}
+
+// `toi`, of what is no int.
+pub fn toi_value(a: Value) -> Computed
+    ensures { λ r. ⌜ Converts int a r ⌝ }
+{
+    match a {
+        Value::Int(x) => Computed::Yields(Value::Int(x)),
+        Value::Long(x) => Computed::Yields(Value::Int(words::low(x))),
+        Value::Double(x) => Computed::Yields(Value::Int(doubles::toi(x))),
+        Value::Pointer(_) => Computed::Raises(POINTER_INVALIDFORPOINTER),
+    }
+}
+
+// `tol`.
+pub fn tol_value(a: Value) -> Computed
+    ensures { λ r. ⌜ Turns (Convert long) a r ⌝ }
+{
+    match a {
+        Value::Int(x) => Computed::Yields(Value::Long(x as u64)),
+        Value::Long(x) => Computed::Yields(Value::Long(x)),
+        Value::Double(x) => Computed::Yields(Value::Long(doubles::tol(x))),
+        Value::Pointer(_) => Computed::Raises(POINTER_INVALIDFORPOINTER),
+    }
+}
+
+// `tod`, of what is no double.
+pub fn tod_value(a: Value) -> Computed
+    ensures { λ r. ⌜ Converts double a r ⌝ }
+{
+    match a {
+        Value::Int(x) => Computed::Yields(Value::Double(doubles::tod_int(x))),
+        Value::Long(x) => Computed::Yields(Value::Double(doubles::tod_long(x))),
+        Value::Double(x) => Computed::Yields(Value::Double(x)),
+        Value::Pointer(_) => Computed::Raises(POINTER_INVALIDFORPOINTER),
+    }
+}
+
+// `inc`, of the number that a pointer names.
+pub fn inc_value(a: Value) -> Computed
+    ensures { λ r. ⌜ Bumps true a r ⌝ }
+{
+    match a {
+        Value::Int(x) => Computed::Yields(Value::Int(words::add32(x, 1))),
+        Value::Long(x) => Computed::Yields(Value::Long(words::add64(x, 1))),
+        Value::Double(x) => Computed::Yields(Value::Double(x + 1.0)),
+        Value::Pointer(_) => Computed::Raises(POINTER_INVALIDFORPOINTER),
+    }
+}
+
+// `dec`.
+pub fn dec_value(a: Value) -> Computed
+    ensures { λ r. ⌜ Bumps false a r ⌝ }
+{
+    match a {
+        Value::Int(x) => Computed::Yields(Value::Int(words::sub32(x, 1))),
+        Value::Long(x) => Computed::Yields(Value::Long(words::sub64(x, 1))),
+        Value::Double(x) => Computed::Yields(Value::Double(x - 1.0)),
+        Value::Pointer(_) => Computed::Raises(POINTER_INVALIDFORPOINTER),
+    }
+}
