@@ -9,12 +9,14 @@ use mathlib.Core.Option.{some}
 use lib.ListN.{length, getD}
 use lib.Seq.{paste, length-paste}
 use lib.Dec.{eqb, ltb}
-use Rattle.rules.specs.ModuleFile.{refusal, labels, codeLength, Body, bodyOf, bodyEnd, read}
+use Rattle.rules.specs.Tables.{Body, bodyOf, bodyEnd}
+use Rattle.rules.specs.ModuleFile.{refusal, labels, codeLength, read, codeIn, bodiesIn, tablesIn}
 use Rattle.format.specs.declared.Sections.{Sections}
 use Rattle.rules.specs.Check.{recordBytes}
 use Rattle.soundness.specs.Tests.{decide, some-inj, false-true, eqb-is, eqb-isnt, ltb-is, ltb-isnt}
 use Rattle.soundness.specs.Forced.{Forced, forced-twice}
 use Rattle.soundness.specs.Readable.{Has, has-end, label-is, label-own, label-inside, place-inside}
+use Rattle.soundness.specs.Cutting.{label-count, code-length, good-file}
 use Rattle.records.specs.Record.{listsOf, Holds, Labelled}
 use Rattle.records.specs.Canon.{holds-record}
 use Rattle.nodes.specs.Nodes.{placeOf, ownerOf, Tabled, recordOf, markOf, listedAt, countOf, doneOf, appended, unseen, Fits, Merged}
@@ -29,7 +31,7 @@ pub same-record : (r r′ : List ℕ) → Holds r → Holds r′ → listsOf r �
 same-record r r′ h h′ e = holds-record r h ∙ ap recordBytes e ∙ sym (holds-record r′ h′)
 
 module _ (s table : List ℕ) (t : Tabled s table) (b : Body) (room marks : List ℕ) (f : Fits (labels s) room marks) (w : Sound s table room marks b)
-    (q k : ℕ) (st : List ℕ) (held : Holds st) (placed : read s .isPlace b q ≡ true) (forced-here : Forced (read s) b q (listsOf st)) (before : q < bodyEnd s b) (is-node : getD table q 0 ≡ suc k)
+    (q k : ℕ) (st : List ℕ) (held : Holds st) (placed : read s .isPlace b q ≡ true) (forced-here : Forced (read s) b q (listsOf st)) (before : q < bodyEnd (bodiesIn s) b) (is-node : getD table q 0 ≡ suc k)
     (own : ownerOf s k ≡ b) where
   numbered : k < labels s
   numbered = t .node q k is-node .0
@@ -199,13 +201,13 @@ module _ (s : List ℕ) (c : Sections) (table : List ℕ) (owner : ℕ) (room ma
   numbered-from = omega arith
 
   -- a node before the body's end is the body's own
-  owner-is : read s .isPlace (bodyOf owner) q ≡ true → q < bodyEnd s (bodyOf owner) → ownerOf s (v - 1) ≡ bodyOf owner
+  owner-is : read s .isPlace (bodyOf owner) q ≡ true → q < bodyEnd (bodiesIn s) (bodyOf owner) → ownerOf s (v - 1) ≡ bodyOf owner
   owner-is h l =
       let n : (v - 1 < labels s) × (placeOf s (v - 1) ≡ q) = w .tabled .node q (v - 1) numbered-from in
-      label-own s (w .readable) (v - 1) (ownerOf s (v - 1)) (bodyOf owner) q (bodyEnd s (bodyOf owner))
-      (label-at s (v - 1) (n .0) ∙ ap (λ (p : ℕ). some (ownerOf s (v - 1), p)) (n .1)) h (has-end s (w .readable) (bodyOf owner) (w .has)) l
+      label-own (tablesIn s) (good-file s (w .readable)) (v - 1) (ownerOf s (v - 1)) (bodyOf owner) q (bodyEnd (bodiesIn s) (bodyOf owner))
+      (label-at s (w .readable) (v - 1) (n .0) ∙ ap (λ (p : ℕ). some (ownerOf s (v - 1), p)) (n .1)) h (has-end (tablesIn s) (good-file s (w .readable)) (bodyOf owner) (w .has)) l
 
-  module _ (st : List ℕ) (at : Standing s owner q st) (l : q < bodyEnd s (bodyOf owner)) where
+  module _ (st : List ℕ) (at : Standing s owner q st) (l : q < bodyEnd (bodiesIn s) (bodyOf owner)) where
     pub node-arrived : (room′ marks′ : List ℕ) (ok : Bool) → Merged (v - 1) st room marks room′ marks′ ok
         → Left s table (bodyOf owner) room marks room′ marks′ ok (Recorded s table room′ marks′ (bodyOf owner) q (listsOf st))
     node-arrived =
@@ -226,25 +228,25 @@ module _ (s : List ℕ) (c : Sections) (table : List ℕ) (owner : ℕ) (room ma
         )
 
 -- a place of the body that is not its end lies before it
-pub before-end : (s : List ℕ) (e : refusal s ≡ 0) (b : Body) → Has s b → (q : ℕ) → read s .isPlace b q ≡ true → (q ≡ bodyEnd s b → ⊥) → q < bodyEnd s b
+pub before-end : (s : List ℕ) (e : refusal s ≡ 0) (b : Body) → Has (bodiesIn s) b → (q : ℕ) → read s .isPlace b q ≡ true → (q ≡ bodyEnd (bodiesIn s) b → ⊥) → q < bodyEnd (bodiesIn s) b
 before-end s e b h q i n =
-    let x : q ≤ bodyEnd s b = place-inside s e b q h i .1 in
-    decide (ltb q (bodyEnd s b)) (λ y. ltb-is q (bodyEnd s b) y) (λ y. let z : bodyEnd s b ≤ q = ltb-isnt q (bodyEnd s b) y in absurd (n (omega arith)))
+    let x : q ≤ bodyEnd (bodiesIn s) b = place-inside (tablesIn s) (good-file s e) b q h i .1 in
+    decide (ltb q (bodyEnd (bodiesIn s) b)) (λ y. ltb-is q (bodyEnd (bodiesIn s) b) y) (λ y. let z : bodyEnd (bodiesIn s) b ≤ q = ltb-isnt q (bodyEnd (bodiesIn s) b) y in absurd (n (omega arith)))
 
 -- a place of a body is in the table
-pub place-in-table : (s table : List ℕ) (e : refusal s ≡ 0) → Tabled s table → (b : Body) → Has s b → (q : ℕ) → read s .isPlace b q ≡ true → q < length table
+pub place-in-table : (s table : List ℕ) (e : refusal s ≡ 0) → Tabled s table → (b : Body) → Has (bodiesIn s) b → (q : ℕ) → read s .isPlace b q ≡ true → q < length table
 place-in-table s table e t b h q i =
-    let x = place-inside s e b q h i in
-    let y : q ≤ bodyEnd s b = x .1 in
-    let z : bodyEnd s b ≤ codeLength s = x .2 in
-    let w : codeLength s < length table = t .wide in omega arith
+    let x = place-inside (tablesIn s) (good-file s e) b q h i in
+    let y : q ≤ bodyEnd (bodiesIn s) b = x .1 in
+    let z : bodyEnd (bodiesIn s) b ≤ length (codeIn s) = x .2 in
+    let w : codeLength s < length table = t .wide in omega (arith, code-length s e)
 
 -- a labelled place is a node before the body's end
-pub label-node : (s table : List ℕ) (e : refusal s ≡ 0) (t : Tabled s table) (b : Body) → Has s b → (q : ℕ) → Labelled (read s) b q → (q < bodyEnd s b) × (0 < getD table q 0)
+pub label-node : (s table : List ℕ) (e : refusal s ≡ 0) (t : Tabled s table) (b : Body) → Has (bodiesIn s) b → (q : ℕ) → Labelled (read s) b q → (q < bodyEnd (bodiesIn s) b) × (0 < getD table q 0)
 label-node s table e t b h q n =
     let k : ℕ = n .0 in
-    let l : k < labels s = label-is s e k b q (n .1) .0 in
-    let z : placeOf s k ≡ q = ap (λ (x : Body × ℕ). x .1) (some-inj (ownerOf s k, placeOf s k) (b, q) (sym (label-at s k l) ∙ n .1)) in
+    let l : k < labels s = subst (λ (n : ℕ). k < n) (label-count s e) (label-is (tablesIn s) (good-file s e) k b q (n .1) .0) in
+    let z : placeOf s k ≡ q = ap (λ (x : Body × ℕ). x .1) (some-inj (ownerOf s k, placeOf s k) (b, q) (sym (label-at s e k l) ∙ n .1)) in
     let x : (j : ℕ) × (getD table (placeOf s k) 0 ≡ suc j) × (j ≤ k) = t .found k l in
     let y : getD table q 0 ≡ suc (x .0) = ap (λ (p : ℕ). getD table p 0) (sym z) ∙ x .1 in
-    (label-inside s e k b q (bodyEnd s b) (n .1) (has-end s e b h), omega arith)
+    (label-inside (tablesIn s) (good-file s e) k b q (bodyEnd (bodiesIn s) b) (n .1) (has-end (tablesIn s) (good-file s e) b h), omega arith)

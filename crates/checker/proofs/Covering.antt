@@ -1,5 +1,5 @@
 -- Where every body is started and no node waits, the check finds a table for each body, and the nodes show it.
-use Prim.Native.Nat.{ℕ, zero, suc, _+_, _-_, _≤_, _<_}
+use Prim.Native.Nat.{ℕ, zero, suc, _+_, _≤_, _<_}
 use mathlib.Core.Path.{_≡_, refl, ap, _∙_, sym, subst}
 use mathlib.Core.Logic.{inl, inr}
 use native.Mathlib.Omega.{arith}
@@ -8,13 +8,15 @@ use mathlib.Core.Option.{Option, none, some}
 use mathlib.Core.List.{List, [], _∷_}
 use lib.ListN.{getD}
 use lib.Dec.{eqb, ltb}
-use Rattle.rules.specs.ModuleFile.{refusal, labels, functions, Body, entry, fn, bodyEnd, read}
+use Rattle.rules.specs.Tables.{Body, entry, fn, bodyEnd}
+use Rattle.rules.specs.ModuleFile.{refusal, labels, functions, read, bodiesIn, tablesIn}
 use Rattle.rules.specs.Typing.{Lists, lists}
 use Rattle.rules.specs.Check.{Table, checkBody, functionsFrom, bodies, firstUntyped, recordAt, givenAt, labelRecord}
 use Rattle.soundness.specs.Tests.{decide, some-inj, eqb-is, eqb-isnt, ltb-is, ltb-isnt}
 use Rattle.soundness.specs.Exact.{check-consistent, typingOf}
 use Rattle.soundness.specs.Forced.{Forced, forced-given}
 use Rattle.soundness.specs.Readable.{Has, has-end, label-is, label-own, label-inside, place-extent, place-onward, cut-apart, orderly}
+use Rattle.soundness.specs.Cutting.{label-count, good-file}
 use Rattle.soundness.specs.Walks.{Covered, covered, Seen, seen-node, met}
 use Rattle.records.specs.Record.{listsOf}
 use Rattle.records.specs.Canon.{holds-record}
@@ -36,15 +38,15 @@ abbrev pub Typed : List ℕ → Body → Type 0
 Typed s b = (out : Table) × (checkBody (read s) b ≡ some out)
 
 module _ (s table : List ℕ) (e : refusal s ≡ 0) (t : Tabled s table) (room marks : List ℕ) (b₀ : Body) (w : Sound s table room marks b₀) (quiet : Quiet marks) where
-  module _ (b : Body) (has : Has s b) (started : Started s table room marks b) where
+  module _ (b : Body) (has : Has (bodiesIn s) b) (started : Started s table room marks b) where
     abbrev U : ℕ → Type 0
-    U = Passed table (bodyEnd s b)
+    U = Passed table (bodyEnd (bodiesIn s) b)
 
     abbrev R : ℕ → Lists → Type 0
     R = Recorded s table room marks b
 
     apart : (q : ℕ) (k : Lists) → U q → R q k → ⊥
-    apart q k (inl z) r = let l : q < bodyEnd s b = r .1 in omega arith
+    apart q k (inl z) r = let l : q < bodyEnd (bodiesIn s) b = r .1 in omega arith
     apart q k (inr z) r = let y : 0 ≡ suc (r .2) = sym z ∙ r .3 in omega arith
 
     same-node : (q : ℕ) (k l : Lists) → R q k → R q l → k ≡ l
@@ -53,10 +55,10 @@ module _ (s table : List ℕ) (e : refusal s ≡ 0) (t : Tabled s table) (room m
         let y : r .2 ≡ r′ .2 = omega arith in sym (r .5) ∙ ap (λ (n : ℕ). listsOf (recordOf room n)) y ∙ r′ .5
 
     -- a node of the body has the body as its owner
-    owned-by : (q k : ℕ) → getD table q 0 ≡ suc k → read s .isPlace b q ≡ true → q < bodyEnd s b → ownerOf s k ≡ b
+    owned-by : (q k : ℕ) → getD table q 0 ≡ suc k → read s .isPlace b q ≡ true → q < bodyEnd (bodiesIn s) b → ownerOf s k ≡ b
     owned-by q k n h l =
         let x : (k < labels s) × (placeOf s k ≡ q) = t .node q k n in
-        label-own s e k (ownerOf s k) b q (bodyEnd s b) (label-at s k (x .0) ∙ ap (λ (p : ℕ). some (ownerOf s k, p)) (x .1)) h (has-end s e b has) l
+        label-own (tablesIn s) (good-file s e) k (ownerOf s k) b q (bodyEnd (bodiesIn s) b) (label-at s e k (x .0) ∙ ap (λ (p : ℕ). some (ownerOf s k, p)) (x .1)) h (has-end (tablesIn s) (good-file s e) b has) l
 
     walked-all : (q : ℕ) (l : Lists) → R q l → WalkedIn s table room marks b q l
     walked-all q l r =
@@ -71,10 +73,10 @@ module _ (s table : List ℕ) (e : refusal s ≡ 0) (t : Tabled s table) (room m
         (subst (λ (x : Body). WalkedIn s table room marks x (placeOf s k) (listsOf (recordOf room k))) (owned-by q k (r .3) (r .0) (r .1)) h))
 
     no-label : (q : ℕ) → U q → (k : ℕ) → read s .label k ≡ some (b, q) → ⊥
-    no-label q (inl z) k h = let l : q < bodyEnd s b = label-inside s e k b q (bodyEnd s b) h (has-end s e b has) in omega arith
+    no-label q (inl z) k h = let l : q < bodyEnd (bodiesIn s) b = label-inside (tablesIn s) (good-file s e) k b q (bodyEnd (bodiesIn s) b) h (has-end (tablesIn s) (good-file s e) b has) in omega arith
     no-label q (inr z) k h =
-        let l : k < labels s = label-is s e k b q h .0 in
-        let p : placeOf s k ≡ q = ap (λ (x : Body × ℕ). x .1) (some-inj (ownerOf s k, placeOf s k) (b, q) (sym (label-at s k l) ∙ h)) in
+        let l : k < labels s = subst (λ (n : ℕ). k < n) (label-count s e) (label-is (tablesIn s) (good-file s e) k b q h .0) in
+        let p : placeOf s k ≡ q = ap (λ (x : Body × ℕ). x .1) (some-inj (ownerOf s k, placeOf s k) (b, q) (sym (label-at s e k l) ∙ h)) in
         let x : (j : ℕ) × (getD table (placeOf s k) 0 ≡ suc j) × (j ≤ k) = t .found k l in
         let y : 0 ≡ suc (x .0) = sym z ∙ ap (λ (n : ℕ). getD table n 0) (sym p) ∙ x .1 in omega arith
 
@@ -86,9 +88,9 @@ module _ (s table : List ℕ) (e : refusal s ≡ 0) (t : Tabled s table) (room m
           closed = walked-all;
           unlabelled = no-label;
           started = λ p ts h. met (read s) b U R ((p, lists ts []) ∷ []) (started p ts h) p (lists ts []) (inl (refl, refl));
-          inside = place-extent s e b has;
-          onward = place-onward s e b;
-          cut = cut-apart s e b;
+          inside = place-extent (tablesIn s) (good-file s e) b has;
+          onward = place-onward (tablesIn s) (good-file s e) b;
+          cut = cut-apart (tablesIn s) (good-file s e) b;
         }
 
     pub typed : Typed s b
@@ -101,13 +103,13 @@ module _ (s table : List ℕ) (e : refusal s ≡ 0) (t : Tabled s table) (room m
       p = placeOf s k
 
       label-here : read s .label k ≡ some (b, placeOf s k)
-      label-here = label-at s k numbered ∙ ap (λ (x : Body). some (x, placeOf s k)) mine
+      label-here = label-at s e k numbered ∙ ap (λ (x : Body). some (x, placeOf s k)) mine
 
       placed : read s .isPlace b (placeOf s k) ≡ true
-      placed = orderly s e .lands k b (placeOf s k) label-here
+      placed = orderly (tablesIn s) (good-file s e) .lands k b (placeOf s k) label-here
 
-      before : placeOf s k < bodyEnd s b
-      before = label-inside s e k b (placeOf s k) (bodyEnd s b) label-here (has-end s e b has)
+      before : placeOf s k < bodyEnd (bodiesIn s) b
+      before = label-inside (tablesIn s) (good-file s e) k b (placeOf s k) (bodyEnd (bodiesIn s) b) label-here (has-end (tablesIn s) (good-file s e) b has)
 
       abbrev node : ℕ
       node = nodeOf s table k
@@ -118,8 +120,8 @@ module _ (s table : List ℕ) (e : refusal s ≡ 0) (t : Tabled s table) (room m
       node-label : (nodeOf s table k < labels s) × (placeOf s (nodeOf s table k) ≡ placeOf s k)
       node-label = t .node (placeOf s k) (nodeOf s table k) node-is
 
-      not-passed : Passed table (bodyEnd s b) (placeOf s k) → ⊥
-      not-passed (inl z) = let l : placeOf s k < bodyEnd s b = before in omega arith
+      not-passed : Passed table (bodyEnd (bodiesIn s) b) (placeOf s k) → ⊥
+      not-passed (inl z) = let l : placeOf s k < bodyEnd (bodiesIn s) b = before in omega arith
       not-passed (inr z) = let y : 0 ≡ suc (nodeOf s table k) = sym z ∙ node-is in omega arith
 
       -- nothing has flowed to it: the table gives nothing there

@@ -6,12 +6,14 @@ use mathlib.Core.Bool.{Bool, true, false}
 use mathlib.Core.List.{List}
 use lib.ListN.{length}
 use lib.Dec.{ltb}
-use Rattle.rules.specs.ModuleFile.{labels, Body, bodyOf, read}
+use Rattle.rules.specs.Tables.{Body, bodyOf}
+use Rattle.rules.specs.ModuleFile.{labels, read, tablesIn}
 use Rattle.rules.specs.Typing.{Lists}
 use Rattle.format.specs.declared.Sections.{Sections}
 use Rattle.soundness.specs.Tests.{decide, false-true, ltb-is, ltb-isnt}
 use Rattle.soundness.specs.Forced.{Forced}
 use Rattle.soundness.specs.Readable.{orderly}
+use Rattle.soundness.specs.Cutting.{good-file}
 use Rattle.records.specs.Record.{listsOf}
 use Rattle.nodes.specs.declared.list.Waiting.the-variants.{Node, Nothing}
 use Rattle.nodes.specs.Nodes.{placeOf, ownerOf, recordOf, markOf, listedAt, countOf, doneOf, advanced, waitingIn, unseen, Fits}
@@ -47,7 +49,7 @@ module _ (s : List ℕ) (c : Sections) (table : List ℕ) (owner : ℕ) (room ma
       (record {
         holds = w .sound .holds k next-numbered seen;
         stands = record {
-          place = subst (λ (b : Body). read s .isPlace b (placeOf s k) ≡ true) owner-is (orderly s (w .readable) .lands k (ownerOf s k) (placeOf s k) (label-at s k next-numbered));
+          place = subst (λ (b : Body). read s .isPlace b (placeOf s k) ≡ true) owner-is (orderly (tablesIn s) (good-file s (w .readable)) .lands k (ownerOf s k) (placeOf s k) (label-at s (w .readable) k next-numbered));
           forced = subst (λ (b : Body). Forced (read s) b (placeOf s k) (listsOf (recordOf room k))) owner-is (w .sound .forced k next-numbered seen);
         };
       }))

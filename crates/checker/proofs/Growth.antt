@@ -4,7 +4,8 @@ use mathlib.Core.Path.{_≡_, refl, ap, _∙_}
 use native.Mathlib.Omega.{arith}
 use mathlib.Core.List.{List}
 use lib.ListN.{length}
-use Rattle.rules.specs.ModuleFile.{labels, Body, bodyEnd, read}
+use Rattle.rules.specs.Tables.{Body, bodyEnd}
+use Rattle.rules.specs.ModuleFile.{labels, read, bodiesIn}
 use Rattle.rules.specs.Typing.{Lists}
 use Rattle.soundness.specs.Walks.{goes-map, walked-map}
 use Rattle.records.specs.Record.{listsOf}
@@ -41,7 +42,7 @@ module _ (s table : List ℕ) (t : Tabled s table) (room marks room′ marks′ 
       (r .0, r .1, k, r .3, x .1, ap listsOf (x .0) ∙ r .5)
 
   pub goes-grows : (b : Body) (ns : List (ℕ × Lists)) → GoesIn s table room marks b ns → GoesIn s table room′ marks′ b ns
-  goes-grows b ns w = goes-map (read s) b (Passed table (bodyEnd s b)) (Recorded s table room marks b) (Recorded s table room′ marks′ b) (recorded-grows b) ns w
+  goes-grows b ns w = goes-map (read s) b (Passed table (bodyEnd (bodiesIn s) b)) (Recorded s table room marks b) (Recorded s table room′ marks′ b) (recorded-grows b) ns w
 
   pub walked-grows : (b : Body) (p : ℕ) (l : Lists) → WalkedIn s table room marks b p l → WalkedIn s table room′ marks′ b p l
-  walked-grows b p l w = walked-map (read s) b (Passed table (bodyEnd s b)) (Recorded s table room marks b) (Recorded s table room′ marks′ b) (recorded-grows b) p l w
+  walked-grows b p l w = walked-map (read s) b (Passed table (bodyEnd (bodiesIn s) b)) (Recorded s table room marks b) (Recorded s table room′ marks′ b) (recorded-grows b) p l w

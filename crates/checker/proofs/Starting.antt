@@ -7,15 +7,16 @@ use mathlib.Core.Option.{some}
 use mathlib.Core.List.{List, [], _∷_}
 use lib.ListN.{getD}
 use lib.Dec.{ltb}
-use Rattle.rules.specs.ModuleFile.{refusal, labels, functions, Body, entry, fn, bodyOf, bodyNumber, bodyStart, read}
+use Rattle.rules.specs.Tables.{Body, entry, fn, bodyOf, bodyNumber, bodyStart}
+use Rattle.rules.specs.ModuleFile.{refusal, labels, functions, read, bodiesIn, tablesIn}
 use Rattle.rules.specs.Instructions.{Ty}
 use Rattle.rules.specs.Typing.{Lists, lists}
-use Rattle.rules.specs.Check.{bodies}
 use Rattle.format.specs.declared.Sections.{Sections}
 use Rattle.format.specs.Layout.{Packed}
 use Rattle.soundness.specs.Tests.{decide, false-true, some-inj, ltb-is, ltb-isnt}
 use Rattle.soundness.specs.Forced.{Forced, at-start}
-use Rattle.soundness.specs.Readable.{Has, orderly, few-functions}
+use Rattle.soundness.specs.Readable.{Has, orderly}
+use Rattle.soundness.specs.Cutting.{function-count, few-functions, good-file}
 use Rattle.records.specs.Record.{listsOf}
 use Rattle.checker.specs.declared.walk.Turn.the-variants.{Breaks, Ends, Goes as On}
 use Rattle.checker.specs.declared.bodies.Verdict.{Verdict}
@@ -32,25 +33,25 @@ use Rattle.checker.proofs.Covering.{typed, untyped, first-entry, first-
 lists-of : (st : List ℕ) → listsOf st .operands ≡ [] → listsOf st ≡ lists (listsOf st .locals) []
 lists-of st e = ap (λ (o : List Ty). lists (listsOf st .locals) o) e
 
-pub start-standing : (s : List ℕ) (e : refusal s ≡ 0) (owner p : ℕ) (st : List ℕ) → Seeded s (bodyOf owner) st → p ≡ bodyStart s (bodyOf owner) → Standing s owner p st
+pub start-standing : (s : List ℕ) (e : refusal s ≡ 0) (owner p : ℕ) (st : List ℕ) → Seeded s (bodyOf owner) st → p ≡ bodyStart (bodiesIn s) (bodyOf owner) → Standing s owner p st
 start-standing s e owner p st h q =
     subst (λ (x : ℕ). Standing s owner x st) (sym q)
     (record {
       holds = h .holds;
       stands = record {
-        place = orderly s e .enters (bodyOf owner) (bodyStart s (bodyOf owner), listsOf st .locals) (h .starts);
-        forced = subst (Forced (read s) (bodyOf owner) (bodyStart s (bodyOf owner))) (sym (lists-of st (h .bare))) (at-start (bodyStart s (bodyOf owner)) (listsOf st .locals) (h .starts));
+        place = orderly (tablesIn s) (good-file s e) .enters (bodyOf owner) (bodyStart (bodiesIn s) (bodyOf owner), listsOf st .locals) (h .starts);
+        forced = subst (Forced (read s) (bodyOf owner) (bodyStart (bodiesIn s) (bodyOf owner))) (sym (lists-of st (h .bare))) (at-start (bodyStart (bodiesIn s) (bodyOf owner)) (listsOf st .locals) (h .starts));
       };
     })
 
 -- what goes on from the start's record is the body, started
-started-by : (s table room marks : List ℕ) (b : Body) (p : ℕ) (st : List ℕ) → Seeded s b st → p ≡ bodyStart s b → GoesIn s table room marks b ((p, listsOf st) ∷ []) → Started s table room marks b
+started-by : (s table room marks : List ℕ) (b : Body) (p : ℕ) (st : List ℕ) → Seeded s b st → p ≡ bodyStart (bodiesIn s) b → GoesIn s table room marks b ((p, listsOf st) ∷ []) → Started s table room marks b
 started-by s table room marks b p st h q g p′ ts e =
-    let z : _≡_ {A = ℕ × List Ty} (bodyStart s b, listsOf st .locals) (p′, ts) = some-inj (bodyStart s b, listsOf st .locals) (p′, ts) (sym (h .starts) ∙ e) in
+    let z : _≡_ {A = ℕ × List Ty} (bodyStart (bodiesIn s) b, listsOf st .locals) (p′, ts) = some-inj (bodyStart (bodiesIn s) b, listsOf st .locals) (p′, ts) (sym (h .starts) ∙ e) in
     subst (λ (x : ℕ × List Ty). GoesIn s table room marks b ((x .0, lists (x .1) []) ∷ [])) z
-    (subst (λ (l : Lists). GoesIn s table room marks b ((bodyStart s b, l) ∷ [])) (lists-of st (h .bare)) (subst (λ (x : ℕ). GoesIn s table room marks b ((x, listsOf st) ∷ [])) q g))
+    (subst (λ (l : Lists). GoesIn s table room marks b ((bodyStart (bodiesIn s) b, l) ∷ [])) (lists-of st (h .bare)) (subst (λ (x : ℕ). GoesIn s table room marks b ((x, listsOf st) ∷ [])) q g))
 
-module _ (s table : List ℕ) (b : Body) (p : ℕ) (st : List ℕ) (h : Seeded s b st) (start-is : p ≡ bodyStart s b) (room marks room₁ marks₁ : List ℕ) where
+module _ (s table : List ℕ) (b : Body) (p : ℕ) (st : List ℕ) (h : Seeded s b st) (start-is : p ≡ bodyStart (bodiesIn s) b) (room marks room₁ marks₁ : List ℕ) where
   pub begin-breaks : Turned s table b p (listsOf st) ((p, listsOf st) ∷ []) room marks room₁ marks₁ Breaks → Left s table b room marks room₁ marks₁ false (Started s table room₁ marks₁ b)
   begin-breaks t = record { grows = t .grows; sound = t .sound; done = λ z. false-true z; refuted = λ z. t .turn }
 
@@ -119,7 +120,7 @@ module _ (s : List ℕ) (c : Sections) (table room₀ marks₀ : List ℕ) (pack
         packed = packed;
         readable = e;
         tabled = t;
-        has = subst (Has s) (sym (is-entry 0xffffffff refl)) tt;
+        has = subst (Has (bodiesIn s)) (sym (is-entry 0xffffffff refl)) tt;
         fits = fits;
         sound = let z : countOf marks₀ ≡ 0 = h 512 in
             let d : doneOf marks₀ ≡ 0 = h 513 in
@@ -157,7 +158,7 @@ module _ (s : List ℕ) (c : Sections) (table room₀ marks₀ : List ℕ) (pack
   module _ (i : ℕ) (room marks : List ℕ) (d : Judging s table room₀ marks₀ i room marks) where
     module _ (l : i < functions s) where
       not-entry : i ≡ 0xffffffff → ⊥
-      not-entry z = let h : functions s ≤ 128 = few-functions s e in omega arith
+      not-entry z = omega (arith, few-functions s e, function-count s e)
 
       function-is : bodyOf i ≡ fn i
       function-is = is-function i not-entry
@@ -168,7 +169,7 @@ module _ (s : List ℕ) (c : Sections) (table room₀ marks₀ : List ℕ) (pack
             packed = packed;
             readable = e;
             tabled = t;
-            has = subst (Has s) (sym function-is) l;
+            has = subst (Has (bodiesIn s)) (sym function-is) (omega (arith, function-count s e));
             fits = fits-grows (labels s) room₀ marks₀ room marks fits (d .grows);
             sound = sound-for s table room marks entry (bodyOf i) (d .sound) (d .quiet);
           }
@@ -200,20 +201,20 @@ module _ (s : List ℕ) (c : Sections) (table room₀ marks₀ : List ℕ) (pack
               grows = grows-trans (labels s) room₀ marks₀ room marks room′ marks′ (d .grows) (x .grows);
               decides = (
                 first-function s i l (typed s table e t room marks entry (d .sound) (d .quiet) entry tt (d .started entry tt))
-                    (λ k h. typed s table e t room marks entry (d .sound) (d .quiet) (fn k) (omega arith) (d .started (fn k) h))
+                    (λ k h. typed s table e t room marks entry (d .sound) (d .quiet) (fn k) (omega (arith, function-count s e)) (d .started (fn k) h))
                     (untyped s (fn i) (subst (λ (b : Body). Refuted s b) function-is (x .refuted refl)))
                     ∙ ap some (sym function-is),
                 ap bodyNumber function-is,
-                let h : functions s ≤ 128 = few-functions s e in omega arith,
+                omega (arith, few-functions s e, function-count s e),
               );
             }
 
     pub all-settled : functions s ≤ i → VerdictIs s table room₀ marks₀ room marks AllTyped
     all-settled l = record { grows = d .grows; decides = (d .sound, d .quiet, λ b h. d .started b (before b h)) }
       where
-        before : (b : Body) → Has s b → Before i b
+        before : (b : Body) → Has (bodiesIn s) b → Before i b
         before entry h = tt
-        before (fn k) h = omega arith
+        before (fn k) h = omega (arith, function-count s e)
 
 -- the verdict on what was left before
 pub verdict-after : (s table room marks room₁ marks₁ room₂ marks₂ : List ℕ) (v : Verdict) → Grows (labels s) room marks room₁ marks₁ → VerdictIs s table room₁ marks₁ room₂ marks₂ v

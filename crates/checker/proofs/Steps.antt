@@ -9,9 +9,11 @@ use lib.ListN.{length, drop, take, length-drop}
 use lib.Seq.{getD-drop, drop-drop, take-all}
 use borrow.Author.Tests.{le-leb, lt-leb, eq-eqb, ne-eqb}
 use Rattle.rules.specs.declared.Instruction.{Instruction}
+use Rattle.reader.proofs.Records.{code-length}
 use Rattle.rules.specs.Bytes.{byte, number, word}
 use Rattle.rules.specs.Instructions.{edition3, opcodeOf, isAbsent, instructionOf, size}
-use Rattle.rules.specs.ModuleFile.{refusal, codeLength, Body, Module, bodyOf, bodyEnd, read}
+use Rattle.rules.specs.Tables.{Body, Module, bodyOf, bodyEnd, moduleOf}
+use Rattle.rules.specs.ModuleFile.{refusal, read, bodiesIn, tablesIn, codeIn}
 use Rattle.rules.specs.Typing.{judge, placeFlow}
 use Rattle.format.specs.declared.Sections.{Sections}
 use Rattle.format.specs.Layout.{Packed}
@@ -19,6 +21,7 @@ use Rattle.reader.proofs.Table.{code-at}
 use Rattle.soundness.specs.Tests.{some-inj}
 use Rattle.soundness.specs.Exact.{After as Behind}
 use Rattle.soundness.specs.Readable.{Has, orderly, has-end, place-inside}
+use Rattle.soundness.specs.Cutting.{good-file}
 use Rattle.keys.specs.Keys.{Says}
 use Rattle.keys.proofs.Places.{says-known, says-key}
 use Rattle.records.specs.Record.{listsOf, Holds, bounded, Leads}
@@ -54,23 +57,23 @@ module _ (s : List ℕ) (c : Sections) (packed : Packed s c) (code : List ℕ) (
       let z : c .code + (q + 1) ≡ c .code + q + 1 = omega arith in
       ap (λ (x : List ℕ). number (take 4 (drop (q + 1) x))) is ∙ ap (λ (x : List ℕ). number (take 4 x)) (drop-drop (q + 1) (c .code) s) ∙ ap (λ (n : ℕ). number (take 4 (drop n s))) z
 
-  module _ (e : refusal s ≡ 0) (owner : ℕ) (has : Has s (bodyOf owner)) (p : ℕ) (place : read s .isPlace (bodyOf owner) p ≡ true) (before : p < bodyEnd s (bodyOf owner)) where
+  module _ (e : refusal s ≡ 0) (owner : ℕ) (has : Has (bodiesIn s) (bodyOf owner)) (p : ℕ) (place : read s .isPlace (bodyOf owner) p ≡ true) (before : p < bodyEnd (bodiesIn s) (bodyOf owner)) where
     abbrev end : ℕ
-    end = bodyEnd s (bodyOf owner)
+    end = bodyEnd (bodiesIn s) (bodyOf owner)
 
     here : (i : Instruction) × (read s .code p ≡ some i) × (read s .isPlace (bodyOf owner) (p + size i) ≡ true)
-    here = orderly s e .goes-on (bodyOf owner) end p (has-end s e (bodyOf owner) has) place before
+    here = orderly (tablesIn s) (good-file s e) .goes-on (bodyOf owner) end p (has-end (tablesIn s) (good-file s e) (bodyOf owner) has) place before
 
     says : Says code p (here .0)
-    unfolding read
+    unfolding moduleOf
     says =
         record {
           is = ap (λ (x : ℕ). instructionOf (opcodeOf edition3 x) (word 4 code (p + 1))) (byte-is p) ∙ ap (instructionOf (opcodeOf edition3 (byte s (c .code + p)))) (word-is p)
               ∙ code-at s c packed p ∙ here .1;
-          whole = let x = place-inside s e (bodyOf owner) (p + size (here .0)) has (here .2) in
+          whole = let x = place-inside (tablesIn s) (good-file s e) (bodyOf owner) (p + size (here .0)) has (here .2) in
               let y : p + size (here .0) ≤ end = x .1 in
-              let z : end ≤ codeLength s = x .2 in
-              let u : c .extent ≡ codeLength s = packed .extent-is in
+              let z : end ≤ length (codeIn s) = x .2 in
+              let u : length (codeIn s) ≡ c .extent = code-length s c packed in
               let l : length code ≡ c .extent = code-long in omega arith;
         }
 
@@ -96,16 +99,16 @@ module _ (s : List ℕ) (c : Sections) (packed : Packed s c) (code : List ℕ) (
           let i : Instruction = here .0 in
           let j : Judges (read s) (bodyOf owner) i (p + size i) st a st′ = m i stands-here in
           let w : placeFlow (read s) (bodyOf owner) p (listsOf st) ≡ judge (read s) (bodyOf owner) i (p + size i) (listsOf st .locals) (listsOf st .operands) =
-          rw (has-end s e (bodyOf owner) has, lt-leb end p before, here .1) refl in
+          rw (has-end (tablesIn s) (good-file s e) (bodyOf owner) has, lt-leb end p before, here .1) refl in
           record { flow = ap bounded w ∙ j .flow; leads = after (read s) (bodyOf owner) p (p + size i) (i, here .1, refl) a (j .leads); holds = j .holds }
 
 -- ---- ends
 
-module _ (s : List ℕ) (e : refusal s ≡ 0) (owner : ℕ) (has : Has s (bodyOf owner)) (p : ℕ) (late : bodyEnd s (bodyOf owner) ≤ p) (st : List ℕ) (held : Holds st) where
+module _ (s : List ℕ) (e : refusal s ≡ 0) (owner : ℕ) (has : Has (bodiesIn s) (bodyOf owner)) (p : ℕ) (late : bodyEnd (bodiesIn s) (bodyOf owner) ≤ p) (st : List ℕ) (held : Holds st) where
   pub entry-ends : owner ≡ 0xffffffff → Moved s owner p st Stops st
   unfolding bounded
-  entry-ends z = record { flow = rw (has-end s e (bodyOf owner) has, le-leb (bodyEnd s (bodyOf owner)) p late, eq-eqb owner 0xffffffff z) refl; leads = tt; holds = held }
+  entry-ends z = record { flow = rw (has-end (tablesIn s) (good-file s e) (bodyOf owner) has, le-leb (bodyEnd (bodiesIn s) (bodyOf owner)) p late, eq-eqb owner 0xffffffff z) refl; leads = tt; holds = held }
 
   pub function-ends : (owner ≡ 0xffffffff → ⊥) → Moved s owner p st Breaks st
   unfolding bounded
-  function-ends n = record { flow = rw (has-end s e (bodyOf owner) has, le-leb (bodyEnd s (bodyOf owner)) p late, ne-eqb owner 0xffffffff n) refl; leads = tt; holds = held }
+  function-ends n = record { flow = rw (has-end (tablesIn s) (good-file s e) (bodyOf owner) has, le-leb (bodyEnd (bodiesIn s) (bodyOf owner)) p late, ne-eqb owner 0xffffffff n) refl; leads = tt; holds = held }

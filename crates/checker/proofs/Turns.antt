@@ -4,7 +4,8 @@ use mathlib.Core.Path.{refl}
 use native.Mathlib.Omega.{arith}
 use mathlib.Core.Bool.{true, false}
 use mathlib.Core.List.{List, [], _∷_}
-use Rattle.rules.specs.ModuleFile.{labels, Body, bodyOf, bodyEnd}
+use Rattle.rules.specs.Tables.{Body, bodyOf, bodyEnd}
+use Rattle.rules.specs.ModuleFile.{labels, bodiesIn}
 use Rattle.format.specs.declared.Sections.{Sections}
 use Rattle.rules.specs.Typing.{Lists}
 use Rattle.soundness.specs.Walks.{ends, meets, passes}
@@ -17,7 +18,7 @@ use Rattle.checker.proofs.Growth.{grows-refl, grows-trans, fits-grows, 
 
 module _ (s table : List ℕ) (b : Body) (p q : ℕ) (l : Lists) where
   -- the walk goes on at a place that is passed
-  pub passes-on : (room marks : List ℕ) → Sound s table room marks b → p ≤ q → Stands s b q l → Passed table (bodyEnd s b) q
+  pub passes-on : (room marks : List ℕ) → Sound s table room marks b → p ≤ q → Stands s b q l → Passed table (bodyEnd (bodiesIn s) b) q
       → Turned s table b p l ((q, l) ∷ []) room marks room marks (On q)
   passes-on room marks w h st u =
       record {

@@ -1,5 +1,5 @@
 -- The check's answer and its room, from the verdict and the last pass.
-use Prim.Native.Nat.{ℕ, zero, suc, _+_, _*_, _-_, _≤_, _<_}
+use Prim.Native.Nat.{ℕ, zero, suc, _+_, _*_, _≤_, _<_}
 use mathlib.Core.Path.{_≡_, refl, ap, _∙_, sym}
 use mathlib.Core.Logic.{_⊎_, inl, inr}
 use native.Mathlib.Omega.{arith}
@@ -9,7 +9,8 @@ use lib.ListN.{length, take, drop, replicate, length-replicate, take-append-drop
 use lib.Seq.{paste, take-add}
 use lib.Dec.{ltb}
 use Rattle.rules.specs.Bytes.{zeros}
-use Rattle.rules.specs.ModuleFile.{refusal, labels, functions, Body, entry, fn, bodyOf, read}
+use Rattle.rules.specs.Tables.{Body, entry, fn, bodyOf}
+use Rattle.rules.specs.ModuleFile.{refusal, labels, functions, read, bodiesIn, tablesIn}
 use Rattle.rules.specs.Check.{bodies, firstUntyped, labelRecord, labelRecords}
 use Rattle.rules.specs.declared.CheckAnswer.{CheckAnswer}
 use Rattle.rules.specs.declared.CheckAnswer.the-variants.{Refused, Untyped, Accepted}
@@ -23,6 +24,7 @@ use Rattle.reader.proofs.Opening.{opened-refused}
 use Rattle.soundness.specs.Tests.{decide, ltb-isnt, ltb-yes, ltb-no}
 use Rattle.soundness.specs.Whole.{demand3}
 use Rattle.soundness.specs.Readable.{Has, label-is}
+use Rattle.soundness.specs.Cutting.{function-count, good-file}
 use Rattle.checker.specs.declared.bodies.Verdict.the-variants.{Typed as AllTyped, Untyped as NotTyped}
 use Rattle.nodes.specs.Nodes.{ownerOf, placeOf, Tabled, recordOf, Fits, Finished}
 use Rattle.nodes.proofs.Copies.{cleared}
@@ -77,14 +79,14 @@ module _ (s : List ℕ) (e : refusal s ≡ 0) (room : List ℕ) where
       let r : room′ ≡ labelRecords (read s) (labels s) ++ drop (64 * labels s) room =
       sym (take-append-drop (64 * labels s) room′) ∙ ap (λ (x : List ℕ). x ++ drop (64 * labels s) room′) recs
       ∙ ap (λ (x : List ℕ). labelRecords (read s) (labels s) ++ x) (f .rest ∙ v .grows .rest) in
-      ap (checked Accepted) r ∙ judged-check h none (all-typed s (found entry tt) (λ i l. found (fn i) l))
+      ap (checked Accepted) r ∙ judged-check h none (all-typed s (found entry tt) (λ i l. found (fn i) (omega (arith, function-count s e))))
     where
-      found : (b : Body) → Has s b → Typed s b
+      found : (b : Body) → Has (bodiesIn s) b → Typed s b
       found b has = typed s table e t room₁ marks₁ entry (v .decides .0) (v .decides .1) b has (v .decides .2 b has)
 
       each : (k : ℕ) → k < labels s → recordOf room′ k ≡ labelRecord (read s) (read s .label k)
       each k l =
-          let has : Has s (ownerOf s k) = label-is s e k (ownerOf s k) (placeOf s k) (label-at s k l) .1 .0 in
+          let has : Has (bodiesIn s) (ownerOf s k) = label-is (tablesIn s) (good-file s e) k (ownerOf s k) (placeOf s k) (label-at s e k l) .1 .0 in
           f .shown k (omega arith) l
           ∙ shown-is s table e t room₁ marks₁ entry (v .decides .0) (v .decides .1) (ownerOf s k) has (v .decides .2 (ownerOf s k) has) k l refl
 

@@ -9,9 +9,11 @@ use mathlib.Core.List.{List, [], _∷_}
 use lib.ListN.{length, take, drop}
 use lib.Dec.{leb, eqb}
 use Rattle.rules.specs.declared.Instruction.{Instruction}
+use Rattle.reader.proofs.Records.{code-length}
 use Rattle.rules.specs.Bytes.{word}
 use Rattle.rules.specs.Instructions.{size}
-use Rattle.rules.specs.ModuleFile.{refusal, labels, codeLength, Body, entry, fn, bodyOf, bodyStart, bodyEnd, read}
+use Rattle.rules.specs.Tables.{Body, entry, fn, bodyOf, bodyStart, bodyEnd}
+use Rattle.rules.specs.ModuleFile.{refusal, labels, read, bodiesIn, tablesIn, codeIn}
 use Rattle.format.specs.declared.Sections.{Sections}
 use Rattle.rules.specs.Typing.{Lists, Flow, AllNext, Flows, Gives, endOf, endFlow, placeFlow}
 use Rattle.rules.specs.Check.{small}
@@ -19,6 +21,7 @@ use Rattle.soundness.specs.Tests.{decide, none-some, some-inj, false-true, and-
 use Rattle.soundness.specs.Exact.{After as Behind}
 use Rattle.soundness.specs.Forced.{along, forced-given}
 use Rattle.soundness.specs.Readable.{Has, orderly, has-end, place-inside}
+use Rattle.soundness.specs.Cutting.{good-file}
 use Rattle.soundness.specs.Walks.{ends, size-some}
 use Rattle.keys.specs.Keys.{fetched}
 use Rattle.keys.specs.declared.Fetched.the-variants.{Key, End}
@@ -58,9 +61,9 @@ module _ (s table : List ℕ) (owner : ℕ) where
     pub rest : (room′ marks′ : List ℕ) → Grows (labels s) room marks room′ marks′
         → WalkedIn s table room′ marks′ (bodyOf owner) p (listsOf st) → WalkedIn s table room′ marks′ (bodyOf owner) p₀ (listsOf st₀)
 
-module _ (s table : List ℕ) (e : refusal s ≡ 0) (owner : ℕ) (has : Has s (bodyOf owner)) where
-  ended : endOf (read s) (bodyOf owner) ≡ some (bodyEnd s (bodyOf owner))
-  ended = has-end s e (bodyOf owner) has
+module _ (s table : List ℕ) (e : refusal s ≡ 0) (owner : ℕ) (has : Has (bodiesIn s) (bodyOf owner)) where
+  ended : endOf (read s) (bodyOf owner) ≡ some (bodyEnd (bodiesIn s) (bodyOf owner))
+  ended = has-end (tablesIn s) (good-file s e) (bodyOf owner) has
 
   flow-is : (p : ℕ) (st : List ℕ) (a : Transfer) (st′ : List ℕ) → Moved s owner p st a st′ → Leads a → placeFlow (read s) (bodyOf owner) p (listsOf st) ≡ some (targets a (listsOf st′))
   flow-is p st a st′ m h = whole-flow (placeFlow (read s) (bodyOf owner) p (listsOf st)) (targets a (listsOf st′)) (m .flow ∙ flow-live a (listsOf st′) h)
@@ -84,23 +87,23 @@ module _ (s table : List ℕ) (e : refusal s ≡ 0) (owner : ℕ) (has : Has s (
 
   -- ---- the places that follow
 
-  inside : (p : ℕ) (l : Lists) (x : ℕ × Lists) (ns : List (ℕ × Lists)) → placeFlow (read s) (bodyOf owner) p l ≡ some (x ∷ ns) → p < bodyEnd s (bodyOf owner)
-  inside p l x ns q = decide (leb (bodyEnd s (bodyOf owner)) p) (λ y. absurd (at-end (bodyOf owner) (rw (ended, y) at q))) (λ y. leb-isnt (bodyEnd s (bodyOf owner)) p y)
+  inside : (p : ℕ) (l : Lists) (x : ℕ × Lists) (ns : List (ℕ × Lists)) → placeFlow (read s) (bodyOf owner) p l ≡ some (x ∷ ns) → p < bodyEnd (bodiesIn s) (bodyOf owner)
+  inside p l x ns q = decide (leb (bodyEnd (bodiesIn s) (bodyOf owner)) p) (λ y. absurd (at-end (bodyOf owner) (rw (ended, y) at q))) (λ y. leb-isnt (bodyEnd (bodiesIn s) (bodyOf owner)) p y)
     where
       at-end : (d : Body) → endFlow d ≡ some (x ∷ ns) → ⊥
       at-end entry z = let k : _≡_ {A = ℕ} 0 1 = cc in omega arith
       at-end (fn k) z = none-some z
 
-  next-stands : (p q : ℕ) → read s .isPlace (bodyOf owner) p ≡ true → p < bodyEnd s (bodyOf owner) → Behind (read s) (bodyOf owner) p q → (p + 1 ≤ q) × (read s .isPlace (bodyOf owner) q ≡ true)
+  next-stands : (p q : ℕ) → read s .isPlace (bodyOf owner) p ≡ true → p < bodyEnd (bodiesIn s) (bodyOf owner) → Behind (read s) (bodyOf owner) p q → (p + 1 ≤ q) × (read s .isPlace (bodyOf owner) q ≡ true)
   next-stands p q h l n =
-      let x : (i : Instruction) × (read s .code p ≡ some i) × (read s .isPlace (bodyOf owner) (p + size i) ≡ true) = orderly s e .goes-on (bodyOf owner) (bodyEnd s (bodyOf owner)) p ended h l in
+      let x : (i : Instruction) × (read s .code p ≡ some i) × (read s .isPlace (bodyOf owner) (p + size i) ≡ true) = orderly (tablesIn s) (good-file s e) .goes-on (bodyOf owner) (bodyEnd (bodiesIn s) (bodyOf owner)) p ended h l in
       let z : x .0 ≡ n .0 = some-inj (x .0) (n .0) (sym (x .1) ∙ n .1) in
       let y : q ≡ p + size (n .0) = n .2 in
       let o : 0 < size (n .0) = size-some (n .0) in
       (omega arith, subst (λ (k : ℕ). read s .isPlace (bodyOf owner) k ≡ true) (ap (λ (i : Instruction). p + size i) z ∙ sym y) (x .2))
 
   label-stands : (x : ℕ) → Labelled (read s) (bodyOf owner) x → read s .isPlace (bodyOf owner) x ≡ true
-  label-stands x n = orderly s e .lands (n .0) (bodyOf owner) x (n .1)
+  label-stands x n = orderly (tablesIn s) (good-file s e) .lands (n .0) (bodyOf owner) x (n .1)
 
   pub heads : (p : ℕ) (st : List ℕ) (a : Transfer) (st′ : List ℕ) → Stands s (bodyOf owner) p (listsOf st) → Moved s owner p st a st′ → Heads s (bodyOf owner) (p + 1) (listsOf st′) a
   heads p st Transfer.Breaks st′ at m = breaks p st st′ at m
@@ -139,7 +142,7 @@ module _ (s table : List ℕ) (e : refusal s ≡ 0) (owner : ℕ) (has : Has s (
   walk-first p st room marks w h at = record { grows = grows-refl (labels s) room marks; sound = w; holds = h; stands = at; rest = λ room′ marks′ g x. x }
 
   -- at the body's end
-  pub walk-ended : (p₀ : ℕ) (st₀ room₀ marks₀ : List ℕ) (p : ℕ) (st room marks : List ℕ) → Walking s table owner p₀ st₀ room₀ marks₀ p st room marks → bodyEnd s (bodyOf owner) ≤ p
+  pub walk-ended : (p₀ : ℕ) (st₀ room₀ marks₀ : List ℕ) (p : ℕ) (st room marks : List ℕ) → Walking s table owner p₀ st₀ room₀ marks₀ p st room marks → bodyEnd (bodiesIn s) (bodyOf owner) ≤ p
       → Left s table (bodyOf owner) room₀ marks₀ room marks (eqb owner 0xffffffff) (WalkedIn s table room marks (bodyOf owner) p₀ (listsOf st₀))
   walk-ended p₀ st₀ room₀ marks₀ p st room marks w h =
       record {
@@ -183,13 +186,13 @@ module _ (s table : List ℕ) (e : refusal s ≡ 0) (owner : ℕ) (has : Has s (
 
 -- ---- as the code asks it
 
-module _ (s : List ℕ) (c : Sections) (table : List ℕ) (owner : ℕ) (room₀ marks₀ : List ℕ) (w : Working s c table owner room₀ marks₀) (e : ℕ) (end-is : e ≡ bodyEnd s (bodyOf owner)) where
+module _ (s : List ℕ) (c : Sections) (table : List ℕ) (owner : ℕ) (room₀ marks₀ : List ℕ) (w : Working s c table owner room₀ marks₀) (e : ℕ) (end-is : e ≡ bodyEnd (bodiesIn s) (bodyOf owner)) where
   pub walk-bounds : (p : ℕ) (l : Lists) → Stands s (bodyOf owner) p l → (p ≤ e) × (e ≤ c .extent)
   walk-bounds p l h =
-      let x : (bodyStart s (bodyOf owner) ≤ p) × (p ≤ bodyEnd s (bodyOf owner)) × (bodyEnd s (bodyOf owner) ≤ codeLength s) = place-inside s (w .readable) (bodyOf owner) p (w .has) (h .place) in
-      let a : p ≤ bodyEnd s (bodyOf owner) = x .1 in
-      let b : bodyEnd s (bodyOf owner) ≤ codeLength s = x .2 in
-      let d : c .extent ≡ codeLength s = w .packed .extent-is in
+      let x : (bodyStart (bodiesIn s) (bodyOf owner) ≤ p) × (p ≤ bodyEnd (bodiesIn s) (bodyOf owner)) × (bodyEnd (bodiesIn s) (bodyOf owner) ≤ length (codeIn s)) = place-inside (tablesIn s) (good-file s (w .readable)) (bodyOf owner) p (w .has) (h .place) in
+      let a : p ≤ bodyEnd (bodiesIn s) (bodyOf owner) = x .1 in
+      let b : bodyEnd (bodiesIn s) (bodyOf owner) ≤ length (codeIn s) = x .2 in
+      let d : length (codeIn s) ≡ c .extent = code-length s c (w .packed) in
       (omega arith, omega arith)
 
   pub walk-less : (p q : ℕ) (l : Lists) → p + 1 ≤ q → Stands s (bodyOf owner) q l → e - q < e - p
@@ -204,11 +207,11 @@ module _ (s : List ℕ) (c : Sections) (table : List ℕ) (owner : ℕ) (room₀
     pub fetch-fits : e ≤ length code
     fetch-fits = let x : e ≤ c .extent = walk-bounds p l at .1 in let y : length code ≡ c .extent = code-long s c (w .packed) code (code-part s (c .code)) in omega arith
 
-    pub fetched-late : fetched code p e ≡ End → bodyEnd s (bodyOf owner) ≤ p
+    pub fetched-late : fetched code p e ≡ End → bodyEnd (bodiesIn s) (bodyOf owner) ≤ p
     fetched-late q = let x : e ≤ p = at-end code p e q in omega arith
 
     module _ (b : ℕ) (key : fetched code p e ≡ Key b) where
-      early : p < bodyEnd s (bodyOf owner)
+      early : p < bodyEnd (bodiesIn s) (bodyOf owner)
       early = let x : p < e = at-key code p e b key .0 in omega arith
 
       pub fetched-key : KeyAt code p b

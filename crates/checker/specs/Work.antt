@@ -7,7 +7,8 @@ use mathlib.Core.Option.{some}
 use mathlib.Core.List.{List, [], _∷_}
 use lib.ListN.{length, getD, drop}
 use Rattle.rules.specs.Instructions.{Ty}
-use Rattle.rules.specs.ModuleFile.{labels, functions, refusal, Body, entry, Module, bodyOf, bodyNumber, bodyEnd, read}
+use Rattle.rules.specs.Tables.{Body, entry, Module, bodyOf, bodyNumber, bodyEnd}
+use Rattle.rules.specs.ModuleFile.{labels, functions, refusal, read, bodiesIn}
 use Rattle.rules.specs.Typing.{Lists, lists, Typing, Consistent, WellTyped, startOf, placeFlow}
 use Rattle.rules.specs.Demand3.{FirstUntyped}
 use Rattle.rules.specs.Check.{bodies, firstUntyped}
@@ -43,17 +44,17 @@ pub record Grows (n : ℕ) (room marks room′ marks′ : List ℕ) : Type 0 whe
 -- the node at place q of the body has these lists
 abbrev pub Recorded : List ℕ → List ℕ → List ℕ → List ℕ → Body → ℕ → Lists → Type 0
 Recorded s table room marks b q l =
-    (read s .isPlace b q ≡ true) × (q < bodyEnd s b) × (k : ℕ) × (getD table q 0 ≡ suc k) × (0 < markOf marks k) × (listsOf (recordOf room k) ≡ l)
+    (read s .isPlace b q ≡ true) × (q < bodyEnd (bodiesIn s) b) × (k : ℕ) × (getD table q 0 ≡ suc k) × (0 < markOf marks k) × (listsOf (recordOf room k) ≡ l)
 
 -- q is no node of a body that ends at e, where the next body may have one
 abbrev pub Passed : List ℕ → ℕ → ℕ → Type 0
 Passed table e q = (q ≡ e) ⊎ (getD table q 0 ≡ 0)
 
 abbrev pub WalkedIn : List ℕ → List ℕ → List ℕ → List ℕ → Body → ℕ → Lists → Type 0
-WalkedIn s table room marks b = Walked (read s) b (Passed table (bodyEnd s b)) (Recorded s table room marks b)
+WalkedIn s table room marks b = Walked (read s) b (Passed table (bodyEnd (bodiesIn s) b)) (Recorded s table room marks b)
 
 abbrev pub GoesIn : List ℕ → List ℕ → List ℕ → List ℕ → Body → List (ℕ × Lists) → Type 0
-GoesIn s table room marks b = Goes (read s) b (Passed table (bodyEnd s b)) (Recorded s table room marks b)
+GoesIn s table room marks b = Goes (read s) b (Passed table (bodyEnd (bodiesIn s) b)) (Recorded s table room marks b)
 
 -- node k was walked from
 abbrev pub WalkedNode : List ℕ → List ℕ → List ℕ → List ℕ → ℕ → Type 0
@@ -78,7 +79,7 @@ pub record Working (s : List ℕ) (c : Sections) (table : List ℕ) (owner : ℕ
   pub packed : Packed s c
   pub readable : refusal s ≡ 0
   pub tabled : Tabled s table
-  pub has : Has s (bodyOf owner)
+  pub has : Has (bodiesIn s) (bodyOf owner)
   pub fits : Fits (labels s) room marks
   pub sound : Sound s table room marks (bodyOf owner)
 
@@ -156,7 +157,7 @@ abbrev pub TurnIs : List ℕ → List ℕ → Body → ℕ → Lists → List (�
 TurnIs s table b p l ns room marks Breaks = Refuted s b
 TurnIs s table b p l ns room marks Ends = GoesIn s table room marks b ns
 TurnIs s table b p l ns room marks (On q) =
-    (p ≤ q) × Stands s b q l × Passed table (bodyEnd s b) q
+    (p ≤ q) × Stands s b q l × Passed table (bodyEnd (bodiesIn s) b) q
     × ((room′ marks′ : List ℕ) → Grows (labels s) room marks room′ marks′ → WalkedIn s table room′ marks′ b q l → GoesIn s table room′ marks′ b ns)
 
 pub record Turned (s table : List ℕ) (b : Body) (p : ℕ) (l : Lists) (ns : List (ℕ × Lists)) (room marks room′ marks′ : List ℕ) (t : Turn) : Type 0 where
@@ -181,7 +182,7 @@ TurnLeads a (On q) = Leads a
 
 -- every body is started and no node waits; or this body is the first without typing
 abbrev pub Decides : List ℕ → List ℕ → List ℕ → List ℕ → Verdict → Type 0
-Decides s table room marks Verdict.Typed = Sound s table room marks entry × Quiet marks × ((b : Body) → Has s b → Started s table room marks b)
+Decides s table room marks Verdict.Typed = Sound s table room marks entry × Quiet marks × ((b : Body) → Has (bodiesIn s) b → Started s table room marks b)
 Decides s table room marks (Verdict.Untyped o) = (firstUntyped (read s) (bodies (functions s)) ≡ some (bodyOf o)) × (bodyNumber (bodyOf o) ≡ o) × (o < 2 ^ 32)
 
 pub record VerdictIs (s table room marks room′ marks′ : List ℕ) (v : Verdict) : Type 0 where

@@ -2,7 +2,8 @@
 ghost use mathlib.Core.Path.{_≡_};
 ghost use Prim.Native.Nat.{_+_};
 ghost use lib.ListN.{length};
-ghost use Rattle.rules.specs.ModuleFile.{labels, bodyOf, refusal};
+ghost use Rattle.rules.specs.Tables.{bodyOf};
+ghost use Rattle.rules.specs.ModuleFile.{labels, refusal};
 ghost use Rattle.format.specs.Layout.{Packed};
 ghost use Rattle.reader.specs.Cut.{Blank};
 ghost use Rattle.nodes.specs.Nodes.{doneOf, Tabled, Fits, Seeded};

@@ -3,7 +3,8 @@ ghost use mathlib.Core.Path.{_≡_};
 ghost use Prim.Native.Nat.{_<_};
 ghost use mathlib.Core.List.{[], _∷_};
 ghost use lib.ListN.{getD};
-ghost use Rattle.rules.specs.ModuleFile.{bodyOf, bodyEnd, read};
+ghost use Rattle.rules.specs.Tables.{bodyOf, bodyEnd};
+ghost use Rattle.rules.specs.ModuleFile.{read, bodiesIn};
 ghost use Rattle.records.specs.Record.{listsOf, Holds, Labelled};
 ghost use Rattle.nodes.specs.Nodes.{doneOf};
 ghost use Rattle.checker.specs.Work.{Working, Standing, Recorded, WalkedIn, Left, Heads, targets, Turned, TurnLeads};
@@ -35,7 +36,7 @@ fn arrive(
 ) -> bool
     requires { ⌜ Working (now file) c (now table) owner (now room) (now marks) ⌝ }
     requires { ⌜ Standing (now file) owner q (now st) ⌝ }
-    requires { ⌜ (q < bodyEnd (now file) (bodyOf owner)) × (v ≡ getD (now table) q 0) × (0 < v) ⌝ }
+    requires { ⌜ (q < bodyEnd (bodiesIn (now file)) (bodyOf owner)) × (v ≡ getD (now table) q 0) × (0 < v) ⌝ }
     ensures { λ r. ⌜ Left (now (file .entry)) (now (table .entry)) (bodyOf owner) (now (room .entry)) (now (marks .entry)) (now (room .exit)) (now (marks .exit)) r (Recorded (now (file .entry)) (now (table .entry)) (now (room .exit)) (now (marks .exit)) (bodyOf owner) q (listsOf (now (st .entry)))) ⌝ }
     ensures { λ r. ⌜ doneOf (now (marks .exit)) ≡ doneOf (now (marks .entry)) ⌝ }
 {
@@ -56,7 +57,7 @@ pub(crate) fn land(
 ) -> Turn
     requires { ⌜ Working (now file) c (now table) owner (now room) (now marks) ⌝ }
     requires { ⌜ Standing (now file) owner q (now st) ⌝ }
-    requires { ⌜ e ≡ bodyEnd (now file) (bodyOf owner) ⌝ }
+    requires { ⌜ e ≡ bodyEnd (bodiesIn (now file)) (bodyOf owner) ⌝ }
     ensures { λ r. ⌜ Turned (now (file .entry)) (now (table .entry)) (bodyOf owner) q (listsOf (now (st .entry))) ((q, listsOf (now (st .entry))) ∷ []) (now (room .entry)) (now (marks .entry)) (now (room .exit)) (now (marks .exit)) r ⌝ }
     ensures { λ r. ⌜ doneOf (now (marks .exit)) ≡ doneOf (now (marks .entry)) ⌝ }
 {
@@ -110,7 +111,7 @@ fn follow(
 ) -> Turn
     requires { ⌜ Working (now file) c (now table) owner (now room) (now marks) ⌝ }
     requires { ⌜ Holds (now st) × Heads (now file) (bodyOf owner) p (listsOf (now st)) next ⌝ }
-    requires { ⌜ e ≡ bodyEnd (now file) (bodyOf owner) ⌝ }
+    requires { ⌜ e ≡ bodyEnd (bodiesIn (now file)) (bodyOf owner) ⌝ }
     ensures { λ r. ⌜ Turned (now (file .entry)) (now (table .entry)) (bodyOf owner) p (listsOf (now (st .entry))) (targets next (listsOf (now (st .entry)))) (now (room .entry)) (now (marks .entry)) (now (room .exit)) (now (marks .exit)) r ⌝ }
     ensures { λ r. ⌜ TurnLeads next r ⌝ }
     ensures { λ r. ⌜ doneOf (now (marks .exit)) ≡ doneOf (now (marks .entry)) ⌝ }

@@ -13,7 +13,8 @@ use borrow.Author.Tests.{eq-eqb, ne-eqb, eqb-true, eqb-false}
 use Rattle.rules.specs.declared.Slot.{Slot}
 use Rattle.rules.specs.declared.Condition.{Condition}
 use Rattle.rules.specs.declared.Instruction.the-variants.{Jmp, Branch}
-use Rattle.rules.specs.ModuleFile.{entry, fn, bodyOf, eqBody, Module, read}
+use Rattle.rules.specs.Tables.{entry, fn, bodyOf, eqBody, Module}
+use Rattle.rules.specs.ModuleFile.{read}
 use Rattle.rules.specs.Stack.{slotAt, slotsOf}
 use Rattle.rules.specs.Operations.{holds, low}
 use Rattle.rules.specs.Doubles.{decodeOf}

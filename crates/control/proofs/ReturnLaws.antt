@@ -13,7 +13,8 @@ use Rattle.rules.specs.declared.Num.{Num}
 use Rattle.rules.specs.declared.Instruction.the-variants.{Ret}
 use Rattle.rules.specs.declared.Num.the-variants.{Int as int, Long as long, Double as double}
 use Rattle.rules.specs.Instructions.{numOf, numKind}
-use Rattle.rules.specs.ModuleFile.{functions, functionAt, entry, fn, read}
+use Rattle.rules.specs.Tables.{functionCount, functionAt, entry, fn, moduleOf}
+use Rattle.rules.specs.ModuleFile.{read, functionsIn}
 use Rattle.rules.specs.Stack.{slotAt, slotsOf, under}
 use Rattle.rules.specs.Machine.{execIn, own, leaving}
 use Rattle.reader.specs.declared.entries.FunctionRecord.{FunctionRecord}
@@ -30,12 +31,12 @@ use Rattle.control.specs.Control.{isSome, restoredAt, pastFrame}
 -- ---- the function that returns
 
 -- the entry's number is over every function's
-own-is : (s : List ℕ) → functions s ≤ 128 → (b : ℕ) → own (read s) (bodyIn b) ≡ read s .function b
-unfolding read
+own-is : (s : List ℕ) → functionCount (functionsIn s) ≤ 128 → (b : ℕ) → own (read s) (bodyIn b) ≡ read s .function b
+unfolding moduleOf
 own-is s few b = go (eqb b 65535) refl
   where
     go : (x : Bool) → eqb b 65535 ≡ x → own (read s) (cond x entry (fn b)) ≡ read s .function b
-    go true e = let q : b ≡ 65535 = eqb-true b 65535 e in rw (le-ltb b (functions s) (omega arith)) refl
+    go true e = let q : b ≡ 65535 = eqb-true b 65535 e in rw (le-ltb b (functionCount (functionsIn s)) (omega arith)) refl
     go false e = refl
 
 no-value : (o : Option Num) → isSome o ≡ false → o ≡ none
@@ -119,7 +120,7 @@ module _ (cap : ℕ) (r : Registers) (p t f : List ℕ) (k : Ready cap r p t f) 
 
   -- ---- ret
 
-  module _ (s : List ℕ) (few : functions s ≤ 128) where
+  module _ (s : List ℕ) (few : functionCount (functionsIn s) ≤ 128) where
     abbrev body : ℕ
     body = getD f (r .frame) 0
 
@@ -127,7 +128,7 @@ module _ (cap : ℕ) (r : Registers) (p t f : List ℕ) (k : Ready cap r p t f) 
     unfolding execIn
     ret-30 e = stopping cap r p t f k 30 _ (rw (own-is s few body, e) refl)
 
-    module _ (g : FunctionRecord) (is : functionIn s (functionAt s body) (Record g) ≡ read s .function body) where
+    module _ (g : FunctionRecord) (is : functionIn (functionsIn s) (functionAt body) (Record g) ≡ read s .function body) where
       abbrev x : ℕ
       x = g .result
 

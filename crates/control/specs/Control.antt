@@ -6,7 +6,7 @@ use mathlib.Core.List.{List}
 use lib.ListN.{getD, set}
 use Rattle.rules.specs.declared.Condition.{Condition}
 use Rattle.rules.specs.declared.Instruction.the-variants.{Branch}
-use Rattle.rules.specs.ModuleFile.{Module, Function}
+use Rattle.rules.specs.Tables.{Module, Function}
 use Rattle.rules.specs.Operations.{holds}
 use Rattle.rules.specs.Machine.{State, Next, execIn}
 use Rattle.state.specs.State.{stateOf, movedTo, Ready, Does}

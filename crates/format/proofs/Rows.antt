@@ -6,7 +6,8 @@ use mathlib.Core.Bool.{Bool, true, false, _||_}
 use mathlib.Core.List.{List, [], _∷_, _++_}
 use borrow.Author.Tests.{ltb-false}
 use Rattle.rules.specs.Bytes.{word}
-use Rattle.rules.specs.ModuleFile.{firstOf, short, otherEdition, otherTotal, overLimit, notPacked, differs, functionsAt, labelsAt, codeAt, functions}
+use Rattle.rules.specs.Tables.{firstOf, differs}
+use Rattle.rules.specs.ModuleFile.{short, otherEdition, otherTotal, overLimit, notPacked, functionsAt, labelsAt, codeAt}
 use Rattle.soundness.specs.Tests.{or-neither}
 use Rattle.soundness.specs.Readable.{same-numbers}
 use Rattle.format.specs.Layout.{sectionsOf, headerTests, Packed}

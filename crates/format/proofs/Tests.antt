@@ -3,9 +3,9 @@ use Prim.Native.Nat.{ℕ, _≤_, _<_}
 use mathlib.Core.Path.{_≡_, refl}
 use mathlib.Core.Bool.{Bool, true, false, _&&_, _||_}
 use mathlib.Core.Logic.{_⊎_, inl, inr}
-use lib.Dec.{leb, eqb}
+use lib.Dec.{leb}
 use borrow.Author.Tests.{ne-eqb, leb-true, leb-false}
-use Rattle.rules.specs.ModuleFile.{differs}
+use Rattle.rules.specs.Tables.{differs}
 
 pub split : (a b : ℕ) → (a ≤ b) ⊎ (b < a)
 split a b = go (leb a b) refl

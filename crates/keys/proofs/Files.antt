@@ -9,6 +9,7 @@ use lib.Seq.{getD-drop, drop-drop, take-all}
 use Rattle.rules.specs.declared.Instruction.{Instruction}
 use Rattle.rules.specs.Bytes.{byte, number, word}
 use Rattle.rules.specs.Instructions.{edition3, opcodeOf, instructionOf, size}
+use Rattle.rules.specs.Tables.{moduleOf}
 use Rattle.rules.specs.ModuleFile.{read}
 use Rattle.format.specs.declared.Sections.{Sections}
 use Rattle.format.specs.Layout.{Packed}
@@ -36,7 +37,7 @@ module _ (s : List ℕ) (c : Sections) (packed : Packed s c) (code : List ℕ) (
       ap (λ (x : List ℕ). number (take 4 (drop (q + 1) x))) is ∙ ap (λ (x : List ℕ). number (take 4 x)) (drop-drop (q + 1) (c .code) s) ∙ ap (λ (n : ℕ). number (take 4 (drop n s))) z
 
   pub says-at : (q : ℕ) (i : Instruction) → read s .code q ≡ some i → q + size i ≤ c .extent → Says code q i
-  unfolding read
+  unfolding moduleOf
   says-at q i e l =
       record {
         is =

@@ -10,7 +10,8 @@ use Rattle.rules.specs.declared.RunAnswer.{RunAnswer}
 use Rattle.rules.specs.declared.Slot.{Slot}
 use Rattle.rules.specs.declared.Tally.{Tally}
 use Rattle.rules.specs.Bytes.{zeros}
-use Rattle.rules.specs.ModuleFile.{read, bodyOf}
+use Rattle.rules.specs.Tables.{bodyOf}
+use Rattle.rules.specs.ModuleFile.{read}
 use Rattle.rules.specs.Stack.{Lent, capacity, typeBytes, typesAfter}
 use Rattle.rules.specs.Machine.{Outcome}
 use Rattle.rules.specs.Answers.{check, runRefusal, arguments, answered, outcomeOf, Ran, ran, runModule, runWith}

@@ -9,7 +9,7 @@ use lib.ListN.{length}
 use Rattle.rules.specs.declared.Instruction.{Instruction}
 use Rattle.rules.specs.Bytes.{byte, word, maybe}
 use Rattle.rules.specs.Instructions.{edition3, opcodeOf, instructionOf, size}
-use Rattle.rules.specs.ModuleFile.{Module}
+use Rattle.rules.specs.Tables.{Module}
 use Rattle.rules.specs.Machine.{Next, stops, execIn, step}
 use Rattle.soundness.specs.Tests.{some-inj}
 use Rattle.keys.specs.Keys.{Says, Known, Outside}

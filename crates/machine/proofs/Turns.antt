@@ -12,7 +12,8 @@ use borrow.Author.Tests.{le-leb, lt-leb}
 use Rattle.rules.specs.declared.Instruction.{Instruction}
 use Rattle.rules.specs.Bytes.{byte}
 use Rattle.rules.specs.Instructions.{size}
-use Rattle.rules.specs.ModuleFile.{Module, codeLength, read, refusal}
+use Rattle.rules.specs.Tables.{Module}
+use Rattle.rules.specs.ModuleFile.{codeLength, read, refusal}
 use Rattle.rules.specs.Machine.{State, Next, goes, stops, finishes, Outcome, outcome, step, advance, run, endNumber}
 use Rattle.rules.specs.Stack.{slotsOf}
 use Rattle.soundness.specs.Started.{Fit, NextFit}

@@ -5,7 +5,7 @@ use mathlib.Core.Bool.{cond}
 use mathlib.Core.List.{List}
 use lib.ListN.{length, getD, drop}
 use lib.Dec.{eqb}
-use Rattle.rules.specs.ModuleFile.{Module}
+use Rattle.rules.specs.Tables.{Module}
 use Rattle.rules.specs.Machine.{State, Outcome, outcome, run}
 use Rattle.rules.specs.Stack.{slotsOf}
 use Rattle.soundness.specs.Started.{Fit}

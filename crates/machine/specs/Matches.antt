@@ -6,7 +6,7 @@ use mathlib.Core.List.{List, [], _∷_}
 use Rattle.rules.specs.declared.Instruction.{Instruction}
 use Rattle.rules.specs.Bytes.{byte}
 use Rattle.rules.specs.Instructions.{edition3, opcodeOf, instructionOf}
-use Rattle.rules.specs.ModuleFile.{Module}
+use Rattle.rules.specs.Tables.{Module}
 use Rattle.rules.specs.Machine.{execIn}
 use Rattle.keys.specs.Keys.{Says, Known, Outside, each}
 use Rattle.state.specs.State.{stateOf, Acts, DoesOrLacks}

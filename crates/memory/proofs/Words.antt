@@ -67,6 +67,13 @@ put n s at v h =
     ∙ append-assoc (take at s) (bytes n v) (drop (at + length (bytes n v)) s)
     ∙ ap (λ (k : ℕ). take at s ++ (bytes n v ++ drop (at + k) s)) (length-bytes n v)
 
+pub put-4 : (s : List ℕ) (at v : ℕ) → at + 4 ≤ length s
+    → set (set (set (set s at (v % 256)) (at + 1) (v / 256 % 256)) (at + 2) (v / 65536 % 256)) (at + 3) (v / 16777216 % 256) ≡ written 4 s at v
+put-4 s at v h =
+    let a : v / 256 / 256 ≡ v / 65536 = omega arith in
+    let b : v / 65536 / 256 ≡ v / 16777216 = omega arith in
+    rw (add-one, add-two, add-three) (rw (a, b) at (put 4 s at v h))
+
 pub put-8 : (s : List ℕ) (at v : ℕ) → at + 8 ≤ length s
     → set (set (set (set (set (set (set (set s at (v % 256)) (at + 1) (v / 256 % 256)) (at + 2) (v / 65536 % 256)) (at + 3) (v / 16777216 % 256))
     (at + 4) (v / 4294967296 % 256)) (at + 5) (v / 1099511627776 % 256)) (at + 6) (v / 281474976710656 % 256)) (at + 7) (v / 72057594037927936 % 256)
@@ -82,7 +89,7 @@ put-8 s at v h =
 
 -- ---- a number that was stored is read back, and others are kept
 
-number-bytes : (n v : ℕ) → v < 256 ^ n → number (bytes n v) ≡ v
+pub number-bytes : (n v : ℕ) → v < 256 ^ n → number (bytes n v) ≡ v
 number-bytes zero v h = omega (arith, h)
 number-bytes (suc n) v h =
     let q : v / 256 < 256 ^ n = omega (arith, rw pow-suc at h) in

@@ -8,7 +8,7 @@ use lib.ListN.{getD}
 use borrow.Author.Tests.{le-ltb, lt-ltb, eq-eqb, ne-eqb}
 use Rattle.rules.specs.declared.Slot.{Slot}
 use Rattle.rules.specs.declared.Instruction.the-variants.{Push, Load, Store, Lea}
-use Rattle.rules.specs.ModuleFile.{Module}
+use Rattle.rules.specs.Tables.{Module}
 use Rattle.rules.specs.Stack.{slotAt, pointerTo}
 use Rattle.rules.specs.Machine.{execIn}
 use Rattle.state.specs.Slots.{payloadsWith}

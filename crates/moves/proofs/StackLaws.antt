@@ -8,7 +8,7 @@ use Rattle.rules.specs.declared.Slot.{Slot}
 use Rattle.rules.specs.declared.Unary.the-variants.{Pop, Copy}
 use Rattle.rules.specs.declared.Binary.the-variants.{Swap}
 use Rattle.rules.specs.declared.Instruction.the-variants.{One, Two}
-use Rattle.rules.specs.ModuleFile.{Module}
+use Rattle.rules.specs.Tables.{Module}
 use Rattle.rules.specs.Stack.{slotAt, slotsOf}
 use Rattle.rules.specs.Machine.{execIn}
 use Rattle.state.specs.Slots.{payloadsWith, typesWith}

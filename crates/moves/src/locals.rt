@@ -2,7 +2,8 @@
 ghost use Prim.Native.Nat.{_+_, _<_, _≤_};
 ghost use lib.ListN.{length};
 ghost use Rattle.rules.specs.Bytes.{word};
-ghost use Rattle.rules.specs.ModuleFile.{Module, read};
+ghost use Rattle.rules.specs.Tables.{Module};
+ghost use Rattle.rules.specs.ModuleFile.{read};
 ghost use Rattle.rules.specs.Machine.{execIn};
 ghost use Rattle.rules.specs.declared.Instruction.the-variants.{Push, Load, Store, Lea};
 ghost use Rattle.format.specs.Layout.{Packed};

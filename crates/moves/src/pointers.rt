@@ -1,6 +1,6 @@
 // Moves through a pointer: type 7, its payload the number of the slot that it names.
 ghost use Prim.Native.Nat.{_<_};
-ghost use Rattle.rules.specs.ModuleFile.{Module};
+ghost use Rattle.rules.specs.Tables.{Module};
 ghost use Rattle.rules.specs.Machine.{execIn};
 ghost use Rattle.rules.specs.declared.Instruction.the-variants.{Tload, Tstore};
 ghost use Rattle.state.specs.State.{ReadyOn, Acts};

@@ -1,7 +1,7 @@
 // Instructions on the top one or two slots.
 ghost use mathlib.Core.List.{List};
 ghost use Prim.Native.Nat.{ℕ, _<_};
-ghost use Rattle.rules.specs.ModuleFile.{Module};
+ghost use Rattle.rules.specs.Tables.{Module};
 ghost use Rattle.rules.specs.Machine.{execIn};
 ghost use Rattle.rules.specs.declared.Binary.the-variants.{Swap};
 ghost use Rattle.rules.specs.declared.Unary.the-variants.{Pop, Copy};

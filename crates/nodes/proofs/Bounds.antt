@@ -5,11 +5,13 @@ use native.Mathlib.Omega.{arith}
 use mathlib.Core.List.{List}
 use lib.ListN.{length}
 use Rattle.rules.specs.Bytes.{word}
-use Rattle.rules.specs.ModuleFile.{functions, labels, functionAt, functionsAt, labelsAt, entry, fn, bodyOf, bodyStart, bodyEnd}
+use Rattle.rules.specs.Tables.{functionCount, functionAt, entry, fn, bodyOf, bodyStart, bodyEnd}
+use Rattle.rules.specs.ModuleFile.{functions, labels, functionsAt, labelsAt, bodiesIn, functionsIn}
 use Rattle.format.specs.declared.Sections.{Sections}
 use Rattle.format.specs.Layout.{Packed}
 use Rattle.soundness.specs.Tests.{eqb-other}
 use Rattle.soundness.specs.Readable.{Has}
+use Rattle.reader.proofs.Records.{functions-length, function-first, function-word}
 
 pub is-entry : (owner : ℕ) → owner ≡ 0xffffffff → bodyOf owner ≡ entry
 is-entry owner e = rw e refl
@@ -18,33 +20,34 @@ pub is-function : (owner : ℕ) → (owner ≡ 0xffffffff → ⊥) → bodyOf ow
 is-function owner n = rw (eqb-other owner 0xffffffff n) refl
 
 -- the record of function k lies in the file
-pub record-inside : (s : List ℕ) (c : Sections) → Packed s c → (k : ℕ) → k < functions s → c .records + 20 * k + 20 ≤ length s
+pub record-inside : (s : List ℕ) (c : Sections) → Packed s c → (k : ℕ) → k < c .functions → c .records + 20 * k + 20 ≤ length s
 record-inside s c p k h =
+    let f : c .functions ≡ functions s = p .functions-is in
     let a : c .records ≡ functionsAt s = p .records-is in
     let b : c .targets ≡ functionsAt s + 20 * functions s = p .targets-is in
     let d : c .code ≡ labelsAt s + 8 * labels s = p .code-is in
     let e : c .code + c .extent ≡ length s = p .whole in omega arith
 
 module _ (s : List ℕ) (c : Sections) (p : Packed s c) (owner : ℕ) where
-  pub entry-end : owner ≡ 0xffffffff → c .entry ≡ bodyEnd s (bodyOf owner)
-  entry-end e = p .entry-is ∙ ap (bodyEnd s) (sym (is-entry owner e))
+  pub entry-end : owner ≡ 0xffffffff → c .entry ≡ bodyEnd (bodiesIn s) (bodyOf owner)
+  entry-end e = p .entry-is ∙ ap (bodyEnd (bodiesIn s)) (sym (is-entry owner e))
 
-  pub entry-start : owner ≡ 0xffffffff → 0 ≡ bodyStart s (bodyOf owner)
-  entry-start e = ap (bodyStart s) (sym (is-entry owner e))
+  pub entry-start : owner ≡ 0xffffffff → 0 ≡ bodyStart (bodiesIn s) (bodyOf owner)
+  entry-start e = ap (bodyStart (bodiesIn s)) (sym (is-entry owner e))
 
-  module _ (has : Has s (bodyOf owner)) (other : owner ≡ 0xffffffff → ⊥) where
-    pub function-number : owner < functions s
-    function-number = subst (Has s) (is-function owner other) has
+  module _ (has : Has (bodiesIn s) (bodyOf owner)) (other : owner ≡ 0xffffffff → ⊥) where
+    pub function-there : owner < functionCount (functionsIn s)
+    function-there = subst (Has (bodiesIn s)) (is-function owner other) has
 
-    record-at : c .records + 20 * owner ≡ functionAt s owner
-    unfolding functionAt
-    record-at = ap (λ (n : ℕ). n + 20 * owner) (p .records-is)
+    pub function-number : owner < c .functions
+    function-number = omega (arith, function-there, functions-length s c p)
 
-    pub function-end : (a l : ℕ) → a ≡ word 4 s (c .records + 20 * owner) → l ≡ word 4 s (c .records + 20 * owner + 4) → a + l ≡ bodyEnd s (bodyOf owner)
+    pub function-end : (a l : ℕ) → a ≡ word 4 s (c .records + 20 * owner) → l ≡ word 4 s (c .records + 20 * owner + 4) → a + l ≡ bodyEnd (bodiesIn s) (bodyOf owner)
     function-end a l u v =
-        let x : a ≡ word 4 s (functionAt s owner) = u ∙ ap (word 4 s) record-at in
-        let y : l ≡ word 4 s (functionAt s owner + 4) = v ∙ ap (λ (n : ℕ). word 4 s (n + 4)) record-at in
-        ap (λ (n : ℕ). n + l) x ∙ ap (λ (n : ℕ). word 4 s (functionAt s owner) + n) y ∙ ap (bodyEnd s) (sym (is-function owner other))
+        let fs : List ℕ = functionsIn s in
+        let x : a ≡ word 4 fs (functionAt owner) = u ∙ sym (function-first s c p owner function-number) in
+        let y : l ≡ word 4 fs (functionAt owner + 4) = v ∙ sym (function-word s c p owner 4 function-number (omega arith)) in
+        ap (λ (n : ℕ). n + l) x ∙ ap (λ (n : ℕ). word 4 fs (functionAt owner) + n) y ∙ ap (bodyEnd (bodiesIn s)) (sym (is-function owner other))
 
-    pub function-start : (a : ℕ) → a ≡ word 4 s (c .records + 20 * owner) → a ≡ bodyStart s (bodyOf owner)
-    function-start a u = u ∙ ap (word 4 s) record-at ∙ ap (bodyStart s) (sym (is-function owner other))
+    pub function-start : (a : ℕ) → a ≡ word 4 s (c .records + 20 * owner) → a ≡ bodyStart (bodiesIn s) (bodyOf owner)
+    function-start a u = u ∙ sym (function-first s c p owner function-number) ∙ ap (bodyStart (bodiesIn s)) (sym (is-function owner other))

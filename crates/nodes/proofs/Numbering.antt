@@ -9,30 +9,32 @@ use lib.ListN.{length, getD, set, length-set}
 use lib.Seq.{getD-set-same, getD-set-other}
 use lib.Dec.{eqb, ltb}
 use Rattle.rules.specs.Bytes.{word}
-use Rattle.rules.specs.ModuleFile.{refusal, labels, codeLength, labelAt, labelOf, bodyEnd, read}
+use Rattle.rules.specs.Tables.{labelOf, bodyEnd, moduleOf, labelCount}
+use Rattle.rules.specs.ModuleFile.{refusal, labels, codeLength, read, bodiesIn, tablesIn, labelsIn, codeIn}
 use Rattle.format.specs.declared.Sections.{Sections}
 use Rattle.format.specs.Layout.{Packed}
 use Rattle.soundness.specs.Tests.{decide, eqb-is, eqb-isnt, ltb-is, ltb-isnt, ltb-yes}
 use Rattle.soundness.specs.Readable.{label-is, place-inside, orderly}
+use Rattle.soundness.specs.Cutting.{label-count, code-length, good-file}
+use Rattle.reader.proofs.Records.{label-word}
 use Rattle.nodes.specs.Nodes.{placeOf, ownerOf, Tabled}
 
 -- label k of a module that can be read
-pub label-at : (s : List ℕ) (k : ℕ) → k < labels s → read s .label k ≡ some (ownerOf s k, placeOf s k)
-unfolding read labelOf
-label-at s k h = rw (ltb-yes k (labels s) h) refl
+pub label-at : (s : List ℕ) (e : refusal s ≡ 0) (k : ℕ) → k < labels s → read s .label k ≡ some (ownerOf s k, placeOf s k)
+unfolding moduleOf labelOf
+label-at s e k h = rw (ltb-yes k (labelCount (labelsIn s)) (omega (arith, label-count s e))) refl
 
 pub label-in-code : (s : List ℕ) (e : refusal s ≡ 0) (k : ℕ) → k < labels s → placeOf s k < codeLength s
 label-in-code s e k h =
-    let q : read s .label k ≡ some (ownerOf s k, placeOf s k) = label-at s k h in
-    let x = label-is s e k (ownerOf s k) (placeOf s k) q in
-    let p : placeOf s k < bodyEnd s (ownerOf s k) = x .1 .2 in
-    let z = place-inside s e (ownerOf s k) (placeOf s k) (x .1 .0) (orderly s e .lands k (ownerOf s k) (placeOf s k) q) in
-    let y : bodyEnd s (ownerOf s k) ≤ codeLength s = z .2 in omega arith
+    let q : read s .label k ≡ some (ownerOf s k, placeOf s k) = label-at s e k h in
+    let x = label-is (tablesIn s) (good-file s e) k (ownerOf s k) (placeOf s k) q in
+    let p : placeOf s k < bodyEnd (bodiesIn s) (ownerOf s k) = x .1 .2 in
+    let z = place-inside (tablesIn s) (good-file s e) (ownerOf s k) (placeOf s k) (x .1 .0) (orderly (tablesIn s) (good-file s e) .lands k (ownerOf s k) (placeOf s k) q) in
+    let y : bodyEnd (bodiesIn s) (ownerOf s k) ≤ length (codeIn s) = z .2 in omega (arith, code-length s e)
 
 -- the word that holds a label's place
-pub place-word : (s : List ℕ) (c : Sections) → Packed s c → (k : ℕ) → word 4 s (c .targets + 8 * k + 4) ≡ placeOf s k
-unfolding labelAt
-place-word s c p k = rw (p .targets-is) refl
+pub place-word : (s : List ℕ) (c : Sections) → Packed s c → (k : ℕ) → k < c .labels → word 4 s (c .targets + 8 * k + 4) ≡ placeOf s k
+place-word s c p k h = sym (label-word s c p k 4 h (omega arith))
 
 -- ---- the labels from i on are in the table
 

@@ -1,5 +1,5 @@
 -- The record of a body's start.
-use Prim.Native.Nat.{ℕ, zero, suc, _+_, _*_, _-_, _≤_, _<_}
+use Prim.Native.Nat.{ℕ, zero, suc, _+_, _*_, _≤_, _<_}
 use mathlib.Core.Path.{_≡_, refl, ap, _∙_, sym, subst}
 use mathlib.Core.Logic.{_≢_}
 use native.Mathlib.Omega.{arith}
@@ -10,16 +10,19 @@ use lib.Seq.{paste, getD-set-same, getD-set-other, drop-length}
 use lib.Dec.{eqb, ltb}
 use Rattle.rules.specs.Bytes.{byte}
 use Rattle.rules.specs.Instructions.{Ty, tyOf}
-use Rattle.rules.specs.ModuleFile.{refusal, functions, functionAt, functionOf, Body, entry, fn, bodyOf, bodyStart, paramsFrom, read}
+use Rattle.rules.specs.Tables.{functionCount, functionAt, functionOf, Body, fn, bodyOf, bodyStart, paramsFrom, moduleOf}
+use Rattle.rules.specs.ModuleFile.{refusal, functions, read, bodiesIn, functionsIn}
 use Rattle.rules.specs.Typing.{startOf}
 use Rattle.format.specs.declared.Sections.{Sections}
 use Rattle.format.specs.Layout.{Packed}
 use Rattle.soundness.specs.Tests.{decide, eqb-is, eqb-isnt, ltb-is, ltb-isnt, ltb-yes}
 use Rattle.soundness.specs.Readable.{Has, few-parameters, parameter-type, unused-parameter}
+use Rattle.soundness.specs.Cutting.{functions-good}
+use Rattle.reader.proofs.Records.{function-byte}
 use Rattle.records.specs.Record.{listsOf, IsType, Holds}
 use Rattle.nodes.specs.Nodes.{Copied, Seeded}
 use Rattle.nodes.proofs.Copies.{zeros-at, cleared}
-use Rattle.nodes.proofs.Bounds.{is-entry, is-function, function-number}
+use Rattle.nodes.proofs.Bounds.{is-entry, is-function, function-there, function-number}
 
 -- ---- the parameters copied
 
@@ -101,25 +104,30 @@ module _ (st : List ℕ) (l : length st ≡ 64) where
 
   -- ---- a function's start
 
-  module _ (s : List ℕ) (c : Sections) (p : Packed s c) (r : refusal s ≡ 0) (owner : ℕ) (has : Has s (bodyOf owner)) (other : owner ≡ 0xffffffff → ⊥) where
+  module _ (s : List ℕ) (c : Sections) (p : Packed s c) (r : refusal s ≡ 0) (owner : ℕ) (has : Has (bodiesIn s) (bodyOf owner)) (other : owner ≡ 0xffffffff → ⊥) where
     abbrev at : ℕ
     at = c .records + 20 * owner
 
     abbrev counted : List ℕ
     counted = set first 1 (getD s (at + 8) 0)
 
-    numbered : owner < functions s
-    numbered = function-number s c p owner has other
+    abbrev fs : List ℕ
+    fs = functionsIn s
 
-    record-at : at ≡ functionAt s owner
-    unfolding functionAt
-    record-at = ap (λ (n : ℕ). n + 20 * owner) (p .records-is)
+    numbered : owner < functionCount fs
+    numbered = function-there s c p owner has other
+
+    named : owner < c .functions
+    named = function-number s c p owner has other
 
     abbrev count : ℕ
     count = byte s (at + 8)
 
+    param-count : byte fs (functionAt owner + 8) ≡ count
+    param-count = function-byte s c p owner 8 named (omega arith)
+
     few : count ≤ 8
-    few = subst (λ (a : ℕ). byte s (a + 8) ≤ 8) (sym record-at) (few-parameters s r owner numbered)
+    few = subst (λ (n : ℕ). n ≤ 8) param-count (few-parameters (bodiesIn s) (functions-good s r) owner numbered)
 
     count-at : byte counted 1 ≡ count
     count-at = let z : length first ≡ 64 = given-long in getD-set-same first 1 count 0 (omega arith)
@@ -128,8 +136,11 @@ module _ (st : List ℕ) (l : length st ≡ 64) where
     counted-else j n = getD-set-other first 1 j count 0 n
 
     module _ (st′ : List ℕ) (d : Copied s (at + 10) 8 counted st′) where
-      locals-at : (j : ℕ) → j < 8 → byte st′ (16 + j) ≡ byte s (functionAt s owner + 10 + j)
-      locals-at j h = d .copied j h ∙ ap (λ (a : ℕ). byte s (a + 10 + j)) record-at
+      locals-at : (j : ℕ) → j < 8 → byte st′ (16 + j) ≡ byte fs (functionAt owner + 10 + j)
+      locals-at j h =
+          let q : functionAt owner + 10 + j ≡ 20 * owner + (10 + j) = omega arith in
+          let z : at + (10 + j) ≡ at + 10 + j = omega arith in
+          d .copied j h ∙ sym (ap (byte fs) q ∙ function-byte s c p owner (10 + j) named (omega arith) ∙ ap (byte s) z)
 
       kept : (j : ℕ) → (j < 16) → j ≢ 1 → byte st′ j ≡ byte first j
       kept j h n = d .before j h ∙ counted-else j n
@@ -143,39 +154,36 @@ module _ (st : List ℕ) (l : length st ≡ 64) where
       operands-count : byte st′ 2 ≡ 0
       operands-count = kept 2 (omega arith) (λ z. omega arith) ∙ else-at 2 (omega arith)
 
-      param-count : byte s (functionAt s owner + 8) ≡ count
-      param-count = ap (λ (a : ℕ). byte s (a + 8)) (sym record-at)
-
       seed-holds : Holds st′
       seed-holds =
           let u : byte st′ 1 ≡ count = locals-count in
           let v : byte st′ 2 ≡ 0 = operands-count in
           let w : count ≤ 8 = few in
-          let x : byte s (functionAt s owner + 8) ≡ count = param-count in
+          let x : byte fs (functionAt owner + 8) ≡ count = param-count in
           record {
             long = d .long ∙ length-set first 1 count ∙ given-long;
             given = kept 0 (omega arith) (λ z. omega arith) ∙ given-at;
             few-locals = omega arith;
             few-operands = omega arith;
             gap = λ i h k. kept i k (λ z. omega arith) ∙ else-at i (omega arith);
-            local-types = λ i h. subst IsType (sym (locals-at i (omega arith))) (parameter-type s r owner i numbered (omega arith));
+            local-types = λ i h. subst IsType (sym (locals-at i (omega arith))) (parameter-type (bodiesIn s) (functions-good s r) owner i numbered (omega arith));
             local-rest = λ i h k. decide (ltb i 8)
-                (λ y. let z : i < 8 = ltb-is i 8 y in locals-at i z ∙ unused-parameter s r owner i numbered (omega arith) z)
+                (λ y. let z : i < 8 = ltb-is i 8 y in locals-at i z ∙ unused-parameter (bodiesIn s) (functions-good s r) owner i numbered (omega arith) z)
                 (λ y. let z : 8 ≤ i = ltb-isnt i 8 y in behind (16 + i) (omega arith));
             operand-types = λ i h. absurd (omega arith);
             operand-rest = λ i h k. behind (32 + i) (omega arith);
           }
 
-      function-starts : startOf (read s) (fn owner) ≡ some (bodyStart s (fn owner), paramsFrom s (functionAt s owner + 10) (byte s (functionAt s owner + 8)))
-      unfolding read functionOf
-      function-starts = rw (ltb-yes owner (functions s) numbered) refl
+      function-starts : startOf (read s) (fn owner) ≡ some (bodyStart (bodiesIn s) (fn owner), paramsFrom fs (functionAt owner + 10) (byte fs (functionAt owner + 8)))
+      unfolding moduleOf functionOf
+      function-starts = rw (ltb-yes owner (functionCount fs) numbered) refl
 
-      locals-are : paramsFrom s (functionAt s owner + 10) (byte s (functionAt s owner + 8)) ≡ listsOf st′ .locals
+      locals-are : paramsFrom fs (functionAt owner + 10) (byte fs (functionAt owner + 8)) ≡ listsOf st′ .locals
       locals-are =
-          let u : byte s (functionAt s owner + 8) ≡ byte st′ 1 = param-count ∙ sym locals-count in
+          let u : byte fs (functionAt owner + 8) ≡ byte st′ 1 = param-count ∙ sym locals-count in
           let w : count ≤ 8 = few in
-          let x : byte s (functionAt s owner + 8) ≡ count = param-count in
-          types-from s st′ (functionAt s owner + 10) 16 (byte s (functionAt s owner + 8)) (λ i h. sym (locals-at i (omega arith)))
+          let x : byte fs (functionAt owner + 8) ≡ count = param-count in
+          types-from fs st′ (functionAt owner + 10) 16 (byte fs (functionAt owner + 8)) (λ i h. sym (locals-at i (omega arith)))
           ∙ ap (λ (n : ℕ). paramsFrom st′ 16 n) u
 
       pub seeded-function : Seeded s (bodyOf owner) st′
@@ -183,7 +191,7 @@ module _ (st : List ℕ) (l : length st ≡ 64) where
           subst (λ (b : Body). Seeded s b st′) (sym (is-function owner other))
           (record {
             holds = seed-holds;
-            starts = function-starts ∙ ap (λ (ts : List Ty). some (bodyStart s (fn owner), ts)) locals-are;
+            starts = function-starts ∙ ap (λ (ts : List Ty). some (bodyStart (bodiesIn s) (fn owner), ts)) locals-are;
             bare = ap (λ (n : ℕ). paramsFrom st′ 32 n) operands-count;
           })
 
@@ -202,7 +210,7 @@ module _ (st z : List ℕ) (l : length st ≡ 64) (zeroed : z ≡ paste st 0 (re
   pub seed-entry : (s : List ℕ) (owner : ℕ) → owner ≡ 0xffffffff → Seeded s (bodyOf owner) (set z 0 1)
   seed-entry s owner e = subst (λ (x : List ℕ). Seeded s (bodyOf owner) (set x 0 1)) (sym zeroed) (seeded-entry st l s owner e)
 
-  pub seed-function : (s : List ℕ) (c : Sections) → Packed s c → refusal s ≡ 0 → (owner : ℕ) → Has s (bodyOf owner) → (owner ≡ 0xffffffff → ⊥) → (st′ : List ℕ)
+  pub seed-function : (s : List ℕ) (c : Sections) → Packed s c → refusal s ≡ 0 → (owner : ℕ) → Has (bodiesIn s) (bodyOf owner) → (owner ≡ 0xffffffff → ⊥) → (st′ : List ℕ)
       → Copied s (c .records + 20 * owner + 10) 8 (set (set z 0 1) 1 (getD s (c .records + 20 * owner + 8) 0)) st′ → Seeded s (bodyOf owner) st′
   seed-function s c p r owner has other st′ d =
       seeded-function st l s c p r owner has other st′

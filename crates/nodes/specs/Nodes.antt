@@ -10,7 +10,8 @@ use lib.ListN.{length, getD, set, take, drop}
 use lib.Seq.{paste}
 use lib.Dec.{eqb}
 use Rattle.rules.specs.Bytes.{byte, word, zeros}
-use Rattle.rules.specs.ModuleFile.{labels, codeLength, labelAt, refusal, Body, bodyOf, bodyStart, read}
+use Rattle.rules.specs.Tables.{labelAt, Body, bodyOf, bodyStart}
+use Rattle.rules.specs.ModuleFile.{labels, codeLength, refusal, read, bodiesIn, labelsIn}
 use Rattle.rules.specs.Typing.{startOf}
 use Rattle.format.specs.declared.Sections.{Sections}
 use Rattle.format.specs.Layout.{Packed}
@@ -25,10 +26,10 @@ Readable s c = Packed s c × (refusal s ≡ 0)
 -- ---- labels
 
 abbrev pub placeOf : List ℕ → ℕ → ℕ
-placeOf s k = word 4 s (labelAt s k + 4)
+placeOf s k = word 4 (labelsIn s) (labelAt k + 4)
 
 abbrev pub ownerOf : List ℕ → ℕ → Body
-ownerOf s k = bodyOf (word 4 s (labelAt s k))
+ownerOf s k = bodyOf (word 4 (labelsIn s) (labelAt k))
 
 -- by place the first label there, counted from 1; 0 where there is none
 pub record Tabled (s table : List ℕ) : Type 0 where
@@ -113,7 +114,7 @@ pub record Finished (s table marks : List ℕ) (i : ℕ) (room room′ : List �
 -- st is the record of the body's start: "The start has the parameters and no operands."
 pub record Seeded (s : List ℕ) (b : Body) (st : List ℕ) : Type 0 where
   pub holds : Holds st
-  pub starts : startOf (read s) b ≡ some (bodyStart s b, listsOf st .locals)
+  pub starts : startOf (read s) b ≡ some (bodyStart (bodiesIn s) b, listsOf st .locals)
   pub bare : listsOf st .operands ≡ []
 
 -- i bytes from byte `at` of the file on are copied into the local types of st

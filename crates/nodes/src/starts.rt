@@ -2,7 +2,8 @@
 ghost use mathlib.Core.Path.{_≡_};
 ghost use Prim.Native.Nat.{_+_, _≤_};
 ghost use lib.ListN.{length};
-ghost use Rattle.rules.specs.ModuleFile.{bodyOf, bodyStart, bodyEnd, refusal};
+ghost use Rattle.rules.specs.Tables.{bodyOf, bodyStart, bodyEnd};
+ghost use Rattle.rules.specs.ModuleFile.{refusal, bodiesIn};
 ghost use Rattle.format.specs.Layout.{Packed};
 ghost use Rattle.soundness.specs.Readable.{Has};
 ghost use Rattle.nodes.specs.Nodes.{Copied, Seeded};
@@ -22,7 +23,7 @@ fn copy_params(file: &[u8], at: usize, st: &mut [u8])
 
 // The record of a body's start: its parameters and no operands.
 pub fn seed(file: &[u8], c: Sections, owner: usize, st: &mut [u8])
-    requires { ⌜ Packed (now file) c × (refusal (now file) ≡ 0) × Has (now file) (bodyOf owner) ⌝ }
+    requires { ⌜ Packed (now file) c × (refusal (now file) ≡ 0) × Has (bodiesIn (now file)) (bodyOf owner) ⌝ }
     requires { ⌜ length (now st) ≡ 64 ⌝ }
     ensures { λ r. ⌜ Seeded (now (file .entry)) (bodyOf owner) (now (st .exit)) ⌝ }
 {
@@ -38,8 +39,8 @@ pub fn seed(file: &[u8], c: Sections, owner: usize, st: &mut [u8])
 
 // Where a body starts.
 pub fn start(file: &[u8], c: Sections, owner: usize) -> usize
-    requires { ⌜ Packed (now file) c × Has (now file) (bodyOf owner) ⌝ }
-    ensures { λ r. ⌜ r ≡ bodyStart (now (file .entry)) (bodyOf owner) ⌝ }
+    requires { ⌜ Packed (now file) c × Has (bodiesIn (now file)) (bodyOf owner) ⌝ }
+    ensures { λ r. ⌜ r ≡ bodyStart (bodiesIn (now (file .entry))) (bodyOf owner) ⌝ }
 {
     if owner == 0xffff_ffff {
         return 0;
@@ -50,8 +51,8 @@ pub fn start(file: &[u8], c: Sections, owner: usize) -> usize
 
 // Where a body ends.
 pub fn end(file: &[u8], c: Sections, owner: usize) -> usize
-    requires { ⌜ Packed (now file) c × Has (now file) (bodyOf owner) ⌝ }
-    ensures { λ r. ⌜ r ≡ bodyEnd (now (file .entry)) (bodyOf owner) ⌝ }
+    requires { ⌜ Packed (now file) c × Has (bodiesIn (now file)) (bodyOf owner) ⌝ }
+    ensures { λ r. ⌜ r ≡ bodyEnd (bodiesIn (now (file .entry))) (bodyOf owner) ⌝ }
 {
     if owner == 0xffff_ffff {
         return c.entry;

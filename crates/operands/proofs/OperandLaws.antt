@@ -11,7 +11,7 @@ use types.Run.{OneOf}
 use borrow.Author.Tests.{le-leb, ne-eqb}
 use Rattle.rules.specs.Bytes.{maybe}
 use Rattle.rules.specs.Instructions.{numKind}
-use Rattle.rules.specs.ModuleFile.{Module}
+use Rattle.rules.specs.Tables.{Module}
 use Rattle.rules.specs.Machine.{State, Next, goto, resulting, execIn}
 use Rattle.rules.specs.Operations.{Result, yields, raises, refuse, number, whole, wholeOnly, class1, class2, classOf, zeroDivide, converted, apply1, apply2}
 use Rattle.rules.specs.Stack.{slot, slotAt, slotsOf, under, put}

@@ -6,7 +6,7 @@ use mathlib.Core.Bool.{Bool, true, false, cond}
 use mathlib.Core.Option.{none}
 use mathlib.Core.List.{List, [], _∷_}
 use lib.Dec.{eqb}
-use Rattle.rules.specs.ModuleFile.{Module}
+use Rattle.rules.specs.Tables.{Module}
 use Rattle.rules.specs.Machine.{Memory, Frame, Next, stops, goto, becomes, bumping, execIn, deref}
 use Rattle.rules.specs.Operations.{Result, yields, raises}
 use Rattle.rules.specs.Stack.{slot, slotAt, slotsOf, put}

@@ -10,13 +10,10 @@ use lib.ListN.{length, set, length-set}
 use lib.Seq.{set-out}
 use Rattle.rules.specs.Bytes.{byte}
 use Rattle.rules.specs.Instructions.{Opcode, absent, bare, wide, edition3, opcodeOf}
-use Rattle.rules.specs.ModuleFile.{opcodeAt}
-use Rattle.format.specs.declared.Sections.{Sections}
-use Rattle.format.specs.Layout.{Packed}
+use Rattle.rules.specs.Tables.{opcodeAt}
 use Rattle.format.proofs.Tests.{and-left, and-right}
 use Rattle.reader.specs.Cut.{sizeIn, Cut, isBare, allBare, marks}
 use Rattle.reader.proofs.Cuts.{cut-step}
-use Rattle.reader.proofs.Table.{opcode-at}
 
 -- ---- tests
 
@@ -56,14 +53,12 @@ one-byte absent h = absurd (true≢false (sym h))
 one-byte (bare i) h = refl
 one-byte (wide i) h = absurd (true≢false (sym h))
 
-module _ (s : List ℕ) (c : Sections) (k : Packed s c) (p : ℕ) (t : List ℕ) (cut : Cut s p t) where
-  pub cut-run : (n : ℕ) → allBare s (c .code + p) n ≡ true → Cut s (p + n) (marks t p n)
+module _ (s : List ℕ) (p : ℕ) (t : List ℕ) (cut : Cut 3 s p t) where
+  pub cut-run : (n : ℕ) → allBare s p n ≡ true → Cut 3 s (p + n) (marks t p n)
   unfolding marks allBare
   cut-run zero a = rw add-zero cut
   cut-run (suc n) a =
-      let u = cut-run n (and-left (allBare s (c .code + p) n) _ a) in
-      let q : c .code + p + n ≡ c .code + (p + n) = omega arith in
-      let b : isBare (opcodeOf edition3 (byte s (c .code + (p + n)))) ≡ true = rw q at (and-right (allBare s (c .code + p) n) _ a) in
-      let e : 1 ≡ sizeIn (opcodeAt s (p + n)) = one-byte (opcodeAt s (p + n)) (ap isBare (sym (opcode-at s c k (p + n))) ∙ b) in
+      let u = cut-run n (and-left (allBare s p n) _ a) in
+      let e : 1 ≡ sizeIn (opcodeAt 3 s (p + n)) = one-byte (opcodeAt 3 s (p + n)) (and-right (allBare s p n) _ a) in
       let z : p + n + 1 ≡ p + suc n = omega arith in
-      subst (λ (x : ℕ). Cut s x (set (marks t p n) (p + n) 1)) z (cut-step s (p + n) 1 (marks t p n) u e (omega arith))
+      subst (λ (x : ℕ). Cut 3 s x (set (marks t p n) (p + n) 1)) z (cut-step 3 s (p + n) 1 (marks t p n) u e (omega arith))

@@ -13,7 +13,7 @@ use lib.Seq.{getD-set-same, getD-set-other}
 use borrow.Author.Tests.{eq-eqb, ne-eqb, eqb-true, eqb-false}
 use Rattle.rules.specs.Bytes.{some-below}
 use Rattle.rules.specs.Instructions.{Opcode, absent, bare, wide, operandBytes, isAbsent}
-use Rattle.rules.specs.ModuleFile.{due, dueAfter, opcodeAt, unknownAt, differs}
+use Rattle.rules.specs.Tables.{due, dueAfter, opcodeAt, unknownAt, differs}
 use Rattle.format.proofs.Tests.{split, and-no, or-left, or-right, differs-true}
 use Rattle.format.proofs.Gathered.{some-hit, none-up}
 use Rattle.reader.specs.Cut.{sizeIn, mark, Cut, Fails, Walked}
@@ -33,48 +33,48 @@ later : (d : ℕ) (o : Opcode) → 0 < d → dueAfter d o + 1 ≡ d
 later zero o h = absurd (omega arith)
 later (suc d) o h = add-one d
 
-module _ (s : List ℕ) (p z : ℕ) (begins : due s p ≡ 0) (size : z ≡ sizeIn (opcodeAt s p)) (some : 0 < z) where
-  pub inside : (j : ℕ) → j < z → due s (p + suc j) + suc j ≡ z
+module _ (ed : ℕ) (s : List ℕ) (p z : ℕ) (begins : due ed s p ≡ 0) (size : z ≡ sizeIn (opcodeAt ed s p)) (some : 0 < z) where
+  pub inside : (j : ℕ) → j < z → due ed s (p + suc j) + suc j ≡ z
   unfolding due
   inside zero h =
-      let e : due s (p + 1) ≡ operandBytes (opcodeAt s p) = rw add-one (first (due s p) (opcodeAt s p) begins) in
-      let o = operands (opcodeAt s p) (omega arith) in
+      let e : due ed s (p + 1) ≡ operandBytes (opcodeAt ed s p) = rw add-one (first (due ed s p) (opcodeAt ed s p) begins) in
+      let o = operands (opcodeAt ed s p) (omega arith) in
       omega arith
   inside (suc j) h =
       let i = inside j (omega arith) in
-      let l = later (due s (p + suc j)) (opcodeAt s (p + suc j)) (omega arith) in
-      let e : due s (p + suc (suc j)) ≡ dueAfter (due s (p + suc j)) (opcodeAt s (p + suc j)) = rw (add-suc p (suc j)) in
+      let l = later (due ed s (p + suc j)) (opcodeAt ed s (p + suc j)) (omega arith) in
+      let e : due ed s (p + suc (suc j)) ≡ dueAfter (due ed s (p + suc j)) (opcodeAt ed s (p + suc j)) = rw (add-suc p (suc j)) in
       omega arith
 
   -- a place q inside the instruction
-  pub within : (q : ℕ) → p < q → q < p + z → due s q ≡ 0 → ⊥
+  pub within : (q : ℕ) → p < q → q < p + z → due ed s q ≡ 0 → ⊥
   within q l h e =
       let i = inside (q - p - 1) (omega arith) in
       let g : p + suc (q - p - 1) ≡ q = omega arith in
-      let d : due s (p + suc (q - p - 1)) ≡ 0 = ap (due s) g ∙ e in
+      let d : due ed s (p + suc (q - p - 1)) ≡ 0 = ap (due ed s) g ∙ e in
       omega arith
 
-  pub next : due s (p + z) ≡ 0
+  pub next : due ed s (p + z) ≡ 0
   next =
       let i = inside (z - 1) (omega arith) in
       let g : p + suc (z - 1) ≡ p + z = omega arith in
-      let d : due s (p + suc (z - 1)) ≡ due s (p + z) = ap (due s) g in
+      let d : due ed s (p + suc (z - 1)) ≡ due ed s (p + z) = ap (due ed s) g in
       omega arith
 
 -- ---- marks
 
-mark-one : (s : List ℕ) (q : ℕ) → due s q ≡ 0 → 1 ≡ mark s q
+mark-one : (ed : ℕ) (s : List ℕ) (q : ℕ) → due ed s q ≡ 0 → 1 ≡ mark ed s q
 unfolding mark
-mark-one s q h = simp (eq-eqb _ _ h)
+mark-one ed s q h = simp (eq-eqb _ _ h)
 
-mark-none : (s : List ℕ) (q : ℕ) → (due s q ≡ 0 → ⊥) → 0 ≡ mark s q
+mark-none : (ed : ℕ) (s : List ℕ) (q : ℕ) → (due ed s q ≡ 0 → ⊥) → 0 ≡ mark ed s q
 unfolding mark
-mark-none s q h = simp (ne-eqb _ _ h)
+mark-none ed s q h = simp (ne-eqb _ _ h)
 
 -- a marked place is one where no operand byte is due
-pub mark-tells : (s : List ℕ) (q x : ℕ) → x ≡ mark s q → eqb x 1 ≡ eqb (due s q) 0
+pub mark-tells : (ed : ℕ) (s : List ℕ) (q x : ℕ) → x ≡ mark ed s q → eqb x 1 ≡ eqb (due ed s q) 0
 unfolding mark
-mark-tells s q x e = ap (λ (y : ℕ). eqb y 1) e ∙ cases (eqb (due s q) 0)
+mark-tells ed s q x e = ap (λ (y : ℕ). eqb y 1) e ∙ cases (eqb (due ed s q) 0)
   where
     cases : (b : Bool) → eqb (cond b 1 0) 1 ≡ b
     cases true = refl
@@ -92,53 +92,53 @@ absent-here absent h = refl
 absent-here (bare i) h = absurd (omega (arith, h))
 absent-here (wide i) h = absurd (omega (arith, h))
 
-module _ (s : List ℕ) (p z : ℕ) (t : List ℕ) (cut : Cut s p t) where
-  pub marked-here : (q : ℕ) → q ≤ p → q < length (set t p 1) → getD (set t p 1) q 0 ≡ mark s q
+module _ (ed : ℕ) (s : List ℕ) (p z : ℕ) (t : List ℕ) (cut : Cut ed s p t) where
+  pub marked-here : (q : ℕ) → q ≤ p → q < length (set t p 1) → getD (set t p 1) q 0 ≡ mark ed s q
   marked-here q l h =
       let g : q < length t = rw length-set at h in
-      ⊎-elim (λ e. let e' : q ≡ p = e in rw e' (getD-set-same t p 1 0 (omega arith) ∙ mark-one s p (cut .begins)))
+      ⊎-elim (λ e. let e' : q ≡ p = e in rw e' (getD-set-same t p 1 0 (omega arith) ∙ mark-one ed s p (cut .begins)))
       (λ k. getD-set-other t p q 1 0 (λ e. let e' : q ≡ p = e in omega arith) ∙ cut .marked q k g) (eq-or-lt-of-le l)
 
-  pub cut-step : z ≡ sizeIn (opcodeAt s p) → 0 < z → Cut s (p + z) (set t p 1)
+  pub cut-step : z ≡ sizeIn (opcodeAt ed s p) → 0 < z → Cut ed s (p + z) (set t p 1)
   unfolding unknownAt
   cut-step size some =
       record {
-        begins = next s p z (cut .begins) size some;
-        known = none-up (unknownAt s) p z (cut .known) known-at;
+        begins = next ed s p z (cut .begins) size some;
+        known = none-up (unknownAt ed s) p z (cut .known) known-at;
         marked = marked-at;
         clear = λ q l. getD-set-other t p q 1 0 (λ e. let e' : q ≡ p = e in omega arith) ∙ cut .clear q (omega arith);
       }
     where
-      known-at : (j : ℕ) → j < z → unknownAt s (p + j) ≡ false
-      known-at zero l = rw add-zero (and-no (eqb (due s p) 0) (isAbsent (opcodeAt s p)) (known-here (opcodeAt s p) (omega arith)))
-      known-at (suc j) l = simp (ne-eqb _ _ (within s p z (cut .begins) size some (p + suc j) (omega arith) (omega arith)))
+      known-at : (j : ℕ) → j < z → unknownAt ed s (p + j) ≡ false
+      known-at zero l = rw add-zero (and-no (eqb (due ed s p) 0) (isAbsent (opcodeAt ed s p)) (known-here (opcodeAt ed s p) (omega arith)))
+      known-at (suc j) l = simp (ne-eqb _ _ (within ed s p z (cut .begins) size some (p + suc j) (omega arith) (omega arith)))
 
-      marked-at : (q : ℕ) → q < p + z → q < length (set t p 1) → getD (set t p 1) q 0 ≡ mark s q
+      marked-at : (q : ℕ) → q < p + z → q < length (set t p 1) → getD (set t p 1) q 0 ≡ mark ed s q
       marked-at q l h =
           ⊎-elim (λ k. marked-here q k h)
           (λ k. getD-set-other t p q 1 0 (λ e. let e' : q ≡ p = e in omega arith) ∙ cut .clear q (omega arith)
-          ∙ mark-none s q (within s p z (cut .begins) size some q k l))
+          ∙ mark-none ed s q (within ed s p z (cut .begins) size some q k l))
           (split q p)
 
 -- ---- where a walk ends
 
 -- an instruction that begins before `to` and ends after it
-pub crosses : (s : List ℕ) (p z to : ℕ) → due s p ≡ 0 → z ≡ sizeIn (opcodeAt s p) → 0 < z → p < to → to < p + z → differs (due s to) 0 ≡ true
-crosses s p z to begins size some l h = differs-true (due s to) 0 (within s p z begins size some to l h)
+pub crosses : (ed : ℕ) (s : List ℕ) (p z to : ℕ) → due ed s p ≡ 0 → z ≡ sizeIn (opcodeAt ed s p) → 0 < z → p < to → to < p + z → differs (due ed s to) 0 ≡ true
+crosses ed s p z to begins size some l h = differs-true (due ed s to) 0 (within ed s p z begins size some to l h)
 
-unknown-below : (s : List ℕ) (p z to : ℕ) → due s p ≡ 0 → z ≡ sizeIn (opcodeAt s p) → z ≡ 0 → p < to → Fails s to
+unknown-below : (ed : ℕ) (s : List ℕ) (p z to : ℕ) → due ed s p ≡ 0 → z ≡ sizeIn (opcodeAt ed s p) → z ≡ 0 → p < to → Fails ed s to
 unfolding unknownAt
-unknown-below s p z to begins size none l =
-    or-left _ _ (some-hit (unknownAt s) to p l (simp (eq-eqb _ _ begins, absent-here (opcodeAt s p) (sym size ∙ none))))
+unknown-below ed s p z to begins size none l =
+    or-left _ _ (some-hit (unknownAt ed s) to p l (simp (eq-eqb _ _ begins, absent-here (opcodeAt ed s p) (sym size ∙ none))))
 
-pub walked : (s : List ℕ) (p to : ℕ) (t : List ℕ) → Cut s p t → to ≤ p → (to < p → differs (due s to) 0 ≡ true) → Walked (eqb p to) s to t
-walked s p to t cut l h = go (eqb p to) refl
+pub walked : (ed : ℕ) (s : List ℕ) (p to : ℕ) (t : List ℕ) → Cut ed s p t → to ≤ p → (to < p → differs (due ed s to) 0 ≡ true) → Walked (eqb p to) ed s to t
+walked ed s p to t cut l h = go (eqb p to) refl
   where
-    go : (b : Bool) → eqb p to ≡ b → Walked b s to t
-    go true e = subst (λ (q : ℕ). Cut s q t) (eqb-true p to e) cut
-    go false e = or-right (some-below to (unknownAt s)) (differs (due s to) 0) (h (⊎-elim (λ g. absurd (eqb-false p to e (sym g))) (λ g. g) (eq-or-lt-of-le l)))
+    go : (b : Bool) → eqb p to ≡ b → Walked b ed s to t
+    go true e = subst (λ (q : ℕ). Cut ed s q t) (eqb-true p to e) cut
+    go false e = or-right (some-below to (unknownAt ed s)) (differs (due ed s to) 0) (h (⊎-elim (λ g. absurd (eqb-false p to e (sym g))) (λ g. g) (eq-or-lt-of-le l)))
 
 -- a walk that stops at an unknown instruction
-pub stopped : (s : List ℕ) (p z to : ℕ) (t : List ℕ) → due s p ≡ 0 → z ≡ sizeIn (opcodeAt s p) → z ≡ 0 → p < to → Walked (eqb p to) s to t
-stopped s p z to t begins size none l =
-    subst (λ (b : Bool). Walked b s to t) (sym (ne-eqb p to (λ e. let e' : p ≡ to = e in omega arith))) (unknown-below s p z to begins size none l)
+pub stopped : (ed : ℕ) (s : List ℕ) (p z to : ℕ) (t : List ℕ) → due ed s p ≡ 0 → z ≡ sizeIn (opcodeAt ed s p) → z ≡ 0 → p < to → Walked (eqb p to) ed s to t
+stopped ed s p z to t begins size none l =
+    subst (λ (b : Bool). Walked b ed s to t) (sym (ne-eqb p to (λ e. let e' : p ≡ to = e in omega arith))) (unknown-below ed s p z to begins size none l)

@@ -1,6 +1,6 @@
 -- Laws that the proofs share.
-pub mod Table
 pub mod Records
+pub mod Table
 pub mod Cuts
 pub mod BareRuns
 pub mod Bodies

@@ -2,21 +2,23 @@
 use Prim.Native.Nat.{ℕ, zero, suc}
 use native.Mathlib.Omega.{arith}
 use mathlib.Core.Path.{_≡_, refl, sym, ap, _∙_, subst}
-use mathlib.Core.Bool.{false}
-use mathlib.Core.List.{List}
-use Rattle.rules.specs.ModuleFile.{firstOf, refusal, badConstants, badFunctions, badCode, badLabels}
+use mathlib.Core.Bool.{Bool, true, false}
+use mathlib.Core.List.{List, [], _∷_}
+use Rattle.rules.specs.Bytes.{some-below}
+use Rattle.rules.specs.Tables.{Bodies, Tables, labelCount, firstOf, contentTests, badConstants, badFunctions, badCode, badLabels}
+use Rattle.rules.specs.ModuleFile.{refusal, constantsIn, labelsIn, bodiesIn, tablesIn}
 use Rattle.format.specs.declared.Sections.{Sections}
 use Rattle.format.specs.Layout.{sectionsOf, headerTests, Packed}
 use Rattle.format.proofs.Rows.{Header, header-of, packed-of, first-hit, first-miss, first-none}
 use Rattle.reader.specs.declared.Opened.the-variants.{Refused, Module}
-use Rattle.reader.specs.Answers.{contentTests, answer, openedOf}
+use Rattle.reader.specs.Answers.{codeTests, answer, openedOf}
 
 refused : (n : ℕ) (c : Sections) → (n ≡ 0 → ⊥) → Refused n ≡ answer n c
 refused zero c h = absurd (h refl)
 refused (suc n) c h = refl
 
 -- rows 6 to 9 decide where rows 1 to 5 don't hold
-later : (s : List ℕ) → Header s → firstOf 6 (contentTests s) ≡ refusal s
+later : (s : List ℕ) → Header s → firstOf 6 (contentTests (tablesIn s)) ≡ refusal s
 unfolding refusal firstOf
 later s h = simp (h .long, h .third, h .total, h .limits, h .packed)
 
@@ -25,12 +27,12 @@ module _ (s : List ℕ) (n : ℕ) where
   unfolding refusal
   refused-first e h =
       refused n (sectionsOf s) h
-      ∙ ap (λ (k : ℕ). answer k (sectionsOf s)) (e ∙ sym (first-hit 0 (headerTests s) (contentTests s) (λ z. h (e ∙ z))))
+      ∙ ap (λ (k : ℕ). answer k (sectionsOf s)) (e ∙ sym (first-hit 0 (headerTests s) (contentTests (tablesIn s)) (λ z. h (e ∙ z))))
 
-  pub refused-later : Header s → n ≡ firstOf 6 (contentTests s) → (n ≡ 0 → ⊥) → Refused n ≡ openedOf s
+  pub refused-later : Header s → n ≡ firstOf 6 (contentTests (tablesIn s)) → (n ≡ 0 → ⊥) → Refused n ≡ openedOf s
   refused-later k e h = refused n (sectionsOf s) h ∙ ap (λ (k : ℕ). answer k (sectionsOf s)) (e ∙ later s k)
 
-  pub not-refused : Header s → n ≡ firstOf 6 (contentTests s) → n ≡ 0 → (c : Sections) → c ≡ sectionsOf s → Module c ≡ openedOf s
+  pub not-refused : Header s → n ≡ firstOf 6 (contentTests (tablesIn s)) → n ≡ 0 → (c : Sections) → c ≡ sectionsOf s → Module c ≡ openedOf s
   not-refused k e h c g =
       let z : refusal s ≡ 0 = sym (later s k) ∙ sym e ∙ h in
       ap Module g ∙ ap (λ (k : ℕ). answer k (sectionsOf s)) (sym z)
@@ -61,13 +63,49 @@ module _ (s : List ℕ) (c : Sections) (opened : Module c ≡ openedOf s) where
   pub opened-packed : Packed s c
   unfolding refusal
   opened-packed =
-      subst (λ (x : Sections). Packed s x) (sym (opened-sections .1)) (packed-of s (header-of s (first-none 0 (headerTests s) (contentTests s) (opened-sections .0))))
+      subst (λ (x : Sections). Packed s x) (sym (opened-sections .1)) (packed-of s (header-of s (first-none 0 (headerTests s) (contentTests (tablesIn s)) (opened-sections .0))))
 
-  pub opened-rows : (badConstants s ≡ false) × (badFunctions s ≡ false) × (badCode s ≡ false) × (badLabels s ≡ false)
+  pub opened-rows : (badConstants (constantsIn s) ≡ false) × (badFunctions (bodiesIn s) ≡ false) × (badCode (bodiesIn s) ≡ false) × (badLabels (bodiesIn s) (labelsIn s) ≡ false)
   unfolding refusal
   opened-rows =
-      let h = header-of s (first-none 0 (headerTests s) (contentTests s) (opened-sections .0)) in
+      let h = header-of s (first-none 0 (headerTests s) (contentTests (tablesIn s)) (opened-sections .0)) in
       let a = first-miss 5 _ _ (later s h ∙ opened-sections .0) in
       let b = first-miss 6 _ _ (a .1) in
       let d = first-miss 7 _ _ (b .1) in
       (a .0, b .0, d .0, first-miss 8 _ _ (d .1) .0)
+
+-- ---- rows 6 to 9, one after the other, of tables t that are u
+
+-- no label, no row 9
+no-labels : (B : Bodies) (ls : List ℕ) → labelCount ls ≡ 0 → badLabels B ls ≡ false
+unfolding badLabels some-below
+no-labels B ls h = rw h refl
+
+no-ninth : (B : Bodies) (ls : List ℕ) → labelCount ls ≡ 0 → firstOf 8 (badCode B ∷ []) ≡ firstOf 8 (codeTests B ls)
+unfolding firstOf
+no-ninth B ls h = rw (no-labels B ls h) (go (badCode B))
+  where
+    go : (b : Bool) → firstOf 8 (b ∷ []) ≡ firstOf 8 (b ∷ false ∷ [])
+    go true = refl
+    go false = refl
+
+module _ (t u : Tables) (same : t ≡ u) (b₆ : Bool) (e₆ : b₆ ≡ badConstants (t .constants)) where
+  first-is : (n : ℕ) → n ≡ firstOf 6 (contentTests t) → n ≡ firstOf 6 (contentTests u)
+  first-is n h = h ∙ ap (λ (x : Tables). firstOf 6 (contentTests x)) same
+
+  pub sixth : b₆ ≡ true → 6 ≡ firstOf 6 (contentTests u)
+  unfolding firstOf
+  sixth h = first-is 6 (simp (← e₆, h))
+
+  module _ (good₆ : b₆ ≡ false) (b₇ : Bool) (e₇ : b₇ ≡ badFunctions (t .bodies)) where
+    pub seventh : b₇ ≡ true → 7 ≡ firstOf 6 (contentTests u)
+    unfolding firstOf
+    seventh h = first-is 7 (simp (← e₆, good₆, ← e₇, h))
+
+    module _ (good₇ : b₇ ≡ false) (n : ℕ) where
+      pub from-code : n ≡ firstOf 8 (codeTests (t .bodies) (t .labels)) → n ≡ firstOf 6 (contentTests u)
+      unfolding firstOf
+      from-code h = first-is n (simp (← e₆, good₆, ← e₇, good₇) h)
+
+      pub from-code-alone : labelCount (u .labels) ≡ 0 → n ≡ firstOf 8 (badCode (t .bodies) ∷ []) → n ≡ firstOf 6 (contentTests u)
+      from-code-alone l h = from-code (h ∙ no-ninth (t .bodies) (t .labels) (subst (λ (x : Tables). labelCount (x .labels) ≡ 0) (sym same) l))

@@ -1,30 +1,114 @@
--- Function and label records by number, and a record's parameters.
-use Prim.Native.Nat.{ℕ, zero, suc, _+_, _*_, _<_}
+-- Records by number: the sections of a file against the file, and a function's parameters.
+use Prim.Native.Nat.{ℕ, zero, suc, _+_, _-_, _*_, _<_, _≤_}
 use native.Mathlib.Nat.{eq-or-lt-of-le, le-of-suc-le-suc}
 use native.Mathlib.Omega.{arith}
-use mathlib.Core.Path.{_≡_, sym, ap, _∙_}
+use mathlib.Core.Path.{_≡_, refl, sym, ap, _∙_}
 use mathlib.Core.Bool.{true, false}
-use mathlib.Core.List.{List}
+use mathlib.Core.List.{List, [], _∷_}
 use mathlib.Core.Logic.{⊎-elim}
 use mathlib.Core.Option.{some}
 use lib.Dec.{eqb}
-use lib.ListN.{length}
+use lib.ListN.{length, take, drop, length-drop}
+use lib.Seq.{take-take, take-all, drop-drop, getD-take, getD-drop}
 use borrow.Author.Tests.{eq-eqb, ne-eqb}
-use Rattle.rules.specs.Bytes.{byte}
-use Rattle.rules.specs.Instructions.{tyOf}
+use Rattle.rules.specs.Bytes.{byte, number, word, cut}
+use Rattle.rules.specs.Instructions.{numOf, tyOf}
 use Rattle.rules.specs.Stack.{at}
-use Rattle.rules.specs.ModuleFile.{functionAt, labelAt, paramsFrom}
-use Rattle.soundness.specs.Readable.{params-length}
+use Rattle.rules.specs.Tables.{tables, bodyOf, functionAt, paramsFrom, functionOf, labelOf}
+use Rattle.rules.specs.ModuleFile.{edition, constants, functions, labels, codeLength, entryLength, tablesIn, functionsAt, labelsAt, codeAt, constantsIn, functionsIn, labelsIn, codeIn}
 use Rattle.format.specs.declared.Sections.{Sections}
 use Rattle.format.specs.Layout.{Packed}
+use Rattle.soundness.specs.Readable.{params-length}
+use Rattle.soundness.specs.Cutting.{length-cut}
 
-pub record-at : (s : List ℕ) (c : Sections) → Packed s c → (i : ℕ) → c .records + 20 * i ≡ functionAt s i
-unfolding functionAt
-record-at s c k i = omega arith
+-- ---- a section of a file, cut out, against the file
 
-pub label-at : (s : List ℕ) (c : Sections) → Packed s c → (i : ℕ) → c .targets + 8 * i ≡ labelAt s i
-unfolding labelAt
-label-at s c k i = omega arith
+part : (n j m : ℕ) (l : List ℕ) → j + n ≤ m → take n (drop j (take m l)) ≡ take n (drop j l)
+part n zero m l h = take-take n m l (omega arith)
+part n (suc j) zero l h = absurd (omega arith)
+part n (suc j) (suc m) [] h = refl
+part n (suc j) (suc m) (x ∷ l) h = part n j m l (omega arith)
+
+pub word-cut : (n : ℕ) (s : List ℕ) (a m j : ℕ) → j + n ≤ m → word n (cut s a m) j ≡ word n s (a + j)
+unfolding word
+word-cut n s a m j h = ap number (part n j m (drop a s) h ∙ ap (take n) (drop-drop j a s))
+
+pub byte-cut : (s : List ℕ) (a m j : ℕ) → j < m → byte (cut s a m) j ≡ byte s (a + j)
+byte-cut s a m j h = getD-take m (drop a s) j 0 h ∙ getD-drop a s j 0
+
+-- the sections of an opened file
+module _ (s : List ℕ) (c : Sections) (k : Packed s c) where
+  pub constants-length : length (constantsIn s) ≡ 12 * c .constants
+  constants-length = length-cut s 48 (12 * constants s) (omega arith) ∙ omega arith
+
+  pub functions-length : length (functionsIn s) ≡ 20 * c .functions
+  functions-length = length-cut s (functionsAt s) (20 * functions s) (omega arith) ∙ omega arith
+
+  pub labels-length : length (labelsIn s) ≡ 8 * c .labels
+  labels-length = length-cut s (labelsAt s) (8 * labels s) (omega arith) ∙ omega arith
+
+  pub code-length : length (codeIn s) ≡ c .extent
+  code-length = length-cut s (codeAt s) (codeLength s) (omega arith) ∙ omega arith
+
+  -- the file ends with the code, so bytes past it are past both
+  pub code-rest : codeIn s ≡ drop (c .code) s
+  code-rest = ap (λ (a : ℕ). take (codeLength s) (drop a s)) (sym (k .code-is)) ∙ take-all (codeLength s) (drop (c .code) s) (simp length-drop (omega arith))
+
+  pub constant-word : (n i j : ℕ) → i < c .constants → j + n ≤ 12 → word n (constantsIn s) (12 * i + j) ≡ word n s (48 + 12 * i + j)
+  constant-word n i j h l = let q : 48 + (12 * i + j) ≡ 48 + 12 * i + j = omega arith in
+      word-cut n s 48 (12 * constants s) (12 * i + j) (omega arith) ∙ ap (word n s) q
+
+  pub constant-byte : (i : ℕ) → i < c .constants → byte (constantsIn s) (12 * i) ≡ byte s (48 + 12 * i)
+  constant-byte i h = byte-cut s 48 (12 * constants s) (12 * i) (omega arith)
+
+  pub function-first : (i : ℕ) → i < c .functions → word 4 (functionsIn s) (20 * i) ≡ word 4 s (c .records + 20 * i)
+  function-first i h = let q : functionsAt s + 20 * i ≡ c .records + 20 * i = omega arith in
+      word-cut 4 s (functionsAt s) (20 * functions s) (20 * i) (omega arith) ∙ ap (word 4 s) q
+
+  pub function-word : (i j : ℕ) → i < c .functions → j + 4 ≤ 20 → word 4 (functionsIn s) (20 * i + j) ≡ word 4 s (c .records + 20 * i + j)
+  function-word i j h l = let q : functionsAt s + (20 * i + j) ≡ c .records + 20 * i + j = omega arith in
+      word-cut 4 s (functionsAt s) (20 * functions s) (20 * i + j) (omega arith) ∙ ap (word 4 s) q
+
+  pub function-byte : (i j : ℕ) → i < c .functions → j < 20 → byte (functionsIn s) (20 * i + j) ≡ byte s (c .records + 20 * i + j)
+  function-byte i j h l = let q : functionsAt s + (20 * i + j) ≡ c .records + 20 * i + j = omega arith in
+      byte-cut s (functionsAt s) (20 * functions s) (20 * i + j) (omega arith) ∙ ap (byte s) q
+
+  pub label-word : (i j : ℕ) → i < c .labels → j + 4 ≤ 8 → word 4 (labelsIn s) (8 * i + j) ≡ word 4 s (c .targets + 8 * i + j)
+  label-word i j h l = let q : labelsAt s + (8 * i + j) ≡ c .targets + 8 * i + j = omega arith in
+      word-cut 4 s (labelsAt s) (8 * labels s) (8 * i + j) (omega arith) ∙ ap (word 4 s) q
+
+  -- the parts of the file that are lent are its tables
+  pub lent-tables : tables 3 (take (c .records - 48) (drop 48 s)) (take (c .targets - c .records) (drop (c .records) s)) (take (c .code - c .targets) (drop (c .targets) s))
+      (take (c .code + c .extent - c .code) (drop (c .code) s)) (c .entry) ≡ tablesIn s
+  lent-tables =
+      let e : 3 ≡ edition s = sym (k .third) in
+      let a : c .records - 48 ≡ 12 * constants s = omega arith in
+      let b : c .targets - c .records ≡ 20 * functions s = omega arith in
+      let d : c .code - c .targets ≡ 8 * labels s = omega arith in
+      let f : c .code + c .extent - c .code ≡ codeLength s = omega arith in
+      rw (a, b, d, f, k .records-is, k .targets-is, k .code-is, k .entry-is) (ap (λ (n : ℕ). tables n (constantsIn s) (functionsIn s) (labelsIn s) (codeIn s) (entryLength s)) e)
+
+  -- ---- the records by number
+
+  pub function-found : (i start len n r : ℕ) → i < c .functions → start ≡ word 4 s (c .records + 20 * i) → len ≡ word 4 s (c .records + 20 * i + 4)
+      → n ≡ byte s (c .records + 20 * i + 8) → r ≡ byte s (c .records + 20 * i + 9)
+      → some (record { start = start; end = start + len; params = paramsFrom (functionsIn s) (functionAt i + 10) n; result = numOf r }) ≡ some (functionOf (functionsIn s) (functionAt i))
+  unfolding functionOf
+  function-found i start len n r h ws wl bn br =
+      let a : start ≡ word 4 (functionsIn s) (20 * i) = ws ∙ sym (function-first i h) in
+      let b : len ≡ word 4 (functionsIn s) (20 * i + 4) = wl ∙ sym (function-word i 4 h (omega arith)) in
+      let d : n ≡ byte (functionsIn s) (20 * i + 8) = bn ∙ sym (function-byte i 8 h (omega arith)) in
+      let e : r ≡ byte (functionsIn s) (20 * i + 9) = br ∙ sym (function-byte i 9 h (omega arith)) in
+      rw (a, b, d, e)
+
+  pub label-found : (i owner place : ℕ) → i < c .labels → owner ≡ word 4 s (c .targets + 8 * i) → place ≡ word 4 s (c .targets + 8 * i + 4)
+      → some (bodyOf owner, place) ≡ some (labelOf (labelsIn s) i)
+  unfolding labelOf
+  label-found i owner place h wo wp =
+      let q : labelsAt s + 8 * i ≡ c .targets + 8 * i = omega arith in
+      let a : owner ≡ word 4 (labelsIn s) (8 * i) = wo ∙ sym (word-cut 4 s (labelsAt s) (8 * labels s) (8 * i) (omega arith) ∙ ap (word 4 s) q) in
+      let b : place ≡ word 4 (labelsIn s) (8 * i + 4) = wp ∙ sym (label-word i 4 h (omega arith)) in
+      rw (a, b)
 
 -- ---- parameters
 

@@ -7,13 +7,17 @@ use mathlib.Core.Logic.{⊎-elim}
 use mathlib.Core.Bool.{Bool, true, false, not, xor, _&&_, _||_, cond, true≢false}
 use mathlib.Core.List.{List}
 use lib.Dec.{ltb, leb, eqb}
+use lib.ListN.{take, drop}
+use lib.Seq.{getD-drop, drop-drop}
 use borrow.Author.Tests.{eqb-true, eq-eqb}
 use Rattle.rules.specs.Instructions.{edition3, opcodeOf, instructionOf}
-use Rattle.rules.specs.ModuleFile.{opcodeAt, codeOf}
-use Rattle.rules.specs.Bytes.{byte, word}
+use Rattle.rules.specs.Tables.{codeOf}
+use Rattle.rules.specs.ModuleFile.{edition, codeIn}
+use Rattle.rules.specs.Bytes.{byte, number, word}
 use Rattle.format.specs.declared.Sections.{Sections}
 use Rattle.format.proofs.Tests.{and-left, and-right}
 use Rattle.format.specs.Layout.{Packed}
+use Rattle.reader.proofs.Records.{code-rest}
 use Rattle.reader.specs.Cut.{sizeIn, isBare}
 
 allBelow : ℕ → (ℕ → Bool) → Bool
@@ -62,9 +66,16 @@ bare-by-range b h = like _ _ (all-at 256 (λ b. not (xor (bareByRange b) (isBare
 -- ---- the opcode at a place of an opened module
 
 module _ (s : List ℕ) (c : Sections) (k : Packed s c) (p : ℕ) where
-  pub opcode-at : opcodeOf edition3 (byte s (c .code + p)) ≡ opcodeAt s p
-  opcode-at = simp (eq-eqb _ _ (k .third), k .code-is)
+  code-byte : byte s (c .code + p) ≡ byte (codeIn s) p
+  code-byte = sym (getD-drop (c .code) s p 0) ∙ ap (λ (l : List ℕ). byte l p) (sym (code-rest s c k))
 
-  pub code-at : instructionOf (opcodeOf edition3 (byte s (c .code + p))) (word 4 s (c .code + p + 1)) ≡ codeOf s p
+  code-word : word 4 s (c .code + p + 1) ≡ word 4 (codeIn s) (p + 1)
+  unfolding word
+  code-word =
+      let q : c .code + p + 1 ≡ c .code + (p + 1) = omega arith in
+      ap (λ (a : ℕ). number (take 4 (drop a s))) q ∙ ap (λ (l : List ℕ). number (take 4 l)) (sym (drop-drop (p + 1) (c .code) s))
+      ∙ ap (λ (l : List ℕ). number (take 4 (drop (p + 1) l))) (sym (code-rest s c k))
+
+  pub code-at : instructionOf (opcodeOf edition3 (byte s (c .code + p))) (word 4 s (c .code + p + 1)) ≡ codeOf (edition s) (codeIn s) p
   unfolding codeOf
-  code-at = simp (eq-eqb _ _ (k .third), k .code-is)
+  code-at = rw (code-byte, code-word) (simp (eq-eqb _ _ (k .third)))

@@ -7,7 +7,8 @@ use mathlib.Core.Option.{Option, none, some}
 use Rattle.rules.specs.Bytes.{byte}
 use Rattle.rules.specs.declared.Slot.{Slot}
 use Rattle.rules.specs.Instructions.{numOf, tyOf}
-use Rattle.rules.specs.ModuleFile.{refusal, badConstants, badFunctions, badCode, badLabels, Function, Body, bodyOf, paramsFrom, functionAt, functionOf}
+use Rattle.rules.specs.Tables.{Bodies, badCode, badLabels, Function, Body, bodyOf, paramsFrom, functionAt, functionOf}
+use Rattle.rules.specs.ModuleFile.{refusal}
 use Rattle.rules.specs.Stack.{at}
 use Rattle.format.specs.declared.Sections.{Sections}
 use Rattle.format.specs.Layout.{sectionsOf}
@@ -20,12 +21,9 @@ use Rattle.reader.specs.declared.entries.FoundConstant.the-variants as F
 use Rattle.reader.specs.declared.entries.FoundFunction.the-variants as FoundFunction
 use Rattle.reader.specs.declared.entries.FoundLabel.the-variants as FoundLabel
 
--- rows 8 and 9, and 6 to 9
-abbrev pub codeTests : List ℕ → List Bool
-codeTests s = badCode s ∷ badLabels s ∷ []
-
-abbrev pub contentTests : List ℕ → List Bool
-contentTests s = badConstants s ∷ badFunctions s ∷ codeTests s
+-- rows 8 and 9
+abbrev pub codeTests : Bodies → List ℕ → List Bool
+codeTests b ls = badCode b ∷ badLabels b ls ∷ []
 
 -- a refusal by its number; the sections where there is none
 abbrev pub answer : ℕ → Sections → Opened
@@ -41,16 +39,16 @@ abbrev pub slotIn : FoundConstant → Option Slot
 slotIn (FoundConstant.Constant v) = some v
 slotIn FoundConstant.Nothing = none
 
--- a function record of the file s, at byte a
+-- a function record of the table s, at byte a
 abbrev pub functionIn : List ℕ → ℕ → FoundFunction → Option Function
 functionIn s a (FoundFunction.Record f) =
     some (record { start = f .start; end = f .end; params = paramsFrom s (a + 10) (f .params); result = numOf (f .result) })
 functionIn s a FoundFunction.Nothing = none
 
--- r is the type byte of parameter j of function k
+-- r is the type byte of parameter j of function k, of the table s
 abbrev pub ParamIs : List ℕ → ℕ → ℕ → ℕ → Type 0
 ParamIs s k j r =
-    (r ≡ byte s (functionAt s k + 10 + j)) × (j < byte s (functionAt s k + 8) → at (functionOf s (functionAt s k) .params) j ≡ some (tyOf r))
+    (r ≡ byte s (functionAt k + 10 + j)) × (j < byte s (functionAt k + 8) → at (functionOf s (functionAt k) .params) j ≡ some (tyOf r))
 
 abbrev pub labelIn : FoundLabel → Option (Body × ℕ)
 labelIn (FoundLabel.Record l) = some (bodyOf (l .owner), l .place)

@@ -1,4 +1,4 @@
--- The code cut into instructions, and a table of places that marks where one begins.
+-- The code s of edition e cut into instructions, and a table of places that marks where one begins.
 use Prim.Native.Nat.{ℕ, zero, suc, _+_, _≤_, _<_}
 use mathlib.Core.Path.{_≡_}
 use mathlib.Core.Bool.{Bool, true, false, cond, _&&_, _||_}
@@ -7,7 +7,7 @@ use lib.ListN.{length, getD, set}
 use lib.Dec.{eqb}
 use Rattle.rules.specs.Bytes.{byte, some-below}
 use Rattle.rules.specs.Instructions.{Opcode, absent, bare, wide, edition3, opcodeOf}
-use Rattle.rules.specs.ModuleFile.{due, unknownAt, codeLength, differs}
+use Rattle.rules.specs.Tables.{due, unknownAt, differs}
 
 -- the bytes of an opcode's instruction; 0 for none
 abbrev pub sizeIn : Opcode → ℕ
@@ -32,30 +32,30 @@ marks t p zero = t
 marks t p (suc n) = set (marks t p n) (p + n) 1
 
 -- 1 at a place that begins an instruction, else 0
-unfoldable pub mark : List ℕ → ℕ → ℕ
-mark s p = cond (eqb (due s p) 0) 1 0
+unfoldable pub mark : ℕ → List ℕ → ℕ → ℕ
+mark e s p = cond (eqb (due e s p) 0) 1 0
 
 -- a table with no mark
 abbrev pub Blank : List ℕ → Type 0
 Blank t = (q : ℕ) → getD t q 0 ≡ 0
 
 -- an instruction begins at p, all before it are known, and the table is marked below p, as far as it goes
-pub record Cut (s : List ℕ) (p : ℕ) (t : List ℕ) : Type 0 where
-  pub begins : due s p ≡ 0
-  pub known : some-below p (unknownAt s) ≡ false
-  pub marked : (q : ℕ) → q < p → q < length t → getD t q 0 ≡ mark s q
+pub record Cut (e : ℕ) (s : List ℕ) (p : ℕ) (t : List ℕ) : Type 0 where
+  pub begins : due e s p ≡ 0
+  pub known : some-below p (unknownAt e s) ≡ false
+  pub marked : (q : ℕ) → q < p → q < length t → getD t q 0 ≡ mark e s q
   pub clear : (q : ℕ) → p ≤ q → getD t q 0 ≡ 0
 
 -- an instruction before p is unknown, or one crosses p
-abbrev pub Fails : List ℕ → ℕ → Type 0
-Fails s p = (some-below p (unknownAt s) || differs (due s p) 0) ≡ true
+abbrev pub Fails : ℕ → List ℕ → ℕ → Type 0
+Fails e s p = (some-below p (unknownAt e s) || differs (due e s p) 0) ≡ true
 
 -- what a walk up to p says
-abbrev pub Walked : Bool → List ℕ → ℕ → List ℕ → Type 0
-Walked true s p t = Cut s p t
-Walked false s p t = Fails s p
+abbrev pub Walked : Bool → ℕ → List ℕ → ℕ → List ℕ → Type 0
+Walked true e s p t = Cut e s p t
+Walked false e s p t = Fails e s p
 
 -- The table of starts: as far as the table goes, it has 1 at exactly those places of the code that begin an instruction, and at the code's end, and 0
 -- at all others. `bad_code` ensures this of code that passes row 8.
-abbrev pub Marked : List ℕ → List ℕ → Type 0
-Marked s t = (q : ℕ) → q ≤ codeLength s → q < length t → getD t q 0 ≡ mark s q
+abbrev pub Marked : ℕ → List ℕ → List ℕ → Type 0
+Marked e s t = (q : ℕ) → q ≤ length s → q < length t → getD t q 0 ≡ mark e s q

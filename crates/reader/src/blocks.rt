@@ -4,9 +4,7 @@ ghost use mathlib.Core.Bool.{true, false};
 ghost use Prim.Native.Nat.{_+_, _≤_};
 ghost use lib.ListN.{length};
 ghost use Rattle.rules.specs.Instructions.{edition3, opcodeOf};
-ghost use Rattle.format.specs.Layout.{Packed};
 ghost use Rattle.reader.specs.Cut.{Cut, isBare, allBare, marks};
-use format::Sections;
 
 // Whether an opcode stands alone: 02, 07 to 1F, 28, 2B, 2C, 2E hex.
 fn bare(b: u8) -> bool
@@ -16,14 +14,14 @@ fn bare(b: u8) -> bool
 }
 
 // Whether sixteen bytes are opcodes that stand alone.
-fn all_bare(file: &[u8], at: usize) -> bool
-    requires { ⌜ at + 16 ≤ length (now file) ⌝ }
-    ensures { λ r. ⌜ r ≡ allBare (now (file .entry)) at 16 ⌝ }
+fn all_bare(code: &[u8], p: usize) -> bool
+    requires { ⌜ p + 16 ≤ length (now code) ⌝ }
+    ensures { λ r. ⌜ r ≡ allBare (now (code .entry)) p 16 ⌝ }
 {
     let mut good = true;
     let mut i = 0;
     while i < 16 {
-        let g = bare(file[at + i]);
+        let g = bare(code[p + i]);
         good = good & g;
         i += 1;
     }
@@ -51,17 +49,16 @@ fn mark_block(starts: &mut [u8], p: usize) -> bool
 }
 
 // Passes blocks of one-byte instructions and marks them, as many as follow one another; the place where it stops.
-pub(crate) fn skip(file: &[u8], c: Sections, from: usize, to: usize, starts: &mut [u8]) -> usize
-    requires { ⌜ Packed (now file) c × (from ≤ to) × (to ≤ c .extent) ⌝ }
-    requires { ⌜ Cut (now file) from (now starts) ⌝ }
+pub(crate) fn skip(code: &[u8], from: usize, to: usize, starts: &mut [u8]) -> usize
+    requires { ⌜ (from ≤ to) × (to ≤ length (now code)) × (length (now code) ≤ 16384) ⌝ }
+    requires { ⌜ Cut 3 (now code) from (now starts) ⌝ }
     ensures { λ r. ⌜ (from ≤ r) × (r ≤ to) ⌝ }
     ensures { λ r. ⌜ length (now (starts .exit)) ≡ length (now (starts .entry)) ⌝ }
-    ensures { λ r. ⌜ Cut (now (file .entry)) r (now (starts .exit)) ⌝ }
+    ensures { λ r. ⌜ Cut 3 (now (code .entry)) r (now (starts .exit)) ⌝ }
 {
-    let code = c.code;
     let mut p = from;
     while p + 16 <= to {
-        let good = all_bare(file, code + p);
+        let good = all_bare(code, p);
         if !good {
             return p;
         }

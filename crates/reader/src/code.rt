@@ -4,11 +4,10 @@ ghost use mathlib.Core.Bool.{false};
 ghost use Prim.Native.Nat.{_≤_};
 ghost use lib.ListN.{length, set};
 ghost use Rattle.rules.specs.Instructions.{edition3, opcodeOf};
-ghost use Rattle.rules.specs.ModuleFile.{badFunctions, badCode};
-ghost use Rattle.format.specs.Layout.{Packed};
+ghost use Rattle.rules.specs.Tables.{bodies, badFunctions, badCode};
+ghost use Rattle.format.specs.Layout.{Fits};
 ghost use Rattle.reader.specs.Cut.{sizeIn, Blank, Cut, Walked, Marked};
 use crate::blocks;
-use format::Sections;
 
 // A bit for each opcode that a word follows: 01, 03 to 05, 20 to 27 hex.
 const WIDE: u64 = 0x00ff_0000_003a;
@@ -45,19 +44,17 @@ fn mark(starts: &mut [u8], p: usize)
 
 // Walks a body; false where an instruction is unknown or crosses the body's end. A place is marked before its byte is
 // looked at: no one reads a table of code that fails. After eight one-byte instructions in a row it goes on by blocks.
-fn walk_body(file: &[u8], c: Sections, from: usize, to: usize, starts: &mut [u8]) -> bool
-    requires { ⌜ Packed (now file) c ⌝ }
-    requires { ⌜ (from ≤ to) × (to ≤ c .extent) ⌝ }
-    requires { ⌜ Cut (now file) from (now starts) ⌝ }
+fn walk_body(code: &[u8], from: usize, to: usize, starts: &mut [u8]) -> bool
+    requires { ⌜ (from ≤ to) × (to ≤ length (now code)) × (length (now code) ≤ 16384) ⌝ }
+    requires { ⌜ Cut 3 (now code) from (now starts) ⌝ }
     ensures { λ r. ⌜ length (now (starts .exit)) ≡ length (now (starts .entry)) ⌝ }
-    ensures { λ r. ⌜ Walked r (now (file .entry)) to (now (starts .exit)) ⌝ }
+    ensures { λ r. ⌜ Walked r 3 (now (code .entry)) to (now (starts .exit)) ⌝ }
 {
-    let code = c.code;
     let mut p = from;
     let mut wait: u32 = 8;
     while p < to {
         mark(starts, p);
-        let size = opcode_size(file[code + p]);
+        let size = opcode_size(code[p]);
         if size == 0 {
             break;
         }
@@ -68,7 +65,7 @@ fn walk_body(file: &[u8], c: Sections, from: usize, to: usize, starts: &mut [u8]
             wait = 8;
         }
         if wait == 0 {
-            p = blocks::skip(file, c, p, to, starts);
+            p = blocks::skip(code, p, to, starts);
             wait = 8;
         }
     }
@@ -76,19 +73,19 @@ fn walk_body(file: &[u8], c: Sections, from: usize, to: usize, starts: &mut [u8]
 }
 
 // Row 8. A blank table gets a mark at each place that begins an instruction, and at the end.
-pub(crate) fn bad_code(file: &[u8], c: Sections, starts: &mut [u8]) -> bool
-    requires { ⌜ Packed (now file) c × (badFunctions (now file) ≡ false) ⌝ }
+pub(crate) fn bad_code(functions: &[u8], code: &[u8], entry: usize, starts: &mut [u8]) -> bool
+    requires { ⌜ Fits (now functions) (now code) entry × (badFunctions (bodies 3 (now functions) (now code) entry) ≡ false) ⌝ }
     requires { ⌜ Blank (now starts) ⌝ }
     ensures { λ r. ⌜ length (now (starts .exit)) ≡ length (now (starts .entry)) ⌝ }
-    ensures { λ r. ⌜ r ≡ badCode (now (file .entry)) ⌝ }
-    ensures { λ r. ⌜ (r ≡ false → Marked (now (file .entry)) (now (starts .exit))) ⌝ }
+    ensures { λ r. ⌜ r ≡ badCode (bodies 3 (now (functions .entry)) (now (code .entry)) entry) ⌝ }
+    ensures { λ r. ⌜ (r ≡ false → Marked 3 (now (code .entry)) (now (starts .exit))) ⌝ }
 {
-    let n = c.functions;
+    let n = functions.len() / 20;
     let mut from = 0;
-    let mut end = c.entry;
+    let mut end = entry;
     let mut i = 0;
     loop {
-        let whole = walk_body(file, c, from, end, starts);
+        let whole = walk_body(code, from, end, starts);
         if !whole {
             return true;
         }
@@ -96,9 +93,9 @@ pub(crate) fn bad_code(file: &[u8], c: Sections, starts: &mut [u8]) -> bool
             mark(starts, end);
             return false;
         }
-        let at = c.records + 20 * i;
+        let at = 20 * i;
         from = end;
-        end += format::word(file, at + 4);
+        end += format::word(functions, at + 4);
         i += 1;
     }
 }

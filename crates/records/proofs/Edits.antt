@@ -12,7 +12,7 @@ use lib.Dec.{eqb}
 use borrow.Author.Tests.{eqb-true, eqb-false}
 use Rattle.rules.specs.Bytes.{byte}
 use Rattle.rules.specs.Instructions.{tyOf}
-use Rattle.rules.specs.ModuleFile.{paramsFrom}
+use Rattle.rules.specs.Tables.{paramsFrom}
 use Rattle.rules.specs.Typing.{Lists, lists}
 use Rattle.records.specs.Record.{listsOf, IsType, Holds, Pushed, Popped}
 use Rattle.records.specs.Families.{Retyped, Emptied, Bound}

@@ -10,7 +10,7 @@ use lib.Seq.{getD-append-add, getD-at, ext-getD}
 use lib.Dec.{ltb, ltb→lt, nltb→le}
 use Rattle.rules.specs.Bytes.{byte, zeros, padded}
 use Rattle.rules.specs.Instructions.{tyOf, typeByte}
-use Rattle.rules.specs.ModuleFile.{paramsFrom}
+use Rattle.rules.specs.Tables.{paramsFrom}
 use Rattle.rules.specs.Check.{typesUp, recordBytes}
 use Rattle.soundness.specs.Readable.{params-length}
 use Rattle.records.specs.Record.{listsOf, IsType, Holds}

@@ -12,7 +12,7 @@ use Rattle.rules.specs.declared.Instruction.{Instruction}
 use Rattle.rules.specs.declared.Instruction.the-variants.{One, Two}
 use Rattle.rules.specs.Bytes.{byte}
 use Rattle.rules.specs.Instructions.{Ty, tyOf, numKind}
-use Rattle.rules.specs.ModuleFile.{Body, Module, paramsFrom}
+use Rattle.rules.specs.Tables.{Body, Module, paramsFrom}
 use Rattle.rules.specs.Operations.{Class, any, number, whole, class1, classOf}
 use Rattle.rules.specs.Typing.{Flow, lists, judge, gives1}
 use Rattle.records.specs.Record.{listsOf, Holds, Judged}

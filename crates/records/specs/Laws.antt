@@ -13,7 +13,7 @@ use Rattle.rules.specs.Bytes.{byte}
 use Rattle.rules.specs.declared.Num.{Num}
 use Rattle.rules.specs.declared.Num.the-variants.{Int as int, Long as long, Double as double}
 use Rattle.rules.specs.Instructions.{numKind, Ty, num, ptr, kindOf, tyOf, typeByte, eqNum, eqTy}
-use Rattle.rules.specs.ModuleFile.{Body, Module, paramsFrom}
+use Rattle.rules.specs.Tables.{Body, Module, paramsFrom}
 use Rattle.rules.specs.Stack.{at}
 use Rattle.rules.specs.Typing.{Lists, lists, Flow, to}
 use Rattle.rules.specs.Check.{small}

@@ -8,7 +8,8 @@ use lib.ListN.{length, take, drop}
 use Rattle.rules.specs.Bytes.{zeros}
 use Rattle.rules.specs.Numbers.{done}
 use Rattle.rules.specs.Instructions.{call}
-use Rattle.rules.specs.ModuleFile.{refusal, labels, functions, Body, entry, fn, bodyOf, bodyNumber, Function, Module, read}
+use Rattle.rules.specs.Tables.{Body, entry, fn, bodyOf, bodyNumber, Function, Module}
+use Rattle.rules.specs.ModuleFile.{refusal, labels, functions, read}
 use Rattle.rules.specs.Stack.{Slot, Lent, pointerTo, at}
 use Rattle.rules.specs.Machine.{Memory, State, Next, goes, finishes, advance, Outcome, outcome, run}
 use Rattle.rules.specs.Typing.{Lists, Typing, Consistent, WellTyped, Reached}

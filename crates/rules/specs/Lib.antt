@@ -5,7 +5,9 @@ pub mod Doubles
 pub mod Numbers
 pub mod Instructions
 pub mod Stack
+pub mod Tables
 pub mod ModuleFile
+pub mod Writing
 pub mod Operations
 pub mod Machine
 pub mod Typing
@@ -16,12 +18,14 @@ pub mod Program
 pub mod Demand3
 pub mod Ends
 pub mod Claims
+pub mod Saved
 pub mod Files
 pub mod Evaluate
 pub mod Samples
 pub mod Exceptions
 pub mod HostCalls
 pub mod Refusals
+pub mod Writings
 pub mod Typings
 pub mod Values
 pub mod Printed

@@ -1,16 +1,12 @@
 -- A table that is not of the paper: refusals 1 to 9, each limit from both sides, and which of two comes first.
 use mathlib.Core.Path.{_≡_, refl}
-use Prim.Native.Nat.{ℕ, zero, suc, _+_}
+use Prim.Native.Nat.{ℕ, zero, suc}
 use mathlib.Core.List.{List, [], _∷_, _++_}
 use lib.ListN.{take, set}
-use Rattle.rules.specs.Bytes.{bytes}
-use Rattle.rules.specs.Files.{PUSH, POP, LOAD, JMP, RET, function, file}
+use Rattle.rules.specs.Bytes.{words}
+use Rattle.rules.specs.Files.{PUSH, POP, LOAD, RET, function, file}
 use Rattle.rules.specs.Samples.{w1}
 use Rattle.rules.specs.Evaluate.{refusalNow}
-
-abbrev words : List ℕ → List ℕ
-words [] = []
-words (w ∷ ws) = bytes 4 w ++ words ws
 
 -- a header alone: total, counts of constants, functions, labels, code length, entry length, word 44
 abbrev bare : ℕ → ℕ → ℕ → ℕ → ℕ → ℕ → ℕ → List ℕ

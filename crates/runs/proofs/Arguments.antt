@@ -13,7 +13,7 @@ use Rattle.rules.specs.declared.Num.the-variants.{Int as int, Long as long, Dou
 use Rattle.rules.specs.declared.Slot.{Slot}
 use Rattle.rules.specs.Bytes.{byte}
 use Rattle.rules.specs.Instructions.{Ty, num, ptr, tyOf}
-use Rattle.rules.specs.ModuleFile.{paramsFrom}
+use Rattle.rules.specs.Tables.{paramsFrom}
 use Rattle.rules.specs.Stack.{slotAt, slotsOf}
 use Rattle.rules.specs.Answers.{declared, admitted}
 use Rattle.format.proofs.Tests.{and-left, and-right, and-no}

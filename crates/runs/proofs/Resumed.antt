@@ -7,7 +7,7 @@ use mathlib.Core.List.{List}
 use lib.ListN.{length, getD, set}
 use lib.Seq.{getD-set-same, getD-set-other}
 use Rattle.rules.specs.declared.RunAnswer.{RunAnswer}
-use Rattle.rules.specs.ModuleFile.{Module}
+use Rattle.rules.specs.Tables.{Module}
 use Rattle.rules.specs.Stack.{slotsOf}
 use Rattle.rules.specs.Machine.{State, Outcome, outcome, run}
 use Rattle.rules.specs.Answers.{ran}

@@ -11,7 +11,8 @@ use Rattle.rules.specs.declared.RunAnswer.{RunAnswer}
 use Rattle.rules.specs.declared.RunAnswer.the-variants.{Rejected}
 use Rattle.rules.specs.declared.Slot.{Slot}
 use Rattle.rules.specs.Instructions.{Ty}
-use Rattle.rules.specs.ModuleFile.{refusal, bodyOf, functionAt, paramsFrom, read}
+use Rattle.rules.specs.Tables.{bodyOf, functionAt, paramsFrom}
+use Rattle.rules.specs.ModuleFile.{refusal, read, functionsIn}
 use Rattle.rules.specs.Stack.{slotsOf}
 use Rattle.rules.specs.Machine.{Outcome, outcome, run}
 use Rattle.rules.specs.Typing.{startOf}
@@ -53,7 +54,7 @@ module _ (s : List ℕ) (f : ℕ) (a b p t : List ℕ) where
 
   module _ (c : Sections) (g : BodyRecord) (is : BodyIs s c f g) where
     abbrev params : List Ty
-    params = paramsFrom s (functionAt s (g .body) + 10) (g .params)
+    params = paramsFrom (functionsIn s) (functionAt (g .body) + 10) (g .params)
 
     pub run-13 : (n : ℕ) → refusal s ≡ 0 → (v : Bool) → v ≡ admitted params (lentOf a b) → v ≡ false → RunIs s f a b n p t p t (Rejected 13)
     unfolding runModule runRefusal
@@ -67,7 +68,7 @@ module _ (s : List ℕ) (f : ℕ) (a b p t : List ℕ) where
       held = arguments (lentOf a b)
 
       lengths : (length b ≡ g .params) × (length a ≡ g .params * 8)
-      lengths = admitted-lengths s (functionAt s (g .body) + 10) a b (g .params) fit
+      lengths = admitted-lengths (functionsIn s) (functionAt (g .body) + 10) a b (g .params) fit
 
       count : length held ≡ g .params
       count = length-slots a b (length b) ∙ lengths .0

@@ -9,7 +9,8 @@ use lib.ListN.{length, getD, take, drop, replicate}
 use Rattle.rules.specs.declared.RunAnswer.{RunAnswer}
 use Rattle.rules.specs.declared.Slot.{Slot}
 use Rattle.rules.specs.Instructions.{Ty, num, ptr, numKind}
-use Rattle.rules.specs.ModuleFile.{bodyOf, functionAt, paramsFrom, read}
+use Rattle.rules.specs.Tables.{bodyOf, functionAt, paramsFrom}
+use Rattle.rules.specs.ModuleFile.{read, functionsIn}
 use Rattle.rules.specs.Stack.{Lent, capacity, slotsOf}
 use Rattle.rules.specs.Machine.{Outcome}
 use Rattle.rules.specs.Typing.{startOf, endOf}
@@ -61,7 +62,7 @@ pub record Copied (a b p t : List ℕ) (n : ℕ) (p′ t′ : List ℕ) : Type 0
 -- b is the body that the host names by f; its numbers are in range
 pub record BodyIs (s : List ℕ) (c : Sections) (f : ℕ) (b : BodyRecord) : Type 0 where
   pub named : bodyIn (b .body) ≡ bodyOf f
-  pub starts : startOf (read s) (bodyOf f) ≡ some (b .start, paramsFrom s (functionAt s (b .body) + 10) (b .params))
+  pub starts : startOf (read s) (bodyOf f) ≡ some (b .start, paramsFrom (functionsIn s) (functionAt (b .body) + 10) (b .params))
   pub ends : endOf (read s) (bodyOf f) ≡ some (b .end)
   pub declares : 0 < b .params → b .body < c .functions
   pub few : b .params ≤ 8

@@ -5,7 +5,8 @@ ghost use lib.ListN.{length, replicate};
 ghost use Rattle.rules.specs.Answers as Answers;
 ghost use Rattle.rules.specs.Instructions.{tyOf};
 ghost use Rattle.rules.specs.Machine.{outcome, run as runOf};
-ghost use Rattle.rules.specs.ModuleFile.{functionAt, paramsFrom, read, refusal};
+ghost use Rattle.rules.specs.Tables.{functionAt, paramsFrom};
+ghost use Rattle.rules.specs.ModuleFile.{read, refusal, functionsIn};
 ghost use Rattle.rules.specs.Stack.{slotsOf};
 ghost use Rattle.format.specs.Layout.{Packed};
 ghost use Rattle.state.specs.State.{stateOf};
@@ -109,7 +110,7 @@ fn takes(b: u8, v: Slot) -> bool
 // Whether these are arguments for the n parameters of function k.
 fn admits(file: &[u8], c: Sections, k: usize, n: usize, args: &[u8], kinds: &[u8]) -> bool
     requires { ⌜ Packed (now file) c × (n ≤ 8) × (0 < n → k < c .functions) ⌝ }
-    ensures { λ r. ⌜ r ≡ Answers.admitted (paramsFrom (now (file .entry)) (functionAt (now (file .entry)) k + 10) n) (lentOf (now (args .entry)) (now (kinds .entry))) ⌝ }
+    ensures { λ r. ⌜ r ≡ Answers.admitted (paramsFrom (functionsIn (now (file .entry))) (functionAt k + 10) n) (lentOf (now (args .entry)) (now (kinds .entry))) ⌝ }
 {
     if kinds.len() != n {
         return false;

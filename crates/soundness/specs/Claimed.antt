@@ -10,7 +10,8 @@ use lib.Dec.{leb, ltb, eqb}
 use Rattle.soundness.specs.Names.{Num, int, long, double, Slot}
 use Rattle.rules.specs.Bytes.{maybe}
 use Rattle.rules.specs.Instructions.{Ty, num, ptr, numKind}
-use Rattle.rules.specs.ModuleFile.{refusal, Body, entry, fn, bodyOf, Function, Module, read}
+use Rattle.rules.specs.Tables.{Body, entry, fn, bodyOf, Function, Module}
+use Rattle.rules.specs.ModuleFile.{refusal, read, tablesIn}
 use Rattle.rules.specs.Stack.{Lent, capacity, at}
 use Rattle.rules.specs.Machine.{State, opened}
 use Rattle.rules.specs.Typing.{startOf, endOf}
@@ -18,6 +19,7 @@ use Rattle.rules.specs.Answers.{fits, declared, arguments, runRefusal, runRefus
 use Rattle.rules.specs.Claims.{RunEnd, raised, AreBytes, MomentOf, Claims}
 use Rattle.soundness.specs.Tests.{decide, none-some, some-inj, eqb-is, leb-is, ltb-is, false-true, and-both}
 use Rattle.soundness.specs.Readable.{Orderly, orderly, cut-from}
+use Rattle.soundness.specs.Cutting.{good-file}
 use Rattle.soundness.specs.Started.{All, all-at, Closed, FrameFit, opened-fit, Fit, has-instruction, moment-fit, run-range}
 use Rattle.soundness.specs.Narrow.{Narrow, narrow-closed}
 use Rattle.soundness.specs.Runs.{Starts, has-end}
@@ -67,7 +69,7 @@ module _ (s : List ℕ) (f : ℕ) (args : Lent) (e : runRefusal s f args ≡ 0) 
       go (suc r) q h = absurd (omega arith)
 
   O : Orderly (read s)
-  O = orderly s readable
+  O = orderly (tablesIn s) (good-file s readable)
 
   C : Closed (read s) P
   C = narrow-closed s readable

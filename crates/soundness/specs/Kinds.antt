@@ -11,12 +11,14 @@ use lib.Dec.{eqb, ltb}
 use Rattle.soundness.specs.Names.{Num, int, long, double, Slot, Unary, pop, copy, neg, complement, convert, Binary, swap, arith as arithmetic, cmp}
 use Rattle.rules.specs.Bytes.{byte}
 use Rattle.rules.specs.Instructions.{Ty, num, ptr, numKind}
-use Rattle.rules.specs.ModuleFile.{constants, constantAt, constantOf, refusal, read, bodyOf}
+use Rattle.rules.specs.Tables.{constantCount, constantAt, constantOf, bodyOf, moduleOf}
+use Rattle.rules.specs.ModuleFile.{constantsIn, refusal, read}
 use Rattle.rules.specs.Stack.{Lent}
 use Rattle.rules.specs.Operations.{zeroDivide, class1, class2, refuse, eval1, eval2}
 use Rattle.rules.specs.Answers.{fits, declared, arguments, runRefusal, startState}
 use Rattle.soundness.specs.Tests.{decide, none-some, some-inj, eqb-is, ltb-is, false-true, and-both}
 use Rattle.soundness.specs.Readable.{NumberByte, constant-type}
+use Rattle.soundness.specs.Cutting.{constants-good}
 use Rattle.soundness.specs.Started.{All, Yielded, Closed, Fit, exception}
 use Rattle.soundness.specs.Narrow.{refuse-raises, applied}
 use Rattle.soundness.specs.Claimed.{start-fits}
@@ -62,10 +64,11 @@ twos (arithmetic o) v w p q =
 twos (cmp s) v w p q = (inl refl, tt)
 
 constant-kind : (s : List ℕ) → refusal s ≡ 0 → (k : ℕ) (c : Slot) → read s .constant k ≡ some c → OfKind c
-unfolding read constantOf
+unfolding moduleOf constantOf
 constant-kind s e k c q =
-    decide (ltb k (constants s))
-    (λ y. subst OfKind (some-inj (constantOf s k) c (rw y at q)) (number-kind (byte s (constantAt k)) (constant-type s e k (ltb-is k (constants s) y))))
+    let cs : List ℕ = constantsIn s in
+    decide (ltb k (constantCount cs))
+    (λ y. subst OfKind (some-inj (constantOf cs k) c (rw y at q)) (number-kind (byte cs (constantAt k)) (constant-type cs (constants-good s e) k (ltb-is k (constantCount cs) y))))
     (λ y. none-some (rw y at q))
 
 pub kinds-closed : (s : List ℕ) → refusal s ≡ 0 → Closed (read s) OfKind

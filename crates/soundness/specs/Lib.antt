@@ -9,8 +9,10 @@ pub mod Exact
 pub mod Forced
 pub mod Walks
 pub mod Records
-pub mod Whole
 pub mod Readable
+pub mod Cutting
+pub mod Saves
+pub mod Whole
 pub mod Started
 pub mod Narrow
 pub mod Claimed

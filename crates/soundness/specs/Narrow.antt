@@ -17,12 +17,14 @@ use Rattle.soundness.specs.Names.{Num, int, long, double, Slot, Operator
 use Rattle.rules.specs.Bytes.{byte, number, word, maybe}
 use Rattle.rules.specs.Words.{signedOf, patternOf, idivOf, imodOf, shlOf, shrOf, sarOf, notOf, orderOf, cmpOf, icmpOf}
 use Rattle.rules.specs.Doubles.{decodeOf, wordOf, cutOf}
-use Rattle.rules.specs.ModuleFile.{constants, constantAt, differs, oddConstant, badConstant, refusal, constantOf, Module, read}
+use Rattle.rules.specs.Tables.{constantCount, constantAt, badConstants, differs, oddConstant, badConstant, constantOf, Module, moduleOf}
+use Rattle.rules.specs.ModuleFile.{constants, constantsIn, tablesIn, refusal, read}
 use Rattle.rules.specs.Stack.{slot, pointerTo}
 use Rattle.rules.specs.Operations.{low, onWords, computed, zeroDivide, negated, complemented, converted, compared, bumped, Class, any, number as numbers, whole, class1, class2, refuse, Result, yields, raises, eval1, eval2, apply1, apply2}
 use Rattle.rules.specs.Claims.{RunEnd, AreBytes}
 use Rattle.soundness.specs.Tests.{decide, none-some, some-inj, eqb-is, ltb-is, or-neither, not-false}
-use Rattle.soundness.specs.Readable.{good-constant, constant-word}
+use Rattle.soundness.specs.Readable.{good-constant, constant-word, good-tables}
+use Rattle.soundness.specs.Cutting.{good-file, bytes-cut}
 use Rattle.soundness.specs.Started.{All, Yielded, Closed, exception}
 
 -- an int is narrow, where B holds
@@ -165,12 +167,12 @@ upper-zero t u e q =
     let x : (eqb t 3 && differs u 0) ≡ false = or-neither (eqb t 3 && differs u 0) (differs t 3 && differs t 4 && differs t 6) e .0 in
     eqb-is u 0 (not-false (eqb u 0) (rw q at x))
 
-module _ (s : List ℕ) (e : refusal s ≡ 0) where
-  not-odd : (i : ℕ) → i < constants s → oddConstant (number (take 4 (drop (constantAt i) s))) (number (take 4 (drop (constantAt i + 8) s))) ≡ false
+module _ (s : List ℕ) (e : badConstants s ≡ false) where
+  not-odd : (i : ℕ) → i < constantCount s → oddConstant (number (take 4 (drop (constantAt i) s))) (number (take 4 (drop (constantAt i + 8) s))) ≡ false
   unfolding badConstant word
   not-odd i h = good-constant s e i h
 
-  constant-narrow : (i : ℕ) → i < constants s → AreBytes s → constantOf s i .kind ≡ 3 → constantOf s i .payload < 2 ^ 32
+  pub constant-narrow : (i : ℕ) → i < constantCount s → AreBytes s → constantOf s i .kind ≡ 3 → constantOf s i .payload < 2 ^ 32
   unfolding constantOf word
   constant-narrow i h B k =
       let a : ℕ = constantAt i in
@@ -181,11 +183,14 @@ module _ (s : List ℕ) (e : refusal s ≡ 0) where
       lower-half (drop (a + 4) s) (λ j. subst (λ x. x < 256) (sym (getD-drop (a + 4) s j 0)) (B (a + 4 + j)))
       (ap (λ l. number (take 4 l)) (drop-drop 4 (a + 4) s ∙ ap (λ j. drop j s) w) ∙ upper-zero t u (not-odd i h) three)
 
+module _ (s : List ℕ) (e : refusal s ≡ 0) where
   constants-narrow : (k : ℕ) (c : Slot) → read s .constant k ≡ some c → Narrow (AreBytes s) c
-  unfolding read
+  unfolding moduleOf
   constants-narrow k c q =
-      decide (ltb k (constants s))
-      (λ y. subst (Narrow (AreBytes s)) (some-inj (constantOf s k) c (rw y at q)) (constant-narrow k (ltb-is k (constants s) y)))
+      let cs : List ℕ = constantsIn s in
+      decide (ltb k (constantCount cs))
+      (λ y. subst (Narrow (AreBytes s)) (some-inj (constantOf cs k) c (rw y at q))
+      (λ B. constant-narrow cs (good-tables (tablesIn s) (good-file s e) .sixth) k (ltb-is k (constantCount cs) y) (bytes-cut s 48 (12 * constants s) B)))
       (λ y. none-some (rw y at q))
 
   pub narrow-closed : Closed (read s) (Narrow (AreBytes s))

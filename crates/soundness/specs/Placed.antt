@@ -8,10 +8,12 @@ use mathlib.Core.List.{List}
 use lib.Dec.{leb}
 use Rattle.soundness.specs.Names.{Slot, Instruction}
 use Rattle.rules.specs.Instructions.{size}
-use Rattle.rules.specs.ModuleFile.{Body, bodyEnd, codeLength, read, refusal}
+use Rattle.rules.specs.Tables.{Body, bodyEnd}
+use Rattle.rules.specs.ModuleFile.{bodiesIn, codeLength, read, refusal, tablesIn}
 use Rattle.rules.specs.Machine.{State, Next, advance, step}
 use Rattle.soundness.specs.Tests.{decide, leb-is}
 use Rattle.soundness.specs.Readable.{Has, end-is, place-inside, orderly}
+use Rattle.soundness.specs.Cutting.{code-length, good-file}
 use Rattle.soundness.specs.Started.{Closed, Fit, NextFit, advance-fit, has-instruction}
 
 -- short of its end
@@ -22,17 +24,18 @@ module _ (s : List ℕ) (e : refusal s ≡ 0) (P : Slot → Type 0) (C : Closed 
   -- its body ends in the code
   pub stop-inside : st .top .stop ≤ codeLength s
   stop-inside =
-      let y = end-is s e (st .top .body) (st .top .stop) (I .frames .0 .ends) in
-      subst (λ z. z ≤ codeLength s) (y .1) (place-inside s e (st .top .body) (st .top .place) (y .0) (I .frames .0 .placed) .2)
+      let y = end-is (tablesIn s) (good-file s e) (st .top .body) (st .top .stop) (I .frames .0 .ends) in
+      let z = place-inside (tablesIn s) (good-file s e) (st .top .body) (st .top .place) (y .0) (I .frames .0 .placed) .2 in
+      subst (λ n. n ≤ codeLength s) (y .1) (subst (λ n. bodyEnd (bodiesIn s) (st .top .body) ≤ n) (code-length s e) z)
 
   pub whole-instruction : st .top .place < st .top .stop
       → (i : Instruction) × (read s .code (st .top .place) ≡ some i) × (st .top .place + size i ≤ st .top .stop)
   whole-instruction l =
-      let x = has-instruction (read s) (orderly s e) P C cap st I (lt-not-leb (st .top .place) (st .top .stop) l) in
-      let y = end-is s e (st .top .body) (st .top .stop) (I .frames .0 .ends) in
-      let w = place-inside s e (st .top .body) (st .top .place + size (x .0)) (y .0) (x .2) in
+      let x = has-instruction (read s) (orderly (tablesIn s) (good-file s e)) P C cap st I (lt-not-leb (st .top .place) (st .top .stop) l) in
+      let y = end-is (tablesIn s) (good-file s e) (st .top .body) (st .top .stop) (I .frames .0 .ends) in
+      let w = place-inside (tablesIn s) (good-file s e) (st .top .body) (st .top .place + size (x .0)) (y .0) (x .2) in
       (x .0, x .1, subst (λ z. st .top .place + size (x .0) ≤ z) (y .1) (w .1))
 
   pub step-fit : st .top .place < st .top .stop → NextFit (read s) P cap (step (read s) cap st)
   unfolding advance
-  step-fit l = rw (lt-not-leb (st .top .place) (st .top .stop) l) at (advance-fit (read s) (orderly s e) P C cap st I)
+  step-fit l = rw (lt-not-leb (st .top .place) (st .top .stop) l) at (advance-fit (read s) (orderly (tablesIn s) (good-file s e)) P C cap st I)

@@ -1,29 +1,30 @@
 -- What a module that can be read keeps: each row of the table read as facts, and the flow of places in its bodies.
 use mathlib.Core.Path.{_≡_, refl, sym, ap, _∙_, subst}
 use mathlib.Core.Logic.{_≢_, _⊎_, inl, inr}
-use Prim.Native.Nat.{ℕ, zero, suc, _+_, _-_, _≤_, _<_}
+use Prim.Native.Nat.{ℕ, zero, suc, _+_, _-_, _/_, _%_, _≤_, _<_}
 use native.Mathlib.Omega.{arith}
-use mathlib.Core.Bool.{Bool, true, false, not, _&&_, _||_}
-use mathlib.Core.Option.{none, some}
+use mathlib.Core.Bool.{Bool, true, false, _&&_, _||_}
+use mathlib.Core.Option.{some}
 use mathlib.Core.List.{List, [], _∷_}
 use lib.ListN.{length, getD, take, drop}
 use lib.Seq.{getD-drop}
 use lib.Dec.{ltb, leb, eqb}
 use Rattle.soundness.specs.Names.{Instruction}
-use Rattle.rules.specs.Bytes.{byte, word, number, within, some-below}
+use Rattle.rules.specs.Bytes.{byte, word, number, some-below}
 use Rattle.rules.specs.Instructions.{Ty, typeByte, tyOf, Opcode, absent, bare, wide, edition3, opcodes, opcodeOf, isAbsent, operandBytes, instructionOf, size}
-use Rattle.rules.specs.ModuleFile.{edition, constants, functions, labels, codeLength, entryLength, functionAt, labelAt, constantAt, functionsAt, labelsAt, codeAt, differs, short, otherEdition, otherTotal, overLimit, notPacked, oddConstant, badConstant, badConstants, oddReturn, oddParam, badParam, badRecord, badFunction, badFunctions, endBefore, opcodeAt, dueAfter, due, unknownAt, crossed, badCode, owns, badLabel, badLabels, firstOf, refusal, Body, entry, fn, bodyOf, Function, Module, paramsFrom, functionOf, constantOf, labelOf, codeOf, bodyStart, bodyEnd, placeIn, read}
+use Rattle.rules.specs.Tables.{Bodies, Tables, constantCount, functionCount, labelCount, constantAt, functionAt, labelAt, differs, oddConstant, badConstant, badConstants, oddReturn, oddParam, badParam, badRecord, badFunction, badFunctions, endBefore, opcodeAt, dueAfter, due, dueIn, unknownAt, crossed, badCode, owns, badLabel, badLabels, firstOf, contentTests, Body, entry, fn, bodyOf, Function, Module, paramsFrom, functionOf, labelOf, codeOf, bodyStart, bodyEnd, placeIn, moduleOf}
+use Rattle.rules.specs.Writing.{tooMany, broken, tableRefusal}
 use Rattle.rules.specs.Typing.{startOf, endOf}
 use Rattle.rules.specs.Claims.{dueFrom}
 use Rattle.soundness.specs.Tests.{decide, none-some, some-inj, eqb-is, eqb-isnt, eqb-other, leb-is, leb-isnt, leb-yes, ltb-is, ltb-isnt, ltb-yes, ltb-no, false-true, and-both, and-intro, or-neither, not-false}
 
 -- ---- rows
 
-abbrev AllFalse : List Bool → Type 0
+abbrev pub AllFalse : List Bool → Type 0
 AllFalse [] = Unit {0}
 AllFalse (t ∷ ts) = (t ≡ false) × AllFalse ts
 
-none-first : (n : ℕ) (ts : List Bool) → firstOf (suc n) ts ≡ 0 → AllFalse ts
+pub none-first : (n : ℕ) (ts : List Bool) → firstOf (suc n) ts ≡ 0 → AllFalse ts
 unfolding firstOf
 none-first n [] e = tt
 none-first n (true ∷ ts) e = absurd (omega arith)
@@ -80,176 +81,192 @@ param-type used t u h =
     (λ f. decide (eqb t 134) (λ g. let q : t ≡ 134 = eqb-is t 134 g in rw q refl) (λ g. false-true (sym (rw (a, b, c, d, f, g) at e))))))))
 
 -- a body that exists
-abbrev pub Has : List ℕ → Body → Type 0
-Has s entry = Unit {0}
-Has s (fn k) = k < functions s
+abbrev pub Has : Bodies → Body → Type 0
+Has B entry = Unit {0}
+Has B (fn k) = k < functionCount (B .functions)
 
--- ---- row 7
+-- what rows 4, 5, 7 and 8 leave of the bodies
+pub record Good (B : Bodies) : Type 0 where
+  pub few-functions : functionCount (B .functions) ≤ 128
+  pub little-code : length (B .code) ≤ 16384
+  pub inside : B .entry ≤ length (B .code)
+  pub seventh : badFunctions B ≡ false
+  pub eighth : badCode B ≡ false
 
-pub ends-rise : (s : List ℕ) (i j : ℕ) → i ≤ j → endBefore s i ≤ endBefore s j
-unfolding endBefore
-ends-rise s i zero h = let q : i ≡ 0 = omega arith in rw q (omega arith)
-ends-rise s i (suc j) h =
-    decide (ltb j i) (λ y. let l : j < i = ltb-is j i y in let q : i ≡ suc j = omega arith in rw (q, endBefore) (omega arith))
-    (λ y. let r : endBefore s i ≤ endBefore s j = ends-rise s i j (ltb-isnt j i y) in omega arith)
+-- what rows 4 to 9 leave of tables
+pub record GoodTables (t : Tables) : Type 0 where
+  pub few-constants : constantCount (t .constants) ≤ 1024
+  pub few-labels : labelCount (t .labels) ≤ 256
+  pub whole-constants : length (t .constants) % 12 ≡ 0
+  pub whole-functions : length (t .bodies .functions) % 20 ≡ 0
+  pub whole-labels : length (t .labels) % 8 ≡ 0
+  pub sixth : badConstants (t .constants) ≡ false
+  pub ninth : badLabels (t .bodies) (t .labels) ≡ false
+  pub good : Good (t .bodies)
 
-module _ (s : List ℕ) (g : badFunctions s ≡ false) where
-  good-functions : (some-below (functions s) (badFunction s) ≡ false) × (differs (endBefore s (functions s)) (codeLength s) ≡ false)
-  unfolding badFunctions
-  good-functions = or-neither (some-below (functions s) (badFunction s)) (differs (endBefore s (functions s)) (codeLength s)) g
+pub good-tables : (t : Tables) → tableRefusal t ≡ 0 → GoodTables t
+unfolding tableRefusal tooMany broken
+good-tables t e =
+    let C : ℕ = length (t .constants) in
+    let F : ℕ = length (t .bodies .functions) in
+    let L : ℕ = length (t .labels) in
+    let N : ℕ = length (t .bodies .code) in
+    let r : AllFalse (tooMany t ∷ broken t ∷ contentTests t) = none-first 3 (tooMany t ∷ broken t ∷ contentTests t) e in
+    let x : _ × (ltb 16384 N ≡ false) = or-neither _ (ltb 16384 N) (r .0) in
+    let y : _ × (ltb 256 (L / 8) ≡ false) = or-neither _ (ltb 256 (L / 8)) (x .0) in
+    let z : (ltb 1024 (C / 12) ≡ false) × (ltb 128 (F / 20) ≡ false) = or-neither (ltb 1024 (C / 12)) (ltb 128 (F / 20)) (y .0) in
+    let u : _ × (ltb N (t .bodies .entry) ≡ false) = or-neither _ (ltb N (t .bodies .entry)) (r .1 .0) in
+    let v : _ × (differs (L % 8) 0 ≡ false) = or-neither _ (differs (L % 8) 0) (u .0) in
+    let w : (differs (C % 12) 0 ≡ false) × (differs (F % 20) 0 ≡ false) = or-neither (differs (C % 12) 0) (differs (F % 20) 0) (v .0) in
+    record {
+      few-constants = ltb-isnt 1024 (C / 12) (z .0);
+      few-labels = ltb-isnt 256 (L / 8) (y .1);
+      whole-constants = same-numbers (C % 12) 0 (w .0);
+      whole-functions = same-numbers (F % 20) 0 (w .1);
+      whole-labels = same-numbers (L % 8) 0 (v .1);
+      sixth = r .1 .1 .0;
+      ninth = r .1 .1 .1 .1 .1 .0;
+      good =
+          record {
+            few-functions = ltb-isnt 128 (F / 20) (z .1);
+            little-code = ltb-isnt 16384 N (x .1);
+            inside = ltb-isnt N (t .bodies .entry) (u .1);
+            seventh = r .1 .1 .1 .0;
+            eighth = r .1 .1 .1 .1 .0;
+          };
+    }
 
-  pub fills : endBefore s (functions s) ≡ codeLength s
-  fills = same-numbers (endBefore s (functions s)) (codeLength s) (good-functions .1)
+-- ---- constants
 
-  record-parts : (k : ℕ) → k < functions s
-      → (differs (word 4 s (functionAt s k)) (endBefore s k) ≡ false) × (ltb 8 (byte s (functionAt s k + 8)) ≡ false) × (oddReturn (byte s (functionAt s k + 9)) ≡ false)
-      × (some-below 8 (badParam s (functionAt s k)) ≡ false)
-  unfolding badFunction badRecord
-  record-parts k h =
-      let a : ℕ = functionAt s k in
-      let f : badFunction s k ≡ false = none-below (functions s) (badFunction s) (good-functions .0) k h in
-      let x : _ × (some-below 8 (badParam s a) ≡ false) =
-      or-neither _ (some-below 8 (badParam s a)) (or-neither _ (differs (byte s (a + 18)) 0) (or-neither _ (differs (byte s (a + 19)) 0) f .0) .0) in
-      let y : _ × (oddReturn (byte s (a + 9)) ≡ false) = or-neither _ (oddReturn (byte s (a + 9))) (x .0) in
-      let z : _ × (ltb 8 (byte s (a + 8)) ≡ false) = or-neither _ (ltb 8 (byte s (a + 8))) (y .0) in
-      (or-neither (differs (word 4 s a) (endBefore s k)) (eqb (word 4 s (a + 4)) 0) (z .0) .0, z .1, y .1, x .1)
-
-  -- a function starts where the body before it ends
-  pub starts-after : (k : ℕ) → k < functions s → word 4 s (functionAt s k) ≡ endBefore s k
-  starts-after k h = same-numbers (word 4 s (functionAt s k)) (endBefore s k) (record-parts k h .0)
-
-module _ (s : List ℕ) (e : refusal s ≡ 0) where
-  rows : AllFalse (short s ∷ otherEdition s ∷ otherTotal s ∷ overLimit s ∷ notPacked s ∷ badConstants s ∷ badFunctions s ∷ badCode s ∷ badLabels s ∷ [])
-  unfolding refusal
-  rows = none-first 0 (short s ∷ otherEdition s ∷ otherTotal s ∷ overLimit s ∷ notPacked s ∷ badConstants s ∷ badFunctions s ∷ badCode s ∷ badLabels s ∷ []) e
-
-  within-limits : (ltb 1024 (constants s) ≡ false) × (ltb 128 (functions s) ≡ false) × (ltb 256 (labels s) ≡ false) × (ltb 16384 (codeLength s) ≡ false)
-  unfolding overLimit
-  within-limits =
-      let x : _ × (ltb 16384 (codeLength s) ≡ false) = or-neither _ (ltb 16384 (codeLength s)) (or-neither _ (differs (word 4 s 44) 0) (rows .1 .1 .1 .0) .0) in
-      let y : _ × (ltb 256 (labels s) ≡ false) = or-neither _ (ltb 256 (labels s)) (x .0) in
-      let z : (ltb 1024 (constants s) ≡ false) × (ltb 128 (functions s) ≡ false) = or-neither (ltb 1024 (constants s)) (ltb 128 (functions s)) (y .0) in
-      (z .0, z .1, y .1, x .1)
-
-  pub few-functions : functions s ≤ 128
-  few-functions = ltb-isnt 128 (functions s) (within-limits .1)
-
-  pub few-labels : labels s ≤ 256
-  few-labels = ltb-isnt 256 (labels s) (within-limits .2)
-
-  pub little-code : codeLength s ≤ 16384
-  little-code = ltb-isnt 16384 (codeLength s) (within-limits .3)
-
-  pub good-bodies : badFunctions s ≡ false
-  good-bodies = rows .1 .1 .1 .1 .1 .1 .0
-
-  entry-inside : entryLength s ≤ codeLength s
-  unfolding notPacked
-  entry-inside =
-      ltb-isnt (codeLength s) (entryLength s)
-      (or-neither
-      (differs (word 4 s 12) 48 || differs (word 4 s 20) (functionsAt s) || differs (word 4 s 28) (labelsAt s) || differs (word 4 s 36) (codeAt s) || differs (codeAt s + codeLength s) (word 4 s 4))
-      (ltb (codeLength s) (entryLength s)) (rows .1 .1 .1 .1 .0) .1)
-
-  pub good-constant : (i : ℕ) → i < constants s → badConstant s i ≡ false
+module _ (s : List ℕ) (sixth : badConstants s ≡ false) where
+  pub good-constant : (i : ℕ) → i < constantCount s → badConstant s i ≡ false
   unfolding badConstants
-  good-constant = none-below (constants s) (badConstant s) (rows .1 .1 .1 .1 .1 .0)
+  good-constant = none-below (constantCount s) (badConstant s) sixth
 
-  constant-word-type : (i : ℕ) → i < constants s → NumberByte (word 4 s (constantAt i))
+  constant-word-type : (i : ℕ) → i < constantCount s → NumberByte (word 4 s (constantAt i))
   unfolding badConstant
   constant-word-type i h = constant-type-word (word 4 s (constantAt i)) (word 4 s (constantAt i + 8)) (good-constant i h)
 
   -- row 6 speaks of the type word, `constantOf` of its first byte
-  pub constant-word : (i : ℕ) → i < constants s → word 4 s (constantAt i) ≡ byte s (constantAt i)
+  pub constant-word : (i : ℕ) → i < constantCount s → word 4 s (constantAt i) ≡ byte s (constantAt i)
   unfolding word
   constant-word i h =
       let a : ℕ = constantAt i in
       let z : a + 0 ≡ a = omega arith in
       sym (first-byte (drop a s) (number-byte-small (number (take 4 (drop a s))) (constant-word-type i h))) ∙ getD-drop a s 0 0 ∙ ap (λ j. getD s j 0) z
 
-  pub constant-type : (i : ℕ) → i < constants s → NumberByte (byte s (constantAt i))
+  pub constant-type : (i : ℕ) → i < constantCount s → NumberByte (byte s (constantAt i))
   constant-type i h = subst NumberByte (constant-word i h) (constant-word-type i h)
 
-  pub few-parameters : (k : ℕ) → k < functions s → byte s (functionAt s k + 8) ≤ 8
-  few-parameters k h = ltb-isnt 8 (byte s (functionAt s k + 8)) (record-parts s good-bodies k h .1)
+-- ---- functions
 
-  pub result-type : (k : ℕ) → k < functions s → (byte s (functionAt s k + 9) ≡ 0) ⊎ NumberByte (byte s (functionAt s k + 9))
-  result-type k h = return-type (byte s (functionAt s k + 9)) (record-parts s good-bodies k h .2)
+pub ends-rise : (B : Bodies) (i j : ℕ) → i ≤ j → endBefore B i ≤ endBefore B j
+unfolding endBefore
+ends-rise B i zero h = let q : i ≡ 0 = omega arith in rw q (omega arith)
+ends-rise B i (suc j) h =
+    decide (ltb j i) (λ y. let l : j < i = ltb-is j i y in let q : i ≡ suc j = omega arith in rw (q, endBefore) (omega arith))
+    (λ y. let r : endBefore B i ≤ endBefore B j = ends-rise B i j (ltb-isnt j i y) in omega arith)
 
-  pub parameter-type : (k j : ℕ) → k < functions s → j < byte s (functionAt s k + 8) → typeByte (tyOf (byte s (functionAt s k + 10 + j))) ≡ byte s (functionAt s k + 10 + j)
+module _ (B : Bodies) (g : badFunctions B ≡ false) where
+  good-functions : (some-below (functionCount (B .functions)) (badFunction B) ≡ false) × (differs (endBefore B (functionCount (B .functions))) (length (B .code)) ≡ false)
+  unfolding badFunctions
+  good-functions = or-neither (some-below (functionCount (B .functions)) (badFunction B)) (differs (endBefore B (functionCount (B .functions))) (length (B .code))) g
+
+  pub fills : endBefore B (functionCount (B .functions)) ≡ length (B .code)
+  fills = same-numbers (endBefore B (functionCount (B .functions))) (length (B .code)) (good-functions .1)
+
+  record-parts : (k : ℕ) → k < functionCount (B .functions)
+      → (differs (word 4 (B .functions) (functionAt k)) (endBefore B k) ≡ false) × (ltb 8 (byte (B .functions) (functionAt k + 8)) ≡ false) × (oddReturn (byte (B .functions) (functionAt k + 9)) ≡ false)
+      × (some-below 8 (badParam (B .functions) (functionAt k)) ≡ false)
+  unfolding badFunction badRecord
+  record-parts k h =
+      let a : ℕ = functionAt k in
+      let f : badFunction B k ≡ false = none-below (functionCount (B .functions)) (badFunction B) (good-functions .0) k h in
+      let x : _ × (some-below 8 (badParam (B .functions) a) ≡ false) =
+      or-neither _ (some-below 8 (badParam (B .functions) a)) (or-neither _ (differs (byte (B .functions) (a + 18)) 0) (or-neither _ (differs (byte (B .functions) (a + 19)) 0) f .0) .0) in
+      let y : _ × (oddReturn (byte (B .functions) (a + 9)) ≡ false) = or-neither _ (oddReturn (byte (B .functions) (a + 9))) (x .0) in
+      let z : _ × (ltb 8 (byte (B .functions) (a + 8)) ≡ false) = or-neither _ (ltb 8 (byte (B .functions) (a + 8))) (y .0) in
+      (or-neither (differs (word 4 (B .functions) a) (endBefore B k)) (eqb (word 4 (B .functions) (a + 4)) 0) (z .0) .0, z .1, y .1, x .1)
+
+  -- a function starts where the body before it ends
+  pub starts-after : (k : ℕ) → k < functionCount (B .functions) → word 4 (B .functions) (functionAt k) ≡ endBefore B k
+  starts-after k h = same-numbers (word 4 (B .functions) (functionAt k)) (endBefore B k) (record-parts k h .0)
+
+  pub few-parameters : (k : ℕ) → k < functionCount (B .functions) → byte (B .functions) (functionAt k + 8) ≤ 8
+  few-parameters k h = ltb-isnt 8 (byte (B .functions) (functionAt k + 8)) (record-parts k h .1)
+
+  pub result-type : (k : ℕ) → k < functionCount (B .functions) → (byte (B .functions) (functionAt k + 9) ≡ 0) ⊎ NumberByte (byte (B .functions) (functionAt k + 9))
+  result-type k h = return-type (byte (B .functions) (functionAt k + 9)) (record-parts k h .2)
+
+  pub parameter-type : (k j : ℕ) → k < functionCount (B .functions) → j < byte (B .functions) (functionAt k + 8) → typeByte (tyOf (byte (B .functions) (functionAt k + 10 + j))) ≡ byte (B .functions) (functionAt k + 10 + j)
   unfolding badParam
   parameter-type k j h l =
-      let few : byte s (functionAt s k + 8) ≤ 8 = few-parameters k h in
-      param-type (ltb j (byte s (functionAt s k + 8))) (byte s (functionAt s k + 10 + j)) (ltb-yes j (byte s (functionAt s k + 8)) l)
-      (none-below 8 (badParam s (functionAt s k)) (record-parts s good-bodies k h .3) j (omega arith))
+      let few : byte (B .functions) (functionAt k + 8) ≤ 8 = few-parameters k h in
+      param-type (ltb j (byte (B .functions) (functionAt k + 8))) (byte (B .functions) (functionAt k + 10 + j)) (ltb-yes j (byte (B .functions) (functionAt k + 8)) l)
+      (none-below 8 (badParam (B .functions) (functionAt k)) (record-parts k h .3) j (omega arith))
 
-  pub unused-parameter : (k j : ℕ) → k < functions s → byte s (functionAt s k + 8) ≤ j → j < 8 → byte s (functionAt s k + 10 + j) ≡ 0
+  pub unused-parameter : (k j : ℕ) → k < functionCount (B .functions) → byte (B .functions) (functionAt k + 8) ≤ j → j < 8 → byte (B .functions) (functionAt k + 10 + j) ≡ 0
   unfolding badParam
   unused-parameter k j h l m =
-      let x : oddParam (ltb j (byte s (functionAt s k + 8))) (byte s (functionAt s k + 10 + j)) ≡ false = none-below 8 (badParam s (functionAt s k)) (record-parts s good-bodies k h .3) j m in
-      same-numbers (byte s (functionAt s k + 10 + j)) 0 (rw (ltb-no j (byte s (functionAt s k + 8)) l) at x)
+      let x : oddParam (ltb j (byte (B .functions) (functionAt k + 8))) (byte (B .functions) (functionAt k + 10 + j)) ≡ false = none-below 8 (badParam (B .functions) (functionAt k)) (record-parts k h .3) j m in
+      same-numbers (byte (B .functions) (functionAt k + 10 + j)) 0 (rw (ltb-no j (byte (B .functions) (functionAt k + 8)) l) at x)
 
-  good-code : (some-below (codeLength s) (unknownAt s) ≡ false) × (some-below (suc (functions s)) (crossed s) ≡ false)
+-- ---- code
+
+module _ (B : Bodies) (g : Good B) where
+  good-code : (some-below (length (B .code)) (unknownAt (B .edition) (B .code)) ≡ false) × (some-below (suc (functionCount (B .functions))) (crossed B) ≡ false)
   unfolding badCode
-  good-code = or-neither (some-below (codeLength s) (unknownAt s)) (some-below (suc (functions s)) (crossed s)) (rows .1 .1 .1 .1 .1 .1 .1 .0)
+  good-code = or-neither (some-below (length (B .code)) (unknownAt (B .edition) (B .code))) (some-below (suc (functionCount (B .functions))) (crossed B)) (g .eighth)
 
   -- an instruction begins at a known opcode
-  known-opcode : (p : ℕ) → p < codeLength s → due s p ≡ 0 → isAbsent (opcodeAt s p) ≡ false
+  known-opcode : (p : ℕ) → p < length (B .code) → dueIn B p ≡ 0 → isAbsent (opcodeAt (B .edition) (B .code) p) ≡ false
   unfolding unknownAt
   known-opcode p h d =
-      let x : (eqb (due s p) 0 && isAbsent (opcodeAt s p)) ≡ false = none-below (codeLength s) (unknownAt s) (good-code .0) p h in
-      decide (isAbsent (opcodeAt s p)) (λ y. let z : true ≡ false = rw (d, y) at x in false-true (sym z)) (λ y. y)
+      let x : (eqb (dueIn B p) 0 && isAbsent (opcodeAt (B .edition) (B .code) p)) ≡ false = none-below (length (B .code)) (unknownAt (B .edition) (B .code)) (good-code .0) p h in
+      decide (isAbsent (opcodeAt (B .edition) (B .code) p)) (λ y. let z : true ≡ false = rw (d, y) at x in false-true (sym z)) (λ y. y)
 
   -- no instruction crosses a body's end
-  cut-at-end : (i : ℕ) → i ≤ functions s → due s (endBefore s i) ≡ 0
+  cut-at-end : (i : ℕ) → i ≤ functionCount (B .functions) → dueIn B (endBefore B i) ≡ 0
   unfolding crossed
-  cut-at-end i h = same-numbers (due s (endBefore s i)) 0 (none-below (suc (functions s)) (crossed s) (good-code .1) i (omega arith))
-
-  good-label : (i : ℕ) → i < labels s → (owns s (word 4 s (labelAt s i)) (word 4 s (labelAt s i + 4)) ≡ true) × (due s (word 4 s (labelAt s i + 4)) ≡ 0)
-  unfolding badLabels badLabel
-  good-label i h =
-      let o : Bool = owns s (word 4 s (labelAt s i)) (word 4 s (labelAt s i + 4)) in
-      let d : Bool = eqb (due s (word 4 s (labelAt s i + 4))) 0 in
-      let x : (o ≡ true) × (d ≡ true) = and-both o d (not-false (o && d) (none-below (labels s) (badLabel s) (rows .1 .1 .1 .1 .1 .1 .1 .1 .0) i h)) in
-      (x .0, eqb-is (due s (word 4 s (labelAt s i + 4))) 0 (x .1))
+  cut-at-end i h = same-numbers (dueIn B (endBefore B i)) 0 (none-below (suc (functionCount (B .functions))) (crossed B) (good-code .1) i (omega arith))
 
   -- ---- bodies
 
   -- its end is the end of a body in the order of the code: cut there, inside the code, not before its start
   record EndsWell (b : Body) : Type 0 where
-    cut : due s (bodyEnd s b) ≡ 0
-    inside : bodyEnd s b ≤ codeLength s
-    starts-cut : due s (bodyStart s b) ≡ 0
-    ordered : bodyStart s b ≤ bodyEnd s b
+    cut : dueIn B (bodyEnd B b) ≡ 0
+    inside : bodyEnd B b ≤ length (B .code)
+    starts-cut : dueIn B (bodyStart B b) ≡ 0
+    ordered : bodyStart B b ≤ bodyEnd B b
 
-  due-zero : due s 0 ≡ 0
+  due-zero : dueIn B 0 ≡ 0
   unfolding due
   due-zero = refl
 
-  end-zero : endBefore s 0 ≡ entryLength s
+  end-zero : endBefore B 0 ≡ B .entry
   unfolding endBefore
   end-zero = refl
 
-  end-of : (k : ℕ) → k < functions s → word 4 s (functionAt s k) + word 4 s (functionAt s k + 4) ≡ endBefore s (suc k)
+  end-of : (k : ℕ) → k < functionCount (B .functions) → word 4 (B .functions) (functionAt k) + word 4 (B .functions) (functionAt k + 4) ≡ endBefore B (suc k)
   unfolding endBefore
-  end-of k h = ap (λ z. z + word 4 s (functionAt s k + 4)) (starts-after s good-bodies k h)
+  end-of k h = ap (λ z. z + word 4 (B .functions) (functionAt k + 4)) (starts-after B (g .seventh) k h)
 
-  ends-well : (b : Body) → Has s b → EndsWell b
-  ends-well entry h = record { cut = subst (λ w. due s w ≡ 0) end-zero (cut-at-end 0 (omega arith)); inside = entry-inside; starts-cut = due-zero; ordered = omega arith }
+  ends-well : (b : Body) → Has B b → EndsWell b
+  ends-well entry h = record { cut = subst (λ w. dueIn B w ≡ 0) end-zero (cut-at-end 0 (omega arith)); inside = g .inside; starts-cut = due-zero; ordered = omega arith }
   ends-well (fn k) h =
-      let q : word 4 s (functionAt s k) + word 4 s (functionAt s k + 4) ≡ endBefore s (suc k) = end-of k h in
-      let r : endBefore s (suc k) ≤ endBefore s (functions s) = ends-rise s (suc k) (functions s) h in
-      let f : endBefore s (functions s) ≡ codeLength s = fills s good-bodies in
-      record { cut = rw q (cut-at-end (suc k) h); inside = omega arith; starts-cut = rw (starts-after s good-bodies k h) (cut-at-end k (omega arith)); ordered = omega arith }
+      let q : word 4 (B .functions) (functionAt k) + word 4 (B .functions) (functionAt k + 4) ≡ endBefore B (suc k) = end-of k h in
+      let r : endBefore B (suc k) ≤ endBefore B (functionCount (B .functions)) = ends-rise B (suc k) (functionCount (B .functions)) h in
+      let f : endBefore B (functionCount (B .functions)) ≡ length (B .code) = fills B (g .seventh) in
+      record { cut = rw q (cut-at-end (suc k) h); inside = omega arith; starts-cut = rw (starts-after B (g .seventh) k h) (cut-at-end k (omega arith)); ordered = omega arith }
 
   -- what lies before the end of an earlier body does not lie in function k
-  before : (i k q : ℕ) → k < functions s → i ≤ k → q < endBefore s i → word 4 s (functionAt s k) ≤ q → ⊥
+  before : (i k q : ℕ) → k < functionCount (B .functions) → i ≤ k → q < endBefore B i → word 4 (B .functions) (functionAt k) ≤ q → ⊥
   before i k q h l v u =
-      let r : endBefore s i ≤ endBefore s k = ends-rise s i k l in
-      let w : word 4 s (functionAt s k) ≡ endBefore s k = starts-after s good-bodies k h in omega arith
+      let r : endBefore B i ≤ endBefore B k = ends-rise B i k l in
+      let w : word 4 (B .functions) (functionAt k) ≡ endBefore B k = starts-after B (g .seventh) k h in omega arith
 
   -- bodies are packed, so a place that is no end lies in one body only
-  same-body : (b c : Body) → Has s b → Has s c → (q : ℕ) → bodyStart s b ≤ q → q < bodyEnd s b → bodyStart s c ≤ q → q < bodyEnd s c → b ≡ c
+  same-body : (b c : Body) → Has B b → Has B c → (q : ℕ) → bodyStart B b ≤ q → q < bodyEnd B b → bodyStart B c ≤ q → q < bodyEnd B c → b ≡ c
   same-body entry entry h k q i j i′ j′ = refl
   same-body entry (fn k) h l q i j i′ j′ = absurd (before 0 k q l (omega arith) (rw end-zero j) i′)
   same-body (fn k) entry h l q i j i′ j′ = absurd (before 0 k q h (omega arith) (rw end-zero j′) i)
@@ -258,7 +275,7 @@ module _ (s : List ℕ) (e : refusal s ≡ 0) where
       (λ y. absurd (decide (ltb j k) (λ z. later j k q h l (ltb-is j k z) v u′)
       (λ z. later k j q l h (let n : j ≢ k = eqb-isnt j k y in let o : k ≤ j = ltb-isnt j k z in omega arith) v′ u)))
     where
-      later : (j k q : ℕ) → j < functions s → k < functions s → j < k → q < bodyEnd s (fn j) → bodyStart s (fn k) ≤ q → ⊥
+      later : (j k q : ℕ) → j < functionCount (B .functions) → k < functionCount (B .functions) → j < k → q < bodyEnd B (fn j) → bodyStart B (fn k) ≤ q → ⊥
       later j k q h l o v u = before (suc j) k q l o (subst (λ x. q < x) (end-of j h) v) u
 
 -- ---- instructions
@@ -285,39 +302,39 @@ sized-at (h ∷ t) a (suc b) = sized-at t (a .1) b
 pub sized : (e b : ℕ) → Sized (opcodeOf (opcodes e) b)
 sized e b = decide (eqb e 3) (λ y. rw y (sized-at edition3 all-sized b)) (λ y. rw y tt)
 
-module _ (s : List ℕ) where
-  due-suc : (p : ℕ) → due s (suc p) ≡ dueAfter (due s p) (opcodeAt s p)
+module _ (ed : ℕ) (s : List ℕ) where
+  due-suc : (p : ℕ) → due ed s (suc p) ≡ dueAfter (due ed s p) (opcodeAt ed s p)
   unfolding due
   due-suc p = refl
 
-  due-less : (p d : ℕ) → due s p ≡ suc d → due s (suc p) ≡ d
-  due-less p d e = due-suc p ∙ ap (λ z. dueAfter z (opcodeAt s p)) e
+  due-less : (p d : ℕ) → due ed s p ≡ suc d → due ed s (suc p) ≡ d
+  due-less p d e = due-suc p ∙ ap (λ z. dueAfter z (opcodeAt ed s p)) e
 
   -- the bytes behind an opcode that a word follows
-  due-inside : (p : ℕ) → due s (suc p) ≡ 4 → (j : ℕ) → j ≤ 4 → due s (suc p + j) ≡ 4 - j
+  due-inside : (p : ℕ) → due ed s (suc p) ≡ 4 → (j : ℕ) → j ≤ 4 → due ed s (suc p + j) ≡ 4 - j
   due-inside p e zero h = let q : suc p + 0 ≡ suc p = omega arith in rw q e
   due-inside p e (suc j) h =
       let q : suc p + suc j ≡ suc (suc p + j) = omega arith in
-      let r : due s (suc p + j) ≡ suc (3 - j) = due-inside p e j (omega arith) ∙ omega arith in
+      let r : due ed s (suc p + j) ≡ suc (3 - j) = due-inside p e j (omega arith) ∙ omega arith in
       let z : 3 - j ≡ 4 - suc j = omega arith in rw q (due-less (suc p + j) (3 - j) r ∙ z)
 
   -- no instruction begins among them
-  crossing : (p q : ℕ) → p < q → q < suc p + 4 → due s q ≡ 0 → due s (suc p) ≡ 4 → ⊥
+  crossing : (p q : ℕ) → p < q → q < suc p + 4 → due ed s q ≡ 0 → due ed s (suc p) ≡ 4 → ⊥
   crossing p q l₁ l₂ c d =
       let j : ℕ = q - suc p in
       let r : q ≡ suc p + j = omega arith in
-      let z : due s (suc p + j) ≡ 4 - j = due-inside p d j (omega arith) in
-      let y : due s (suc p + j) ≡ 0 = subst (λ k. due s k ≡ 0) r c in omega arith
+      let z : due ed s (suc p + j) ≡ 4 - j = due-inside p d j (omega arith) in
+      let y : due ed s (suc p + j) ≡ 0 = subst (λ k. due ed s k ≡ 0) r c in omega arith
 
   -- from one instruction start to a later one is at least the first one's size
-  apart : (p q : ℕ) (i : Instruction) → due s p ≡ 0 → due s q ≡ 0 → p < q → codeOf s p ≡ some i → p + size i ≤ q
+  apart : (p q : ℕ) (i : Instruction) → due ed s p ≡ 0 → due ed s q ≡ 0 → p < q → codeOf ed s p ≡ some i → p + size i ≤ q
   unfolding codeOf
-  apart p q i d c l h = go (opcodeAt s p) refl (sized (edition s) (byte s (codeAt s + p)))
+  apart p q i d c l h = go (opcodeAt ed s p) refl (sized ed (byte s p))
     where
       v : ℕ
-      v = word 4 s (codeAt s + p + 1)
+      v = word 4 s (p + 1)
 
-      go : (o : Opcode) → opcodeAt s p ≡ o → Sized (opcodeAt s p) → p + size i ≤ q
+      go : (o : Opcode) → opcodeAt ed s p ≡ o → Sized (opcodeAt ed s p) → p + size i ≤ q
       go absent z w = none-some (sym (ap (λ o. instructionOf o v) z) ∙ h)
       go (bare j) z w =
           let y : j ≡ i = some-inj j i (sym (ap (λ o. instructionOf o v) z) ∙ h) in
@@ -325,16 +342,16 @@ module _ (s : List ℕ) where
       go (wide f) z w =
           let y : f v ≡ i = some-inj (f v) i (sym (ap (λ o. instructionOf o v) z) ∙ h) in
           let si : size i ≡ 5 = subst (λ k. size k ≡ 5) y (subst Sized z w v) in
-          let n : due s (suc p) ≡ 4 = due-suc p ∙ ap (λ k. dueAfter k (opcodeAt s p)) d ∙ ap operandBytes z in
+          let n : due ed s (suc p) ≡ 4 = due-suc p ∙ ap (λ k. dueAfter k (opcodeAt ed s p)) d ∙ ap operandBytes z in
           decide (leb (p + size i) q) (λ x. leb-is (p + size i) q x)
           (λ x. let u : q < p + size i = leb-isnt (p + size i) q x in absurd (crossing p q l (omega arith) c n))
 
-  pub cut-from : (a : ℕ) → due s a ≡ 0 → (k : ℕ) → due s (a + k) ≡ dueFrom s a k
+  pub cut-from : (a : ℕ) → due ed s a ≡ 0 → (k : ℕ) → due ed s (a + k) ≡ dueFrom ed s a k
   unfolding dueFrom
   cut-from a e zero = let q : a + 0 ≡ a = omega arith in rw q e
   cut-from a e (suc k) =
       let q : a + suc k ≡ suc (a + k) = omega arith in
-      rw q (due-suc (a + k) ∙ ap (λ d. dueAfter d (opcodeAt s (a + k))) (cut-from a e k))
+      rw q (due-suc (a + k) ∙ ap (λ d. dueAfter d (opcodeAt ed s (a + k))) (cut-from a e k))
 
 -- ---- a module whose places lead to places
 
@@ -349,166 +366,177 @@ pub params-length : (s : List ℕ) (a n : ℕ) → length (paramsFrom s a n) ≡
 params-length s a zero = refl
 params-length s a (suc n) = ap suc (params-length s a n)
 
-module _ (s : List ℕ) (e : refusal s ≡ 0) where
+module _ (t : Tables) (e : tableRefusal t ≡ 0) where
+  good : Good (t .bodies)
+  good = good-tables t e .good
+
   -- a place of an existing body, by its parts
-  is-place : (b : Body) (p : ℕ) → bodyStart s b ≤ p → p ≤ bodyEnd s b → due s p ≡ 0 → placeIn s b p ≡ true
+  is-place : (b : Body) (p : ℕ) → bodyStart (t .bodies) b ≤ p → p ≤ bodyEnd (t .bodies) b → dueIn (t .bodies) p ≡ 0 → placeIn (t .bodies) b p ≡ true
   unfolding placeIn
   is-place b p h k d =
-      and-intro (leb (bodyStart s b) p && leb p (bodyEnd s b)) (eqb (due s p) 0)
-      (and-intro (leb (bodyStart s b) p) (leb p (bodyEnd s b)) (leb-yes (bodyStart s b) p h) (leb-yes p (bodyEnd s b) k)) (rw d refl)
+      and-intro (leb (bodyStart (t .bodies) b) p && leb p (bodyEnd (t .bodies) b)) (eqb (dueIn (t .bodies) p) 0)
+      (and-intro (leb (bodyStart (t .bodies) b) p) (leb p (bodyEnd (t .bodies) b)) (leb-yes (bodyStart (t .bodies) b) p h) (leb-yes p (bodyEnd (t .bodies) b) k)) (rw d refl)
 
-  place-is : (b : Body) (p : ℕ) → placeIn s b p ≡ true → (bodyStart s b ≤ p) × (p ≤ bodyEnd s b) × (due s p ≡ 0)
+  place-is : (b : Body) (p : ℕ) → placeIn (t .bodies) b p ≡ true → (bodyStart (t .bodies) b ≤ p) × (p ≤ bodyEnd (t .bodies) b) × (dueIn (t .bodies) p ≡ 0)
   unfolding placeIn
   place-is b p h =
-      let x : ((leb (bodyStart s b) p && leb p (bodyEnd s b)) ≡ true) × (eqb (due s p) 0 ≡ true) = and-both (leb (bodyStart s b) p && leb p (bodyEnd s b)) (eqb (due s p) 0) h in
-      let y : (leb (bodyStart s b) p ≡ true) × (leb p (bodyEnd s b) ≡ true) = and-both (leb (bodyStart s b) p) (leb p (bodyEnd s b)) (x .0) in
-      (leb-is (bodyStart s b) p (y .0), leb-is p (bodyEnd s b) (y .1), eqb-is (due s p) 0 (x .1))
+      let x : ((leb (bodyStart (t .bodies) b) p && leb p (bodyEnd (t .bodies) b)) ≡ true) × (eqb (dueIn (t .bodies) p) 0 ≡ true) = and-both (leb (bodyStart (t .bodies) b) p && leb p (bodyEnd (t .bodies) b)) (eqb (dueIn (t .bodies) p) 0) h in
+      let y : (leb (bodyStart (t .bodies) b) p ≡ true) × (leb p (bodyEnd (t .bodies) b) ≡ true) = and-both (leb (bodyStart (t .bodies) b) p) (leb p (bodyEnd (t .bodies) b)) (x .0) in
+      (leb-is (bodyStart (t .bodies) b) p (y .0), leb-is p (bodyEnd (t .bodies) b) (y .1), eqb-is (dueIn (t .bodies) p) 0 (x .1))
 
-  function-is : (k : ℕ) (F : Function) → read s .function k ≡ some F → (k < functions s) × (functionOf s (functionAt s k) ≡ F)
-  unfolding read
+  function-is : (k : ℕ) (F : Function) → moduleOf t .function k ≡ some F → (k < functionCount (t .bodies .functions)) × (functionOf (t .bodies .functions) (functionAt k) ≡ F)
+  unfolding moduleOf
   function-is k F q =
-      decide (ltb k (functions s)) (λ y. (ltb-is k (functions s) y, some-inj (functionOf s (functionAt s k)) F (rw y at q))) (λ y. none-some (rw y at q))
+      decide (ltb k (functionCount (t .bodies .functions))) (λ y. (ltb-is k (functionCount (t .bodies .functions)) y, some-inj (functionOf (t .bodies .functions) (functionAt k)) F (rw y at q))) (λ y. none-some (rw y at q))
 
   -- the body exists where it has an end, and this is the end
-  pub end-is : (b : Body) (q : ℕ) → endOf (read s) b ≡ some q → Has s b × (bodyEnd s b ≡ q)
-  unfolding read functionOf
-  end-is entry q h = (tt, some-inj (entryLength s) q h)
+  pub end-is : (b : Body) (q : ℕ) → endOf (moduleOf t) b ≡ some q → Has (t .bodies) b × (bodyEnd (t .bodies) b ≡ q)
+  unfolding moduleOf functionOf
+  end-is entry q h = (tt, some-inj (t .bodies .entry) q h)
   end-is (fn k) q h =
-      decide (ltb k (functions s)) (λ y. (ltb-is k (functions s) y, some-inj (bodyEnd s (fn k)) q (rw y at h))) (λ y. none-some (rw y at h))
+      decide (ltb k (functionCount (t .bodies .functions))) (λ y. (ltb-is k (functionCount (t .bodies .functions)) y, some-inj (bodyEnd (t .bodies) (fn k)) q (rw y at h))) (λ y. none-some (rw y at h))
 
-  pub has-end : (b : Body) → Has s b → endOf (read s) b ≡ some (bodyEnd s b)
-  unfolding read functionOf
+  pub has-end : (b : Body) → Has (t .bodies) b → endOf (moduleOf t) b ≡ some (bodyEnd (t .bodies) b)
+  unfolding moduleOf functionOf
   has-end entry h = refl
-  has-end (fn k) h = rw (ltb-yes k (functions s) h)
+  has-end (fn k) h = rw (ltb-yes k (functionCount (t .bodies .functions)) h)
 
-  pub start-is : (b : Body) (x : ℕ × List Ty) → startOf (read s) b ≡ some x → Has s b × (bodyStart s b ≡ x .0)
-  unfolding read functionOf
+  pub start-is : (b : Body) (x : ℕ × List Ty) → startOf (moduleOf t) b ≡ some x → Has (t .bodies) b × (bodyStart (t .bodies) b ≡ x .0)
+  unfolding moduleOf functionOf
   start-is entry x h = (tt, ap (λ (z : ℕ × List Ty). z .0) (some-inj (0, []) x h))
   start-is (fn k) x h =
-      decide (ltb k (functions s)) (λ y. (ltb-is k (functions s) y, ap (λ (z : ℕ × List Ty). z .0) (some-inj (bodyStart s (fn k), paramsFrom s (functionAt s k + 10) (byte s (functionAt s k + 8))) x (rw y at h))))
+      decide (ltb k (functionCount (t .bodies .functions))) (λ y. (ltb-is k (functionCount (t .bodies .functions)) y, ap (λ (z : ℕ × List Ty). z .0) (some-inj (bodyStart (t .bodies) (fn k), paramsFrom (t .bodies .functions) (functionAt k + 10) (byte (t .bodies .functions) (functionAt k + 8))) x (rw y at h))))
       (λ y. none-some (rw y at h))
 
-  next-place : (b : Body) (p : ℕ) → Has s b → placeIn s b p ≡ true → p < bodyEnd s b → (i : Instruction) × (codeOf s p ≡ some i) × (placeIn s b (p + size i) ≡ true)
+  next-place : (b : Body) (p : ℕ) → Has (t .bodies) b → placeIn (t .bodies) b p ≡ true → p < bodyEnd (t .bodies) b → (i : Instruction) × (codeOf (t .bodies .edition) (t .bodies .code) p ≡ some i) × (placeIn (t .bodies) b (p + size i) ≡ true)
   unfolding codeOf
   next-place b p hb h l =
-      let w : EndsWell s e b = ends-well s e b hb in
-      let x : (bodyStart s b ≤ p) × (p ≤ bodyEnd s b) × (due s p ≡ 0) = place-is b p h in
-      let ln : bodyEnd s b ≤ codeLength s = w .inside in
-      go (opcodeAt s p) refl (known-opcode s e p (omega arith) (x .2)) (sized (edition s) (byte s (codeAt s + p))) w x
+      let w : EndsWell (t .bodies) good b = ends-well (t .bodies) good b hb in
+      let x : (bodyStart (t .bodies) b ≤ p) × (p ≤ bodyEnd (t .bodies) b) × (dueIn (t .bodies) p ≡ 0) = place-is b p h in
+      let ln : bodyEnd (t .bodies) b ≤ length (t .bodies .code) = w .inside in
+      go (opcodeAt (t .bodies .edition) (t .bodies .code) p) refl (known-opcode (t .bodies) good p (omega arith) (x .2)) (sized (t .bodies .edition) (byte (t .bodies .code) p)) w x
     where
-      go : (o : Opcode) → opcodeAt s p ≡ o → isAbsent (opcodeAt s p) ≡ false → Sized (opcodeAt s p) → EndsWell s e b → (bodyStart s b ≤ p) × (p ≤ bodyEnd s b) × (due s p ≡ 0)
-          → (i : Instruction) × (instructionOf (opcodeAt s p) (word 4 s (codeAt s + p + 1)) ≡ some i) × (placeIn s b (p + size i) ≡ true)
+      go : (o : Opcode) → opcodeAt (t .bodies .edition) (t .bodies .code) p ≡ o → isAbsent (opcodeAt (t .bodies .edition) (t .bodies .code) p) ≡ false → Sized (opcodeAt (t .bodies .edition) (t .bodies .code) p) → EndsWell (t .bodies) good b → (bodyStart (t .bodies) b ≤ p) × (p ≤ bodyEnd (t .bodies) b) × (dueIn (t .bodies) p ≡ 0)
+          → (i : Instruction) × (instructionOf (opcodeAt (t .bodies .edition) (t .bodies .code) p) (word 4 (t .bodies .code) (p + 1)) ≡ some i) × (placeIn (t .bodies) b (p + size i) ≡ true)
       go absent q a z w x = let f : true ≡ false = sym (ap isAbsent q) ∙ a in false-true (sym f)
       go (bare i) q a z w x =
           let si : size i ≡ 1 = subst Sized q z in
-          let d : due s (suc p) ≡ 0 = due-suc s p ∙ ap (λ k. dueAfter k (opcodeAt s p)) (x .2) ∙ ap operandBytes q in
-          let st : bodyStart s b ≤ p = x .0 in
+          let d : dueIn (t .bodies) (suc p) ≡ 0 = due-suc (t .bodies .edition) (t .bodies .code) p ∙ ap (λ k. dueAfter k (opcodeAt (t .bodies .edition) (t .bodies .code) p)) (x .2) ∙ ap operandBytes q in
+          let st : bodyStart (t .bodies) b ≤ p = x .0 in
           let at-next : p + size i ≡ suc p = omega arith in
-          (i, ap (λ o. instructionOf o (word 4 s (codeAt s + p + 1))) q, rw at-next (is-place b (suc p) (omega arith) (omega arith) d))
+          (i, ap (λ o. instructionOf o (word 4 (t .bodies .code) (p + 1))) q, rw at-next (is-place b (suc p) (omega arith) (omega arith) d))
       go (wide f) q a z w x =
-          let v : ℕ = word 4 s (codeAt s + p + 1) in
+          let v : ℕ = word 4 (t .bodies .code) (p + 1) in
           let si : size (f v) ≡ 5 = subst Sized q z v in
-          let d : due s (suc p) ≡ 4 = due-suc s p ∙ ap (λ k. dueAfter k (opcodeAt s p)) (x .2) ∙ ap operandBytes q in
-          let st : bodyStart s b ≤ p = x .0 in
+          let d : dueIn (t .bodies) (suc p) ≡ 4 = due-suc (t .bodies .edition) (t .bodies .code) p ∙ ap (λ k. dueAfter k (opcodeAt (t .bodies .edition) (t .bodies .code) p)) (x .2) ∙ ap operandBytes q in
+          let st : bodyStart (t .bodies) b ≤ p = x .0 in
           let at-next : p + size (f v) ≡ suc p + 4 = omega arith in (
             f v,
             ap (λ o. instructionOf o v) q,
             rw at-next (is-place b (suc p + 4) (omega arith)
-                (decide (leb (suc p + 4) (bodyEnd s b)) (λ y. leb-is (suc p + 4) (bodyEnd s b) y)
-                (λ y. absurd (crossing s p (bodyEnd s b) l (leb-isnt (suc p + 4) (bodyEnd s b) y) (w .cut) d)))
-                (due-inside s p d 4 (omega arith))),
+                (decide (leb (suc p + 4) (bodyEnd (t .bodies) b)) (λ y. leb-is (suc p + 4) (bodyEnd (t .bodies) b) y)
+                (λ y. absurd (crossing (t .bodies .edition) (t .bodies .code) p (bodyEnd (t .bodies) b) l (leb-isnt (suc p + 4) (bodyEnd (t .bodies) b) y) (w .cut) d)))
+                (due-inside (t .bodies .edition) (t .bodies .code) p d 4 (omega arith))),
           )
 
+  good-label : (i : ℕ) → i < labelCount (t .labels) → (owns (t .bodies .functions) (t .bodies .entry) (word 4 (t .labels) (labelAt i)) (word 4 (t .labels) (labelAt i + 4)) ≡ true) × (dueIn (t .bodies) (word 4 (t .labels) (labelAt i + 4)) ≡ 0)
+  unfolding badLabels badLabel
+  good-label i h =
+      let o : Bool = owns (t .bodies .functions) (t .bodies .entry) (word 4 (t .labels) (labelAt i)) (word 4 (t .labels) (labelAt i + 4)) in
+      let d : Bool = eqb (dueIn (t .bodies) (word 4 (t .labels) (labelAt i + 4))) 0 in
+      let x : (o ≡ true) × (d ≡ true) = and-both o d (not-false (o && d) (none-below (labelCount (t .labels)) (badLabel (t .bodies) (t .labels)) (good-tables t e .ninth) i h)) in
+      (x .0, eqb-is (dueIn (t .bodies) (word 4 (t .labels) (labelAt i + 4))) 0 (x .1))
+
   -- a label lies in its body, and not at the end
-  pub label-is : (k : ℕ) (b : Body) (q : ℕ) → read s .label k ≡ some (b, q) → (k < labels s) × (Has s b × (bodyStart s b ≤ q) × (q < bodyEnd s b) × (due s q ≡ 0))
-  unfolding read labelOf owns
-  label-is k b q h = decide (ltb k (labels s)) (λ y. (ltb-is k (labels s) y, inside (ltb-is k (labels s) y) (some-inj (bodyOf o, p) (b, q) (rw y at h)))) (λ y. none-some (rw y at h))
+  pub label-is : (k : ℕ) (b : Body) (q : ℕ) → moduleOf t .label k ≡ some (b, q) → (k < labelCount (t .labels)) × (Has (t .bodies) b × (bodyStart (t .bodies) b ≤ q) × (q < bodyEnd (t .bodies) b) × (dueIn (t .bodies) q ≡ 0))
+  unfolding moduleOf labelOf owns
+  label-is k b q h = decide (ltb k (labelCount (t .labels))) (λ y. (ltb-is k (labelCount (t .labels)) y, inside (ltb-is k (labelCount (t .labels)) y) (some-inj (bodyOf o, p) (b, q) (rw y at h)))) (λ y. none-some (rw y at h))
     where
       o : ℕ
-      o = word 4 s (labelAt s k)
+      o = word 4 (t .labels) (labelAt k)
 
       p : ℕ
-      p = word 4 s (labelAt s k + 4)
+      p = word 4 (t .labels) (labelAt k + 4)
 
       of-entry : Bool
-      of-entry = eqb o 0xffffffff && ltb p (entryLength s)
+      of-entry = eqb o 0xffffffff && ltb p (t .bodies .entry)
 
       of-function : Bool
-      of-function = ltb o (functions s) && leb (word 4 s (functionAt s o)) p && ltb p (word 4 s (functionAt s o) + word 4 s (functionAt s o + 4))
+      of-function = ltb o (functionCount (t .bodies .functions)) && leb (word 4 (t .bodies .functions) (functionAt o)) p && ltb p (word 4 (t .bodies .functions) (functionAt o) + word 4 (t .bodies .functions) (functionAt o + 4))
 
-      in-body : (a c : Bool) → of-entry ≡ a → of-function ≡ c → (a || c) ≡ true → Has s (bodyOf o) × (bodyStart s (bodyOf o) ≤ p) × (p < bodyEnd s (bodyOf o))
+      in-body : (a c : Bool) → of-entry ≡ a → of-function ≡ c → (a || c) ≡ true → Has (t .bodies) (bodyOf o) × (bodyStart (t .bodies) (bodyOf o) ≤ p) × (p < bodyEnd (t .bodies) (bodyOf o))
       in-body true c u v w =
-          let x : (eqb o 0xffffffff ≡ true) × (ltb p (entryLength s) ≡ true) = and-both (eqb o 0xffffffff) (ltb p (entryLength s)) u in
-          rw (x .0) (tt, omega arith, ltb-is p (entryLength s) (x .1))
+          let x : (eqb o 0xffffffff ≡ true) × (ltb p (t .bodies .entry) ≡ true) = and-both (eqb o 0xffffffff) (ltb p (t .bodies .entry)) u in
+          rw (x .0) (tt, omega arith, ltb-is p (t .bodies .entry) (x .1))
       in-body false true u v w =
-          let x : ((ltb o (functions s) && leb (word 4 s (functionAt s o)) p) ≡ true) × (ltb p (word 4 s (functionAt s o) + word 4 s (functionAt s o + 4)) ≡ true) =
-          and-both (ltb o (functions s) && leb (word 4 s (functionAt s o)) p) (ltb p (word 4 s (functionAt s o) + word 4 s (functionAt s o + 4))) v in
-          let z : (ltb o (functions s) ≡ true) × (leb (word 4 s (functionAt s o)) p ≡ true) = and-both (ltb o (functions s)) (leb (word 4 s (functionAt s o)) p) (x .0) in
-          let k : o < functions s = ltb-is o (functions s) (z .0) in
-          let few : functions s ≤ 128 = few-functions s e in
+          let x : ((ltb o (functionCount (t .bodies .functions)) && leb (word 4 (t .bodies .functions) (functionAt o)) p) ≡ true) × (ltb p (word 4 (t .bodies .functions) (functionAt o) + word 4 (t .bodies .functions) (functionAt o + 4)) ≡ true) =
+          and-both (ltb o (functionCount (t .bodies .functions)) && leb (word 4 (t .bodies .functions) (functionAt o)) p) (ltb p (word 4 (t .bodies .functions) (functionAt o) + word 4 (t .bodies .functions) (functionAt o + 4))) v in
+          let z : (ltb o (functionCount (t .bodies .functions)) ≡ true) × (leb (word 4 (t .bodies .functions) (functionAt o)) p ≡ true) = and-both (ltb o (functionCount (t .bodies .functions))) (leb (word 4 (t .bodies .functions) (functionAt o)) p) (x .0) in
+          let k : o < functionCount (t .bodies .functions) = ltb-is o (functionCount (t .bodies .functions)) (z .0) in
+          let few : functionCount (t .bodies .functions) ≤ 128 = good .few-functions in
           rw (eqb-other o 0xffffffff (omega arith))
-          (k, leb-is (word 4 s (functionAt s o)) p (z .1), ltb-is p (word 4 s (functionAt s o) + word 4 s (functionAt s o + 4)) (x .1))
+          (k, leb-is (word 4 (t .bodies .functions) (functionAt o)) p (z .1), ltb-is p (word 4 (t .bodies .functions) (functionAt o) + word 4 (t .bodies .functions) (functionAt o + 4)) (x .1))
       in-body false false u v w = false-true w
 
-      inside : k < labels s → _≡_ {A = Body × ℕ} (bodyOf o, p) (b, q) → Has s b × (bodyStart s b ≤ q) × (q < bodyEnd s b) × (due s q ≡ 0)
+      inside : k < labelCount (t .labels) → _≡_ {A = Body × ℕ} (bodyOf o, p) (b, q) → Has (t .bodies) b × (bodyStart (t .bodies) b ≤ q) × (q < bodyEnd (t .bodies) b) × (dueIn (t .bodies) q ≡ 0)
       inside l z =
-          let g : (owns s o p ≡ true) × (due s p ≡ 0) = good-label s e k l in
-          let x : Has s (bodyOf o) × (bodyStart s (bodyOf o) ≤ p) × (p < bodyEnd s (bodyOf o)) = in-body of-entry of-function refl refl (g .0) in
-          subst (λ (y : Body × ℕ). Has s (y .0) × (bodyStart s (y .0) ≤ y .1) × (y .1 < bodyEnd s (y .0)) × (due s (y .1) ≡ 0)) z (x .0, x .1, x .2, g .1)
+          let g : (owns (t .bodies .functions) (t .bodies .entry) o p ≡ true) × (dueIn (t .bodies) p ≡ 0) = good-label k l in
+          let x : Has (t .bodies) (bodyOf o) × (bodyStart (t .bodies) (bodyOf o) ≤ p) × (p < bodyEnd (t .bodies) (bodyOf o)) = in-body of-entry of-function refl refl (g .0) in
+          subst (λ (y : Body × ℕ). Has (t .bodies) (y .0) × (bodyStart (t .bodies) (y .0) ≤ y .1) × (y .1 < bodyEnd (t .bodies) (y .0)) × (dueIn (t .bodies) (y .1) ≡ 0)) z (x .0, x .1, x .2, g .1)
 
-  label-place : (k : ℕ) (b : Body) (q : ℕ) → read s .label k ≡ some (b, q) → placeIn s b q ≡ true
+  label-place : (k : ℕ) (b : Body) (q : ℕ) → moduleOf t .label k ≡ some (b, q) → placeIn (t .bodies) b q ≡ true
   label-place k b q h =
-      let x : (k < labels s) × (Has s b × (bodyStart s b ≤ q) × (q < bodyEnd s b) × (due s q ≡ 0)) = label-is k b q h in
-      let l : q < bodyEnd s b = x .1 .2 in is-place b q (x .1 .1) (omega arith) (x .1 .3)
+      let x : (k < labelCount (t .labels)) × (Has (t .bodies) b × (bodyStart (t .bodies) b ≤ q) × (q < bodyEnd (t .bodies) b) × (dueIn (t .bodies) q ≡ 0)) = label-is k b q h in
+      let l : q < bodyEnd (t .bodies) b = x .1 .2 in is-place b q (x .1 .1) (omega arith) (x .1 .3)
 
-  pub label-inside : (k : ℕ) (b : Body) (q end : ℕ) → read s .label k ≡ some (b, q) → endOf (read s) b ≡ some end → q < end
+  pub label-inside : (k : ℕ) (b : Body) (q end : ℕ) → moduleOf t .label k ≡ some (b, q) → endOf (moduleOf t) b ≡ some end → q < end
   label-inside k b q end h n = subst (λ x. q < x) (end-is b end n .1) (label-is k b q h .1 .2)
 
   -- bodies are packed, so a label at a place of a body, short of its end, is that body's
-  pub label-own : (k : ℕ) (b′ b : Body) (q end : ℕ) → read s .label k ≡ some (b′, q) → read s .isPlace b q ≡ true → endOf (read s) b ≡ some end → q < end → b′ ≡ b
-  unfolding read
+  pub label-own : (k : ℕ) (b′ b : Body) (q end : ℕ) → moduleOf t .label k ≡ some (b′, q) → moduleOf t .isPlace b q ≡ true → endOf (moduleOf t) b ≡ some end → q < end → b′ ≡ b
+  unfolding moduleOf
   label-own k b′ b q end h i n l =
-      let x : (k < labels s) × (Has s b′ × (bodyStart s b′ ≤ q) × (q < bodyEnd s b′) × (due s q ≡ 0)) = label-is k b′ q h in
-      let y : Has s b × (bodyEnd s b ≡ end) = end-is b end n in
-      same-body s e b′ b (x .1 .0) (y .0) q (x .1 .1) (x .1 .2) (place-is b q i .0) (subst (λ z. q < z) (sym (y .1)) l)
+      let x : (k < labelCount (t .labels)) × (Has (t .bodies) b′ × (bodyStart (t .bodies) b′ ≤ q) × (q < bodyEnd (t .bodies) b′) × (dueIn (t .bodies) q ≡ 0)) = label-is k b′ q h in
+      let y : Has (t .bodies) b × (bodyEnd (t .bodies) b ≡ end) = end-is b end n in
+      same-body (t .bodies) good b′ b (x .1 .0) (y .0) q (x .1 .1) (x .1 .2) (place-is b q i .0) (subst (λ z. q < z) (sym (y .1)) l)
 
   -- the places of a body lie between its ends, and these in the code
-  pub place-inside : (b : Body) (p : ℕ) → Has s b → read s .isPlace b p ≡ true → (bodyStart s b ≤ p) × (p ≤ bodyEnd s b) × (bodyEnd s b ≤ codeLength s)
-  unfolding read
-  place-inside b p h i = let x : (bodyStart s b ≤ p) × (p ≤ bodyEnd s b) × (due s p ≡ 0) = place-is b p i in (x .0, x .1, ends-well s e b h .inside)
+  pub place-inside : (b : Body) (p : ℕ) → Has (t .bodies) b → moduleOf t .isPlace b p ≡ true → (bodyStart (t .bodies) b ≤ p) × (p ≤ bodyEnd (t .bodies) b) × (bodyEnd (t .bodies) b ≤ length (t .bodies .code))
+  unfolding moduleOf
+  place-inside b p h i = let x : (bodyStart (t .bodies) b ≤ p) × (p ≤ bodyEnd (t .bodies) b) × (dueIn (t .bodies) p ≡ 0) = place-is b p i in (x .0, x .1, ends-well (t .bodies) good b h .inside)
 
-  pub place-extent : (b : Body) → Has s b → (p : ℕ) → read s .isPlace b p ≡ true → p ≤ read s .extent
-  unfolding read
+  pub place-extent : (b : Body) → Has (t .bodies) b → (p : ℕ) → moduleOf t .isPlace b p ≡ true → p ≤ moduleOf t .extent
+  unfolding moduleOf
   place-extent b h p i =
-      let x : (bodyStart s b ≤ p) × (p ≤ bodyEnd s b) × (bodyEnd s b ≤ codeLength s) = place-inside b p h i in
-      let y : p ≤ bodyEnd s b = x .1 in let z : bodyEnd s b ≤ codeLength s = x .2 in omega arith
+      let x : (bodyStart (t .bodies) b ≤ p) × (p ≤ bodyEnd (t .bodies) b) × (bodyEnd (t .bodies) b ≤ length (t .bodies .code)) = place-inside b p h i in
+      let y : p ≤ bodyEnd (t .bodies) b = x .1 in let z : bodyEnd (t .bodies) b ≤ length (t .bodies .code) = x .2 in omega arith
 
-  pub place-onward : (b : Body) (p : ℕ) (ts : List Ty) (q : ℕ) → startOf (read s) b ≡ some (p, ts) → read s .isPlace b q ≡ true → p ≤ q
+  pub place-onward : (b : Body) (p : ℕ) (ts : List Ty) (q : ℕ) → startOf (moduleOf t) b ≡ some (p, ts) → moduleOf t .isPlace b q ≡ true → p ≤ q
   place-onward b p ts q h i =
-      let x : Has s b × (bodyStart s b ≡ p) = start-is b (p, ts) h in subst (λ z. z ≤ q) (x .1) (place-inside b q (x .0) i .0)
+      let x : Has (t .bodies) b × (bodyStart (t .bodies) b ≡ p) = start-is b (p, ts) h in subst (λ z. z ≤ q) (x .1) (place-inside b q (x .0) i .0)
 
   -- no instruction of a body reaches over the next one
-  pub cut-apart : (b : Body) (p q : ℕ) (i : Instruction) → read s .isPlace b p ≡ true → read s .isPlace b q ≡ true → p < q → read s .code p ≡ some i → p + size i ≤ q
-  unfolding read
-  cut-apart b p q i h k l c = apart s p q i (place-is b p h .2) (place-is b q k .2) l c
+  pub cut-apart : (b : Body) (p q : ℕ) (i : Instruction) → moduleOf t .isPlace b p ≡ true → moduleOf t .isPlace b q ≡ true → p < q → moduleOf t .code p ≡ some i → p + size i ≤ q
+  unfolding moduleOf
+  cut-apart b p q i h k l c = apart (t .bodies .edition) (t .bodies .code) p q i (place-is b p h .2) (place-is b q k .2) l c
 
-  params-few : (k : ℕ) → k < functions s → length (functionOf s (functionAt s k) .params) ≤ 8
+  params-few : (k : ℕ) → k < functionCount (t .bodies .functions) → length (functionOf (t .bodies .functions) (functionAt k) .params) ≤ 8
   unfolding functionOf
-  params-few k h = rw (params-length s (functionAt s k + 10) (byte s (functionAt s k + 8))) (few-parameters s e k h)
+  params-few k h = rw (params-length (t .bodies .functions) (functionAt k + 10) (byte (t .bodies .functions) (functionAt k + 8))) (few-parameters (t .bodies) (good .seventh) k h)
 
-  pub orderly : Orderly (read s)
-  unfolding read
+  pub orderly : Orderly (moduleOf t)
+  unfolding moduleOf
   orderly =
       record {
         enters = λ b x h.
-            let y : Has s b × (bodyStart s b ≡ x .0) = start-is b x h in
-            let w : EndsWell s e b = ends-well s e b (y .0) in
-            subst (λ z. placeIn s b z ≡ true) (y .1) (is-place b (bodyStart s b) (omega arith) (w .ordered) (w .starts-cut));
+            let y : Has (t .bodies) b × (bodyStart (t .bodies) b ≡ x .0) = start-is b x h in
+            let w : EndsWell (t .bodies) good b = ends-well (t .bodies) good b (y .0) in
+            subst (λ z. placeIn (t .bodies) b z ≡ true) (y .1) (is-place b (bodyStart (t .bodies) b) (omega arith) (w .ordered) (w .starts-cut));
         goes-on = λ b q p h k l.
-            let y : Has s b × (bodyEnd s b ≡ q) = end-is b q h in
-            let z : bodyEnd s b ≡ q = y .1 in next-place b p (y .0) k (omega arith);
+            let y : Has (t .bodies) b × (bodyEnd (t .bodies) b ≡ q) = end-is b q h in
+            let z : bodyEnd (t .bodies) b ≡ q = y .1 in next-place b p (y .0) k (omega arith);
         lands = label-place;
         few-params = λ k F h.
-            let y : (k < functions s) × (functionOf s (functionAt s k) ≡ F) = function-is k F h in
+            let y : (k < functionCount (t .bodies .functions)) × (functionOf (t .bodies .functions) (functionAt k) ≡ F) = function-is k F h in
             subst (λ (G : Function). length (G .params) ≤ 8) (y .1) (params-few k (y .0));
       }

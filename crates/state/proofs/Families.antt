@@ -11,7 +11,7 @@ use Rattle.rules.specs.declared.Binary.{Binary}
 use Rattle.rules.specs.declared.Instruction.{Instruction}
 use Rattle.rules.specs.declared.Instruction.the-variants.{One, Two}
 use Rattle.rules.specs.Bytes.{written}
-use Rattle.rules.specs.ModuleFile.{Module}
+use Rattle.rules.specs.Tables.{Module}
 use Rattle.rules.specs.Stack.{slotAt, slotsOf}
 use Rattle.rules.specs.Machine.{execIn, Next, deref}
 use Rattle.state.specs.Slots.{payloadsWith, typesWith}

@@ -6,7 +6,7 @@ use mathlib.Core.List.{List, [], _∷_}
 use mathlib.Core.Logic.{_⊎_}
 use lib.ListN.{length, getD, set, drop}
 use lib.Dec.{eqb}
-use Rattle.rules.specs.ModuleFile.{Body, entry, fn}
+use Rattle.rules.specs.Tables.{Body, entry, fn}
 use Rattle.rules.specs.Stack.{slotsOf}
 use Rattle.rules.specs.Machine.{Frame, State, Next, goes, stops, finishes}
 use Rattle.state.specs.declared.Registers.{Registers}

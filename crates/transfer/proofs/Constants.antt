@@ -13,10 +13,12 @@ use Rattle.rules.specs.declared.Num.the-variants.{Int as int, Long as long, Dou
 use Rattle.rules.specs.declared.Slot.{Slot}
 use Rattle.rules.specs.declared.Instruction.the-variants.{Push}
 use Rattle.rules.specs.Instructions.{tyOf, numKind, numOf}
-use Rattle.rules.specs.ModuleFile.{Body, Module, differs, numberType, oddConstant, badConstant, constants, constantAt, constantOf, read, refusal}
+use Rattle.rules.specs.Tables.{constantCount, Body, Module, differs, numberType, oddConstant, badConstant, constantAt, constantOf, moduleOf}
+use Rattle.rules.specs.ModuleFile.{read, refusal, constantsIn}
 use Rattle.rules.specs.Typing.{Flow, judge, to}
 use Rattle.memory.proofs.Words.{word-suc}
 use Rattle.soundness.specs.Readable.{good-constant}
+use Rattle.soundness.specs.Cutting.{constants-good}
 use Rattle.soundness.specs.Tests.{decide, none-some, some-inj}
 use Rattle.records.specs.Record.{listsOf, IsType, Holds, Judged}
 use Rattle.records.specs.Laws.{number-type, number-is-type, breaks}
@@ -74,18 +76,21 @@ low-kind double = omega arith
 
 -- a constant of a module that can be read is a number
 pub constant-number : (s : List ℕ) → refusal s ≡ 0 → (k : ℕ) (v : Slot) → some v ≡ read s .constant k → (τ : Num) × (v .kind ≡ numKind τ)
-unfolding read constantOf badConstant
-constant-number s e k v is = decide (ltb k (constants s)) inside (λ y. none-some (sym (rw y at is)))
+unfolding moduleOf constantOf badConstant
+constant-number s e k v is = decide (ltb k (constantCount cs)) inside (λ y. none-some (sym (rw y at is)))
   where
-    inside : ltb k (constants s) ≡ true → (τ : Num) × (v .kind ≡ numKind τ)
+    cs : List ℕ
+    cs = constantsIn s
+
+    inside : ltb k (constantCount cs) ≡ true → (τ : Num) × (v .kind ≡ numKind τ)
     inside y =
         let a : ℕ = constantAt k in
-        let x : (τ : Num) × (word 4 s a ≡ numKind τ) = number-kind (word 4 s a) (not-odd (word 4 s a) (word 4 s (a + 8)) (good-constant s e k (ltb-true k (constants s) y))) in
-        let w : word 4 s a ≡ byte s a + 256 * word 3 s (a + 1) = word-suc 3 s a in
+        let x : (τ : Num) × (word 4 cs a ≡ numKind τ) = number-kind (word 4 cs a) (not-odd (word 4 cs a) (word 4 cs (a + 8)) (good-constant cs (constants-good s e) k (ltb-true k (constantCount cs) y))) in
+        let w : word 4 cs a ≡ byte cs a + 256 * word 3 cs (a + 1) = word-suc 3 cs a in
         let l : numKind (x .0) < 256 = low-kind (x .0) in
-        let z : word 4 s a ≡ numKind (x .0) = x .1 in
-        let u : byte s a ≡ numKind (x .0) = omega arith in
-        (x .0, ap (λ (c : Slot). c .kind) (some-inj v (constantOf s k) (rw y at is)) ∙ u)
+        let z : word 4 cs a ≡ numKind (x .0) = x .1 in
+        let u : byte cs a ≡ numKind (x .0) = omega arith in
+        (x .0, ap (λ (c : Slot). c .kind) (some-inj v (constantOf cs k) (rw y at is)) ∙ u)
 
 -- ---- push
 

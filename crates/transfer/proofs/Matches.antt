@@ -8,7 +8,7 @@ use lib.ListN.{length}
 use Rattle.rules.specs.declared.Instruction.{Instruction}
 use Rattle.rules.specs.Bytes.{word}
 use Rattle.rules.specs.Instructions.{edition3, opcodeOf, instructionOf, size}
-use Rattle.rules.specs.ModuleFile.{Body, Module}
+use Rattle.rules.specs.Tables.{Body, Module}
 use Rattle.soundness.specs.Tests.{some-inj}
 use Rattle.keys.specs.Keys.{Known, Outside, each}
 use Rattle.keys.proofs.Places.{known-low}

@@ -8,7 +8,7 @@ use lib.ListN.{length}
 use Rattle.rules.specs.declared.Instruction.{Instruction}
 use Rattle.rules.specs.Bytes.{word}
 use Rattle.rules.specs.Instructions.{Ty, tyOf, edition3, opcodeOf, instructionOf, size}
-use Rattle.rules.specs.ModuleFile.{Body, Module}
+use Rattle.rules.specs.Tables.{Body, Module}
 use Rattle.rules.specs.Typing.{Flow, to, only, strip, judge}
 use Rattle.keys.specs.Keys.{Known, each}
 use Rattle.records.specs.Record.{listsOf, Holds, Judged}

@@ -5,7 +5,8 @@ ghost use Prim.Native.Nat.{ℕ, _+_, _^_, _<_, _≤_};
 ghost use Rattle.rules.specs.declared.Condition.{Condition};
 ghost use Rattle.rules.specs.declared.Instruction.the-variants.{Push, Jmp, Branch, Call, Ret};
 ghost use Rattle.rules.specs.Bytes.{byte, word};
-ghost use Rattle.rules.specs.ModuleFile.{Body, Module, bodyOf, functionAt, numberType, paramsFrom, read, refusal};
+ghost use Rattle.rules.specs.Tables.{Body, Module, bodyOf, functionAt, numberType, paramsFrom};
+ghost use Rattle.rules.specs.ModuleFile.{read, refusal, functionsIn};
 ghost use Rattle.rules.specs.Machine.{owned};
 ghost use Rattle.format.specs.Layout.{Packed};
 ghost use Rattle.records.specs.Record.{Holds, IsType};
@@ -111,9 +112,9 @@ fn branch(file: &[u8], c: Sections, owner: usize, k: u32, q: usize, st: &mut [u8
 // Takes the arguments of function k, which has n parameters, from the operands. Answers whether they have its types.
 fn take_arguments(file: &[u8], c: Sections, k: usize, n: usize, st: &mut [u8]) -> bool
     requires { ⌜ Packed (now file) c × (k < c .functions) × (n ≤ 8) ⌝ }
-    requires { ⌜ ((j : ℕ) → j < n → IsType (byte (now file) (functionAt (now file) k + 10 + j))) ⌝ }
+    requires { ⌜ ((j : ℕ) → j < n → IsType (byte (functionsIn (now file)) (functionAt k + 10 + j))) ⌝ }
     requires { ⌜ Holds (now st) ⌝ }
-    ensures { λ r. ⌜ Stripped (paramsFrom (now (file .entry)) (functionAt (now (file .entry)) k + 10) n) (now (st .entry)) r (now (st .exit)) ⌝ }
+    ensures { λ r. ⌜ Stripped (paramsFrom (functionsIn (now (file .entry))) (functionAt k + 10) n) (now (st .entry)) r (now (st .exit)) ⌝ }
 {
     let mut j = n;
     while 0 < j {

@@ -1,14 +1,11 @@
 -- The proof of `format::bad_constant`.
 use borrow.Author.Needs.{needs}
-use Rattle.rules.specs.ModuleFile.{badConstant}
+use Rattle.rules.specs.Tables.{badConstant}
 use Rattle.format.proofs.bad_constant.Statement.{statement}
 use Rattle.format.proofs.bad_constant.Tie as tie
 
 mul-at : tie.Need-mul-at
 mul-at c = search needs
-
-add-at : tie.Need-add-at
-add-at c = search needs
 
 word-requires : tie.Need-word-requires
 word-requires c κs = search needs
@@ -29,4 +26,4 @@ returns c = cc
 pub bad-constant-spec : {M : Type 1} → statement M
 bad-constant-spec =
     tie.close
-    (tie.spec mul-at add-at word-requires add-word word-requires-2 odd-constant-requires returns)
+    (tie.spec mul-at word-requires add-word word-requires-2 odd-constant-requires returns)

@@ -1,18 +1,18 @@
 -- The proof of `format::bad_constants`.
 use Prim.Native.Nat.{_≤_, _-_}
 use native.Mathlib.Omega.{arith}
-use mathlib.Core.Path.{_≡_}
+use mathlib.Core.Path.{_≡_, refl}
 use Rattle.format.proofs.Gathered.{some-none, some-more, some-end}
 use Rattle.rules.specs.Bytes.{some-below}
-use Rattle.rules.specs.ModuleFile.{badConstant, badConstants}
+use Rattle.rules.specs.Tables.{badConstant, badConstants}
 use Rattle.format.proofs.bad_constants.Statement.{statement}
 use Rattle.format.proofs.bad_constants.Tie as tie
 
 abbrev Inv-loop : tie.InvT-loop
-Inv-loop file n bad₀ i₀ bad i = (i ≤ n) × (bad ≡ some-below i (badConstant file))
+Inv-loop table n bad₀ i₀ bad i = (i ≤ n) × (bad ≡ some-below i (badConstant table))
 
 abbrev μ-loop : tie.MeasureT-loop
-μ-loop file n bad₀ i₀ bad i = n - i
+μ-loop table n bad₀ i₀ bad i = n - i
 
 loop-holds : tie.Need-loop-holds Inv-loop μ-loop
 loop-holds c = (omega arith, some-none _)
@@ -31,7 +31,7 @@ loop-again c = (omega arith, some-more _ _ _ _ (c .before .before .loop .inv .1)
 
 returns : tie.Need-returns Inv-loop μ-loop
 unfolding badConstants
-returns c = some-end _ _ _ _ _ (c .before .loop .inv .1) (omega arith) (omega arith) (c .before .before .before .pre .constants-is)
+returns c = some-end _ _ _ _ _ (c .before .loop .inv .1) (omega arith) (omega arith) refl
 
 pub bad-constants-spec : {M : Type 1} → statement M
 bad-constants-spec =

@@ -19,6 +19,9 @@ word-requires-4 c κs = search needs
 word-requires-5 : tie.Need-word-requires-5
 word-requires-5 c κs = search needs
 
+over-limits-requires : tie.Need-over-limits-requires
+over-limits-requires c κs = search needs
+
 returns : tie.Need-returns
 unfolding overLimit
 returns c = cc
@@ -32,4 +35,5 @@ over-limit-spec =
     word-requires-3
     word-requires-4
     word-requires-5
+    over-limits-requires
     returns)

@@ -1,7 +1,7 @@
 -- The proof of `reader::code_refusal`.
 use native.Mathlib.Omega.{arith}
 use borrow.Author.Needs.{needs}
-use Rattle.rules.specs.ModuleFile.{firstOf}
+use Rattle.rules.specs.Tables.{firstOf}
 use Rattle.reader.proofs.code_refusal.Statement.{statement}
 use Rattle.reader.proofs.code_refusal.Tie as tie
 
@@ -16,38 +16,23 @@ unfolding firstOf
 returns c = simp (← c .before .before .before .bad-code .ensures .1 .0, c .if1 .taken)
 
 bad-labels-requires : tie.Need-bad-labels-requires
-bad-labels-requires c κs = let at-start = c .before .before .before .before .before .before .before .before in
-    let at-bad-code = c .before .before .before .before .bad-code in (
-      at-start .pre .0,
-      (
-        (λ h. let l = at-start .pre .1 .0 h in omega (arith, at-bad-code .ensures .0)),
-        at-bad-code .ensures .1 .1 (c .before .if1 .left),
-      ),
-    )
+bad-labels-requires c κs = let at-start = c .before .before .before .before .before .before .before .before .before .before in
+    let at-bad-code = c .before .before .before .before .bad-code in
+    (at-start .pre .0, ((λ h. let l = at-start .pre .1 .0 h in omega (arith, at-bad-code .ensures .0)), at-bad-code .ensures .1 .1 (c .before .if1 .left)))
 
 same-length-2 : tie.Need-same-length-2
 same-length-2 c = search needs
 
 returns-2 : tie.Need-returns-2
 unfolding firstOf
-returns-2 c = simp (
-  ← c .before .before .before .before .before .before .bad-code .ensures .1 .0,
-  c .before .before .before .if1 .left,
-  ← c .before .bad-labels .ensures,
-  c .if2 .taken,
-)
+returns-2 c = simp (← c .before .before .before .before .before .before .bad-code .ensures .1 .0, c .before .before .before .if1 .left, ← c .before .bad-labels .ensures, c .if2 .taken)
 
 same-length-3 : tie.Need-same-length-3
 same-length-3 c = search needs
 
 returns-3 : tie.Need-returns-3
 unfolding firstOf
-returns-3 c = simp (
-  ← c .before .before .before .before .before .before .bad-code .ensures .1 .0,
-  c .before .before .before .if1 .left,
-  ← c .before .bad-labels .ensures,
-  c .if2 .left,
-)
+returns-3 c = simp (← c .before .before .before .before .before .before .bad-code .ensures .1 .0, c .before .before .before .if1 .left, ← c .before .bad-labels .ensures, c .if2 .left)
 
 pub code-refusal-spec : {M : Type 1} → statement M
 code-refusal-spec =

@@ -8,6 +8,7 @@ use borrow.Author.Tests.{not-true, not-false}
 use Rattle.reader.specs.Answers.{functionIn}
 use Rattle.reader.specs.declared.entries.FoundFunction.the-variants.{Nothing}
 use Rattle.reader.specs.declared.entries.FoundFunction.{FoundFunction}
+use Rattle.reader.proofs.Records.{functions-length}
 use Rattle.control.proofs.CallLaws.{call-28, call-21, call-22, call-20, call-goes}
 use Rattle.control.proofs.Files.{callee}
 use Rattle.control.proofs.Frames.{length-saved}
@@ -58,7 +59,7 @@ alike-requires c κs = let start = c .before .before .before .before .before .be
     let function = c .before .before .before .before .before .function in
     let found = c .before .before .before .found in
     let q = callee (start .args .file .now) (start .pre .0 .1) (operand .result) (found .given .0 .0) (sym (ap (functionIn _ _) (found .given .1)) ∙ function .ensures) in
-    (start .pre .0, (omega (arith, q .0, start .pre .0 .0 .functions-is), q .3, omega (arith, start .pre .1 .2 .1 .1 .types, start .pre .1 .2 .1 .1 .high, c .if1 .left)))
+    (start .pre .0, (omega (arith, q .0, functions-length _ _ (start .pre .0 .0)), q .3, omega (arith, start .pre .1 .2 .1 .1 .types, start .pre .1 .2 .1 .1 .high, c .if1 .left)))
 
 returns-3 : tie.Need-returns-3
 returns-3 c = let operand = c .before .before .before .before .before .before .before .before .operand in
@@ -94,7 +95,7 @@ open-frame-requires c κs = let start = c .before .before .before .before .befor
     let if3 = c .before .before .before .before .before .if3 in
     let save = c .before .before .before .save in
     let q = callee (start .args .file .now) (start .pre .0 .1) (operand .result) (found .given .0 .0) (sym (ap (functionIn _ _) (found .given .1)) ∙ function .ensures) in
-    (omega (arith, ap length (save .ensures) ∙ length-saved _ _, if3 .left), omega (arith, q .0, start .pre .0 .0 .functions-is, start .pre .0 .0 .few-functions), q .1, omega (arith, start .pre .1 .2 .1 .1 .high, start .pre .1 .2 .1 .1 .small, if1 .left))
+    (omega (arith, ap length (save .ensures) ∙ length-saved _ _, if3 .left), omega (arith, q .0, functions-length _ _ (start .pre .0 .0), start .pre .0 .0 .few-functions), q .1, omega (arith, start .pre .1 .2 .1 .1 .high, start .pre .1 .2 .1 .1 .small, if1 .left))
 
 add-entered : tie.Need-add-entered
 add-entered c = let start = c .before .before .before .before .before .before .before .before .before .before .before .before .before .before .before .before .before .before .before .before .before .before in
@@ -106,7 +107,7 @@ entered-requires c κs = let start = c .before .before .before .before .before .
     let function = c .before .before .before .before .before .before .before .before .before .before .before .before .before .before .before .before .function in
     let found = c .before .before .before .before .before .before .before .before .before .before .before .before .before .before .found in
     let q = callee (start .args .file .now) (start .pre .0 .1) (operand .result) (found .given .0 .0) (sym (ap (functionIn _ _) (found .given .1)) ∙ function .ensures) in
-    (start .pre .0 .0, omega (arith, q .0, start .pre .0 .0 .functions-is))
+    (start .pre .0 .0, omega (arith, q .0, functions-length _ _ (start .pre .0 .0)))
 
 same-length : tie.Need-same-length
 same-length c = search needs
@@ -124,7 +125,7 @@ returns-5 c = let start = c .before .before .before .before .before .before .bef
     let open-frame = c .before .before .before .open-frame in
     let q = callee (start .args .file .now) (start .pre .0 .1) (operand .result) (found .given .0 .0) (sym (ap (functionIn _ _) (found .given .1)) ∙ function .ensures) in
     λ cap p k. rw (← (operand .ensures), c .entered .ensures, open-frame .ensures, save .ensures)
-    (inl (call-goes cap _ p _ _ k _ _ (found .given .0 .0) (sym (ap (functionIn _ _) (found .given .1)) ∙ function .ensures) (if1 .left) (sym (alike .ensures p) ∙ not-false _ (if2 .left)) (if3 .left) (q .0) (omega (arith, start .pre .0 .0 .functions-is, start .pre .0 .0 .few-functions)) (q .1) (q .2)))
+    (inl (call-goes cap _ p _ _ k _ _ (found .given .0 .0) (sym (ap (functionIn _ _) (found .given .1)) ∙ function .ensures) (if1 .left) (sym (alike .ensures p) ∙ not-false _ (if2 .left)) (if3 .left) (q .0) (omega (arith, functions-length _ _ (start .pre .0 .0), start .pre .0 .0 .few-functions)) (q .1) (q .2)))
 
 pub call-spec : {M : Type 1} → statement M
 call-spec =

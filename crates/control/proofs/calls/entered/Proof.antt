@@ -1,7 +1,8 @@
 -- The proof of `control::calls::entered`.
+use native.Mathlib.Omega.{arith}
 use borrow.Author.Needs.{needs}
-use Rattle.reader.proofs.Records.{record-at}
-use Rattle.rules.specs.ModuleFile.{functionOf}
+use Rattle.reader.proofs.Records.{function-first, function-word}
+use Rattle.rules.specs.Tables.{functionOf}
 use Rattle.control.proofs.calls.entered.Statement.{statement}
 use Rattle.control.proofs.calls.entered.Tie as tie
 
@@ -26,7 +27,8 @@ add-t10 c = search needs
 returns : tie.Need-returns
 unfolding functionOf
 returns c = let start = c .before .before .before .before in
-    let e = record-at (start .args .file .now) (start .args .c) (start .pre .0) (start .args .k) in cc
+    let a = function-first (start .args .file .now) (start .args .c) (start .pre .0) (start .args .k) (start .pre .1) in
+    let b = function-word (start .args .file .now) (start .args .c) (start .pre .0) (start .args .k) 4 (start .pre .1) (omega arith) in cc
 
 pub entered-spec : {M : Type 1} → statement M
 entered-spec =

@@ -6,6 +6,7 @@ use borrow.Author.Tests.{not-true, not-false}
 use Rattle.reader.specs.Answers.{functionIn}
 use Rattle.reader.specs.declared.entries.FoundFunction.the-variants.{Nothing}
 use Rattle.reader.specs.declared.entries.FoundFunction.{FoundFunction}
+use Rattle.reader.proofs.Records.{functions-length}
 use Rattle.control.proofs.ReturnLaws.{ret-30, ret-bare, ret-21, ret-22, ret-value}
 use Rattle.control.proofs.calls.ret.Statement.{statement}
 use Rattle.control.proofs.calls.ret.Tie as tie
@@ -33,7 +34,7 @@ returns c = let start = c .before .before .before .before .before .before .befor
     let wide = c .before .before .before .wide in
     let function = c .before .before .function in
     λ cap k. let z : _≡_ {A = FoundFunction} (function .result) Nothing = cc in
-    ret-30 cap _ _ _ _ k _ (omega (arith, start .pre .0 .functions-is, start .pre .0 .few-functions)) (rw (wide .ensures .0) at (sym (function .ensures) ∙ ap (functionIn _ _) z))
+    ret-30 cap _ _ _ _ k _ (omega (arith, functions-length _ _ (start .pre .0), start .pre .0 .few-functions)) (rw (wide .ensures .0) at (sym (function .ensures) ∙ ap (functionIn _ _) z))
 
 add-wide : tie.Need-add-wide
 add-wide c = search needs
@@ -60,7 +61,7 @@ returns-2 c = let start = c .before .before .before .before .before .before .bef
     let found = c .before .before .before .before .before .before .found in
     let wide2 = c .before .before .before .wide2 in
     let has-value = c .before .before .has-value in
-    λ cap k. rw (c .leave .ensures, wide2 .ensures .0) (ret-bare cap _ _ _ _ k _ (omega (arith, start .pre .0 .functions-is, start .pre .0 .few-functions)) (found .given .0 .0) (rw (wide .ensures .0) at (sym (ap (functionIn _ _) (found .given .1)) ∙ function .ensures)) (sym (has-value .ensures) ∙ not-true _ (c .before .if1 .taken)))
+    λ cap k. rw (c .leave .ensures, wide2 .ensures .0) (ret-bare cap _ _ _ _ k _ (omega (arith, functions-length _ _ (start .pre .0), start .pre .0 .few-functions)) (found .given .0 .0) (rw (wide .ensures .0) at (sym (ap (functionIn _ _) (found .given .1)) ∙ function .ensures)) (sym (has-value .ensures) ∙ not-true _ (c .before .if1 .taken)))
 
 add-if2 : tie.Need-add-if2
 add-if2 c = search needs
@@ -72,7 +73,7 @@ returns-3 c = let start = c .before .before .before .before .before .before .bef
     let found = c .before .before .before .before .before .before .before .found in
     let has-value = c .before .before .before .has-value in
     let if1 = c .before .before .if1 in
-    λ cap k. ret-21 cap _ _ _ _ k _ (omega (arith, start .pre .0 .functions-is, start .pre .0 .few-functions)) (found .given .0 .0) (rw (wide .ensures .0) at (sym (ap (functionIn _ _) (found .given .1)) ∙ function .ensures)) (sym (has-value .ensures) ∙ not-false _ (if1 .left)) (c .if2 .taken)
+    λ cap k. ret-21 cap _ _ _ _ k _ (omega (arith, functions-length _ _ (start .pre .0), start .pre .0 .few-functions)) (found .given .0 .0) (rw (wide .ensures .0) at (sym (ap (functionIn _ _) (found .given .1)) ∙ function .ensures)) (sym (has-value .ensures) ∙ not-false _ (if1 .left)) (c .if2 .taken)
 
 sub-slot-at : tie.Need-sub-slot-at
 sub-slot-at c = search needs
@@ -95,7 +96,7 @@ returns-4 c = let start = c .before .before .before .before .before .before .bef
     let if1 = c .before .before .before .before .before .before .before .before .if1 in
     let if2 = c .before .before .before .before .before .before .if2 in
     let slot-at = c .before .before .before .slot-at in
-    λ cap k. ret-22 cap _ _ _ _ k _ (omega (arith, start .pre .0 .functions-is, start .pre .0 .few-functions)) (found .given .0 .0) (rw (wide .ensures .0) at (sym (ap (functionIn _ _) (found .given .1)) ∙ function .ensures)) (sym (has-value .ensures) ∙ not-false _ (if1 .left)) _ (if2 .left) (slot-at .ensures) (c .if3 .taken)
+    λ cap k. ret-22 cap _ _ _ _ k _ (omega (arith, functions-length _ _ (start .pre .0), start .pre .0 .few-functions)) (found .given .0 .0) (rw (wide .ensures .0) at (sym (ap (functionIn _ _) (found .given .1)) ∙ function .ensures)) (sym (has-value .ensures) ∙ not-false _ (if1 .left)) _ (if2 .left) (slot-at .ensures) (c .if3 .taken)
 
 put-slot-requires : tie.Need-put-slot-requires
 put-slot-requires c κs = let start = c .before .before .before .before .before .before .before .before .before .before .before .before .before .before .before .before .before .before .before .before .before .before .before .before in
@@ -129,7 +130,7 @@ returns-5 c = let start = c .before .before .before .before .before .before .bef
     let if3 = c .before .before .before .before .before .before .before .before .if3 in
     let put-slot = c .before .before .before .before .before .put-slot in
     λ cap k. rw (c .leave2 .ensures, wide2 .ensures .0)
-    (ret-value cap _ _ _ _ k _ (omega (arith, start .pre .0 .functions-is, start .pre .0 .few-functions)) (found .given .0 .0) (rw (wide .ensures .0) at (sym (ap (functionIn _ _) (found .given .1)) ∙ function .ensures)) (sym (has-value .ensures) ∙ not-false _ (if1 .left)) _ (if2 .left) (slot-at .ensures) _ _ (if3 .left) (rw (wide2 .ensures .0) at (put-slot .ensures .0)) (rw (wide2 .ensures .0) at (put-slot .ensures .1)) (omega (arith, slot-at .ok)))
+    (ret-value cap _ _ _ _ k _ (omega (arith, functions-length _ _ (start .pre .0), start .pre .0 .few-functions)) (found .given .0 .0) (rw (wide .ensures .0) at (sym (ap (functionIn _ _) (found .given .1)) ∙ function .ensures)) (sym (has-value .ensures) ∙ not-false _ (if1 .left)) _ (if2 .left) (slot-at .ensures) _ _ (if3 .left) (rw (wide2 .ensures .0) at (put-slot .ensures .0)) (rw (wide2 .ensures .0) at (put-slot .ensures .1)) (omega (arith, slot-at .ok)))
 
 pub ret-spec : {M : Type 1} → statement M
 ret-spec =

@@ -11,19 +11,16 @@ use Rattle.reader.proofs.blocks.skip.Statement.{statement}
 use Rattle.reader.proofs.blocks.skip.Tie as tie
 
 abbrev Inv-loop : tie.InvT-loop
-Inv-loop file from to starts₀ code p₀ starts p = (from ≤ p) × (p ≤ to) × (length starts ≡ length starts₀) × Cut file p starts
+Inv-loop code from to starts₀ p₀ starts p = (from ≤ p) × (p ≤ to) × (length starts ≡ length starts₀) × Cut 3 code p starts
 
 abbrev μ-loop : tie.MeasureT-loop
-μ-loop file from to starts₀ code p₀ starts p = to - p
+μ-loop code from to starts₀ p₀ starts p = to - p
 
 loop-holds : tie.Need-loop-holds Inv-loop μ-loop
 loop-holds c = (omega arith, omega arith, refl, c .before .before .pre .1)
 
 add-loop : tie.Need-add-loop Inv-loop μ-loop
 add-loop c = omega arith
-
-add-all-bare : tie.Need-add-all-bare Inv-loop μ-loop
-add-all-bare c = omega arith
 
 all-bare-requires : tie.Need-all-bare-requires Inv-loop μ-loop
 all-bare-requires c κs = omega arith
@@ -47,7 +44,7 @@ returns-2 c = let at-start = c .before .before .before .before .before .before .
     let at-mark-block = c .before .before .before .mark-block in
     let at-loop = c .before .before .before .before .before .before .before .before .loop in
     let e = at-mark-block .ensures .1 (not-true (at-mark-block .result) (c .if2 .taken)) in
-    let cut = subst (λ (x : List ℕ). Cut (at-start .args .file .now) (at-loop .p) x) (sym e) (at-loop .inv .3) in
+    let cut = subst (λ (x : List ℕ). Cut 3 (at-start .args .code .now) (at-loop .p) x) (sym e) (at-loop .inv .3) in
     ((at-loop .inv .0, at-loop .inv .1), (ap length e ∙ at-loop .inv .2, cut))
 
 add-p : tie.Need-add-p Inv-loop μ-loop
@@ -61,13 +58,13 @@ loop-again c = let at-start = c .before .before .before .before .before .before 
     let at-loop = c .before .before .before .before .before .before .before .before .loop in
     let at-all-bare = c .before .before .before .before .before .before .all-bare in
     let at-mark-block = c .before .before .before .mark-block in
-    let s = at-start .args .file .now in let p = at-loop .p in let t = at-loop .starts in
+    let s = at-start .args .code .now in let p = at-loop .p in let t = at-loop .starts in
     let a = sym (at-all-bare .ensures) ∙ not-false (at-all-bare .result) (c .before .before .before .before .before .if1 .left) in
     let e : at-mark-block .last .0 ≡ marks t p 16 = at-mark-block .ensures .0 (not-false (at-mark-block .result) (c .if2 .left)) in (
       omega arith,
       omega arith,
       ap length e ∙ length-marks t p 16 ∙ at-loop .inv .2,
-      subst (λ (x : List ℕ). Cut s (p + 16) x) (sym e) (cut-run s (at-start .args .c) (at-start .pre .0 .0) p t (at-loop .inv .3) 16 a),
+      subst (λ (x : List ℕ). Cut 3 s (p + 16) x) (sym e) (cut-run s p t (at-loop .inv .3) 16 a),
     )
 
 same-length-3 : tie.Need-same-length-3 Inv-loop μ-loop
@@ -85,7 +82,6 @@ skip-spec =
     μ-loop
     loop-holds
     add-loop
-    add-all-bare
     all-bare-requires
     same-length
     returns

@@ -10,39 +10,39 @@ use borrow.Author.Tests.{not-true, not-false}
 use Rattle.reader.proofs.Bodies.{cut-none, failed, passed, end-first, end-next, end-inside, bad-body, good-bodies, all-marked, crossed-more}
 use Rattle.reader.specs.Cut.{Marked, Cut}
 use Rattle.rules.specs.Bytes.{some-below}
-use Rattle.rules.specs.ModuleFile.{crossed, endBefore, functions}
+use Rattle.rules.specs.Tables.{Bodies, bodies, functionCount, crossed, endBefore}
 use Rattle.reader.proofs.code.bad_code.Statement.{statement}
 use Rattle.reader.proofs.code.bad_code.Tie as tie
 
 abbrev Inv-loop : tie.InvT-loop
-Inv-loop file c starts₀ n from₀ end₀ i₀ starts from end i = (i ≤ n) × (end ≡ endBefore file i) × (from ≤ end) × Cut file from starts × (length starts ≡ length starts₀) × (some-below i (crossed file) ≡ false)
+Inv-loop functions code entry starts₀ n from₀ end₀ i₀ starts from end i = (i ≤ n) × (end ≡ endBefore (bodies 3 functions code entry) i) × (from ≤ end) × Cut 3 code from starts × (length starts ≡ length starts₀) × (some-below i (crossed (bodies 3 functions code entry)) ≡ false)
 
 abbrev μ-loop : tie.MeasureT-loop
-μ-loop file c starts₀ n from₀ end₀ i₀ starts from end i = n - i
+μ-loop functions code entry starts₀ n from₀ end₀ i₀ starts from end i = n - i
 
 loop-holds : tie.Need-loop-holds Inv-loop μ-loop
 unfolding some-below
-loop-holds c = let at-start = c .before .before in
-    let s = at-start .args .file .now in
-    (omega arith, at-start .pre .0 .0 .entry-is ∙ end-first s, omega arith, cut-none _ _ (at-start .pre .1), refl, refl)
+loop-holds c = let at-start = c .before .before .before in
+    let B : Bodies = bodies 3 (at-start .args .functions .now) (at-start .args .code .now) (at-start .args .entry) in
+    (omega arith, end-first B, omega arith, cut-none _ _ _ (at-start .pre .1), refl, refl)
 
 walk-body-requires : tie.Need-walk-body-requires Inv-loop μ-loop
-walk-body-requires c κs = let at-start = c .before .before .before .before in
+walk-body-requires c κs = let at-start = c .before .before .before .before .before in
     let at-loop = c .before .loop in
-    let s = at-start .args .file .now in let l = end-inside s (at-start .pre .0 .1) (at-loop .i) (omega arith) in
-    (at-start .pre .0 .0, ((at-loop .inv .2, omega arith), at-loop .inv .3))
+    let B : Bodies = bodies 3 (at-start .args .functions .now) (at-start .args .code .now) (at-start .args .entry) in let l = end-inside B (at-start .pre .0 .1) (at-loop .i) (omega arith) in
+    ((at-loop .inv .2, omega arith, at-start .pre .0 .0 .little-code), at-loop .inv .3)
 
 same-length : tie.Need-same-length Inv-loop μ-loop
 same-length c = c .before .before .before .walk-body .ensures .0 ∙ c .before .before .before .before .before .loop .inv .4
 
 returns : tie.Need-returns Inv-loop μ-loop
-returns c = let at-start = c .before .before .before .before .before .before .before .before in
+returns c = let at-start = c .before .before .before .before .before .before .before .before .before in
     let at-walk-body = c .before .before .before .walk-body in
     let at-loop = c .before .before .before .before .before .loop in
-    let s = at-start .args .file .now in (
+    let B : Bodies = bodies 3 (at-start .args .functions .now) (at-start .args .code .now) (at-start .args .entry) in (
       at-walk-body .ensures .0 ∙ at-loop .inv .4,
       (
-        bad-body s (at-start .pre .0 .1) (at-loop .i) (omega arith) (failed s _ _ _ _ (not-true (at-walk-body .result) (c .if1 .taken)) (at-loop .inv .1) (at-walk-body .ensures .1)),
+        bad-body B (at-start .pre .0 .1) (at-loop .i) (omega arith) (failed _ _ _ _ _ _ (not-true (at-walk-body .result) (c .if1 .taken)) (at-loop .inv .1) (at-walk-body .ensures .1)),
         λ e. absurd (true≢false e),
       ),
     )
@@ -53,29 +53,26 @@ mark-requires c κs = search needs
 same-length-2 : tie.Need-same-length-2 Inv-loop μ-loop
 same-length-2 c = let at-walk-body = c .before .before .before .before .before .before .before .before .walk-body in
     let at-loop = c .before .before .before .before .before .before .before .before .before .before .loop in
-    ap length (c .before .before .mark .ensures) ∙ length-set (at-walk-body .last .1 .1 .1 .1 .0) (at-loop .end) 1 ∙ at-walk-body .ensures .0 ∙ at-loop .inv .4
+    ap length (c .before .before .mark .ensures) ∙ length-set (at-walk-body .last .1 .1 .1 .0) (at-loop .end) 1 ∙ at-walk-body .ensures .0 ∙ at-loop .inv .4
 
 returns-2 : tie.Need-returns-2 Inv-loop μ-loop
-returns-2 c = let at-start = c .before .before .before .before .before .before .before .before .before .before .before .before .before in
+returns-2 c = let at-start = c .before .before .before .before .before .before .before .before .before .before .before .before .before .before in
     let at-loop = c .before .before .before .before .before .before .before .before .before .before .loop in
     let at-walk-body = c .before .before .before .before .before .before .before .before .walk-body in
     let at-mark = c .before .before .mark in
-    let s = at-start .args .file .now in let i = at-loop .i in let t = at-walk-body .last .1 .1 .1 .1 .0 in
-    let e : i ≡ functions s = omega arith in
-    let m : at-mark .last .0 ≡ set t (endBefore s i) 1 = at-mark .ensures ∙ ap (λ (x : ℕ). set t x 1) (at-loop .inv .1) in
-    let cut = passed s _ _ t _ (not-false (at-walk-body .result) (c .before .before .before .before .before .if1 .left)) (at-loop .inv .1) (at-walk-body .ensures .1) in (
+    let B : Bodies = bodies 3 (at-start .args .functions .now) (at-start .args .code .now) (at-start .args .entry) in let i = at-loop .i in let t = at-walk-body .last .1 .1 .1 .0 in
+    let e : i ≡ functionCount (B .functions) = omega arith in
+    let m : at-mark .last .0 ≡ set t (endBefore B i) 1 = at-mark .ensures ∙ ap (λ (x : ℕ). set t x 1) (at-loop .inv .1) in
+    let cut = passed _ _ _ _ t _ (not-false (at-walk-body .result) (c .before .before .before .before .before .if1 .left)) (at-loop .inv .1) (at-walk-body .ensures .1) in (
       ap length (at-mark .ensures) ∙ length-set t (at-loop .end) 1 ∙ at-walk-body .ensures .0 ∙ at-loop .inv .4,
       (
-        good-bodies s (at-start .pre .0 .1) i t e cut (crossed-more s (at-start .pre .0 .1) i t (at-loop .inv .5) cut),
-        λ z. subst (λ (x : List ℕ). Marked s x) (sym m) (all-marked s (at-start .pre .0 .1) i t e cut),
+        good-bodies B (at-start .pre .0 .1) i t e cut (crossed-more B (at-start .pre .0 .1) i t (at-loop .inv .5) cut),
+        λ z. subst (λ (x : List ℕ). Marked 3 (B .code) x) (sym m) (all-marked B (at-start .pre .0 .1) i t e cut),
       ),
     )
 
 mul-at : tie.Need-mul-at Inv-loop μ-loop
 mul-at c = omega arith
-
-add-at : tie.Need-add-at Inv-loop μ-loop
-add-at c = omega arith
 
 add-word : tie.Need-add-word Inv-loop μ-loop
 add-word c = omega arith
@@ -85,7 +82,7 @@ word-requires c κs = omega arith
 
 add-end : tie.Need-add-end Inv-loop μ-loop
 add-end c = let at-start = c .before .before .before .before .before .before .before .before .before .before .before in
-    let s = at-start .args .file .now in omega (arith, end-inside s (at-start .pre .0 .1) (c .before .before .before .before .before .before .before .before .loop .i) (omega arith))
+    let B : Bodies = bodies 3 (at-start .args .functions .now) (at-start .args .code .now) (at-start .args .entry) in omega (arith, end-inside B (at-start .pre .0 .1) (c .before .before .before .before .before .before .before .loop .i) (omega arith))
 
 add-i : tie.Need-add-i Inv-loop μ-loop
 add-i c = omega arith
@@ -95,17 +92,17 @@ loop-less c = omega arith
 
 loop-again : tie.Need-loop-again Inv-loop μ-loop
 loop-again c = let at-start = c .before .before .before .before .before .before .before .before .before .before .before in
-    let at-loop = c .before .before .before .before .before .before .before .before .loop in
-    let at-walk-body = c .before .before .before .before .before .before .walk-body in
-    let s = at-start .args .file .now in let i = at-loop .i in let t = at-walk-body .last .1 .1 .1 .1 .0 in
-    let n : at-loop .end + c .word .result ≡ endBefore s (i + 1) = end-next s (at-start .args .c) (at-start .pre .0 .0) i _ _ (at-loop .inv .1) (c .word .ensures .0) in
-    let whole = not-false (at-walk-body .result) (c .before .before .before .if1 .left) in (
+    let at-loop = c .before .before .before .before .before .before .before .loop in
+    let at-walk-body = c .before .before .before .before .before .walk-body in
+    let B : Bodies = bodies 3 (at-start .args .functions .now) (at-start .args .code .now) (at-start .args .entry) in let i = at-loop .i in let t = at-walk-body .last .1 .1 .1 .0 in
+    let n : at-loop .end + c .word .result ≡ endBefore B (i + 1) = end-next B i _ _ (at-loop .inv .1) (c .word .ensures .0) in
+    let whole = not-false (at-walk-body .result) (c .before .before .if1 .left) in (
       omega arith,
       n,
       omega arith,
-      passed s _ _ t _ whole refl (at-walk-body .ensures .1),
+      passed _ _ _ _ t _ whole refl (at-walk-body .ensures .1),
       at-walk-body .ensures .0 ∙ at-loop .inv .4,
-      crossed-more s (at-start .pre .0 .1) i t (at-loop .inv .5) (passed s _ _ t _ whole (at-loop .inv .1) (at-walk-body .ensures .1)),
+      crossed-more B (at-start .pre .0 .1) i t (at-loop .inv .5) (passed _ _ _ _ t _ whole (at-loop .inv .1) (at-walk-body .ensures .1)),
     )
 
 pub bad-code-spec : {M : Type 1} → statement M
@@ -122,7 +119,6 @@ bad-code-spec =
     same-length-2
     returns-2
     mul-at
-    add-at
     add-word
     word-requires
     add-end

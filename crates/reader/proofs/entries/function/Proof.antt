@@ -1,17 +1,21 @@
 -- The proof of `reader::entries::function`.
 use Prim.Native.Nat.{_+_, _*_, _<_, _≤_}
 use native.Mathlib.Omega.{arith}
+use mathlib.Core.Path.{refl}
 use borrow.Author.Needs.{needs}
 use borrow.Author.Tests.{lt-ltb, le-ltb}
-use Rattle.reader.proofs.Records.{record-at}
-use Rattle.rules.specs.ModuleFile.{read, functionOf, functions}
+use Rattle.reader.proofs.Records.{functions-length, function-found}
+use Rattle.rules.specs.ModuleFile.{functionsIn}
+use Rattle.rules.specs.Tables.{functionCount, moduleOf}
 use Rattle.reader.proofs.entries.function.Statement.{statement}
 use Rattle.reader.proofs.entries.function.Tie as tie
 
 returns : tie.Need-returns
-unfolding read
+unfolding moduleOf
 returns c = let at-start = c .before .before .before in
-    let h : functions (at-start .args .file .now) ≤ at-start .args .k = omega arith in simp (le-ltb _ _ h)
+    let s = at-start .args .file .now in
+    let l = functions-length s (at-start .args .c) ((at-start .pre)) in
+    let h : functionCount (functionsIn s) ≤ at-start .args .k = omega arith in simp (le-ltb _ _ h)
 
 mul-at : tie.Need-mul-at
 mul-at c = search needs
@@ -48,10 +52,12 @@ shared-slice-read-t15 : tie.Need-shared-slice-read-t15
 shared-slice-read-t15 c = search needs
 
 returns-2 : tie.Need-returns-2
-unfolding read functionOf
+unfolding moduleOf
 returns-2 c = let at-start = c .before .before .before .before .before .before .before .before in
-    let h : at-start .args .k < functions (at-start .args .file .now) = omega arith in
-    let e = record-at (at-start .args .file .now) (at-start .args .c) ((at-start .pre)) (at-start .args .k) in simp (lt-ltb _ _ h) (cc)
+    let s = at-start .args .file .now in let k = at-start .args .k in let d = at-start .args .c in let pre = at-start .pre in
+    let l = functions-length s d pre in
+    let h : k < functionCount (functionsIn s) = omega arith in
+    simp (lt-ltb _ _ h) (function-found s d pre k _ _ _ _ (omega arith) (c .before .before .before .word .ensures .0) (c .before .before .word2 .ensures .0) refl refl)
 
 pub function-spec : {M : Type 1} → statement M
 function-spec =

@@ -3,15 +3,18 @@ use Prim.Native.Nat.{_<_, _≤_}
 use native.Mathlib.Omega.{arith}
 use borrow.Author.Needs.{needs}
 use borrow.Author.Tests.{lt-ltb, le-ltb}
-use Rattle.reader.proofs.Records.{label-at}
-use Rattle.rules.specs.ModuleFile.{read, labelOf, labels}
+use Rattle.reader.proofs.Records.{labels-length, label-found}
+use Rattle.rules.specs.ModuleFile.{labelsIn}
+use Rattle.rules.specs.Tables.{labelCount, moduleOf}
 use Rattle.reader.proofs.entries.label.Statement.{statement}
 use Rattle.reader.proofs.entries.label.Tie as tie
 
 returns : tie.Need-returns
-unfolding read
+unfolding moduleOf
 returns c = let at-start = c .before .before .before in
-    let h : labels (at-start .args .file .now) ≤ at-start .args .k = omega arith in simp (le-ltb _ _ h)
+    let s = at-start .args .file .now in
+    let l = labels-length s (at-start .args .c) ((at-start .pre)) in
+    let h : labelCount (labelsIn s) ≤ at-start .args .k = omega arith in simp (le-ltb _ _ h)
 
 mul-at : tie.Need-mul-at
 mul-at c = search needs
@@ -29,10 +32,12 @@ word-requires-2 : tie.Need-word-requires-2
 word-requires-2 c κs = search needs
 
 returns-2 : tie.Need-returns-2
-unfolding read labelOf
+unfolding moduleOf
 returns-2 c = let at-start = c .before .before .before .before .before .before in
-    let h : at-start .args .k < labels (at-start .args .file .now) = omega arith in
-    let e = label-at (at-start .args .file .now) (at-start .args .c) ((at-start .pre)) (at-start .args .k) in simp (lt-ltb _ _ h) (cc)
+    let s = at-start .args .file .now in let k = at-start .args .k in
+    let l = labels-length s (at-start .args .c) ((at-start .pre)) in
+    let h : k < labelCount (labelsIn s) = omega arith in
+    simp (lt-ltb _ _ h) (label-found s (at-start .args .c) ((at-start .pre)) k _ _ (omega arith) (c .before .word .ensures .0) (c .word2 .ensures .0))
 
 pub label-spec : {M : Type 1} → statement M
 label-spec =

@@ -1,13 +1,15 @@
 -- The proof of `reader::entries::param`.
 use Prim.Native.Nat.{ℕ, _+_, _*_}
+use native.Mathlib.Omega.{arith}
 use mathlib.Core.Option.{some}
 use mathlib.Core.Path.{_≡_, sym, _∙_, ap}
 use lib.ListN.{getD}
 use borrow.Author.Needs.{needs}
-use Rattle.reader.proofs.Records.{record-at, param-at}
+use Rattle.reader.proofs.Records.{function-byte, param-at}
 use Rattle.rules.specs.Bytes.{byte}
 use Rattle.rules.specs.Instructions.{tyOf}
-use Rattle.rules.specs.ModuleFile.{functionAt, functionOf}
+use Rattle.rules.specs.ModuleFile.{functionsIn}
+use Rattle.rules.specs.Tables.{functionOf}
 use Rattle.reader.proofs.entries.param.Statement.{statement}
 use Rattle.reader.proofs.entries.param.Tie as tie
 
@@ -29,9 +31,12 @@ shared-slice-read-result c = search needs
 returns : tie.Need-returns
 unfolding functionOf
 returns c = let at-start = c .before .before in
-    let s = at-start .args .file .now in let k = at-start .args .k in let j = at-start .args .j in
-    let e : getD s (at-start .args .c .records + 20 * k + 10 + j) 0 ≡ byte s (functionAt s k + 10 + j) = ap (λ (x : ℕ). byte s (x + 10 + j)) (record-at s (at-start .args .c) (at-start .pre .0) k) in
-    (e, λ l. param-at s (functionAt s k + 10) (byte s (functionAt s k + 8)) j l ∙ ap (λ (b : ℕ). some (tyOf b)) (sym e))
+    let s = at-start .args .file .now in let k = at-start .args .k in let j = at-start .args .j in let fs = functionsIn s in
+    let q : 20 * k + (10 + j) ≡ 20 * k + 10 + j = omega arith in
+    let r : at-start .args .c .records + 20 * k + (10 + j) ≡ at-start .args .c .records + 20 * k + 10 + j = omega arith in
+    let e : getD s (at-start .args .c .records + 20 * k + 10 + j) 0 ≡ byte fs (20 * k + 10 + j) =
+    sym (ap (byte fs) (sym q) ∙ function-byte s (at-start .args .c) (at-start .pre .0) k (10 + j) (omega arith) (omega arith) ∙ ap (byte s) r) in
+    (e, λ l. param-at fs (20 * k + 10) (byte fs (20 * k + 8)) j l ∙ ap (λ (b : ℕ). some (tyOf b)) (sym e))
 
 pub param-spec : {M : Type 1} → statement M
 param-spec = tie.close (tie.spec mul-at add-at add-at-2 add-at-3 shared-slice-read-result returns)

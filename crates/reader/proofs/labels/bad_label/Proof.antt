@@ -4,14 +4,12 @@ use mathlib.Core.Path.{sym, _∙_}
 use borrow.Author.Needs.{needs}
 use borrow.Author.Tests.{not-true, not-false}
 use Rattle.reader.proofs.Bodies.{owned-inside, not-owned, owned-marked}
+use Rattle.rules.specs.Tables.{bodies}
 use Rattle.reader.proofs.labels.bad_label.Statement.{statement}
 use Rattle.reader.proofs.labels.bad_label.Tie as tie
 
 mul-at : tie.Need-mul-at
 mul-at c = search needs
-
-add-at : tie.Need-add-at
-add-at c = search needs
 
 word-requires : tie.Need-word-requires
 word-requires c κs = search needs
@@ -26,29 +24,32 @@ owned-requires : tie.Need-owned-requires
 owned-requires c κs = search needs
 
 returns : tie.Need-returns
-returns c = let at-start = c .before .before .before .before .before .before .before in
-    not-owned (at-start .args .file .now) (at-start .args .c) (at-start .pre .0 .0) (at-start .args .i) _ _ (c .before .before .before .word .ensures .0) (c .before .before .word2 .ensures .0) (sym (c .before .owned .ensures) ∙ not-true (c .before .owned .result) (c .if1 .taken))
+returns c = let at-start = c .before .before .before .before .before .before .before .before in
+    let at-owned = c .before .owned in
+    let B = bodies 3 (at-start .args .functions .now) (at-start .args .code .now) (at-start .args .entry) in
+    not-owned B (at-start .args .labels .now) (at-start .args .i) _ _ (c .before .before .before .word .ensures .0) (c .before .before .word2 .ensures .0) (sym (at-owned .ensures) ∙ not-true (at-owned .result) (c .if1 .taken))
 
 shared-slice-read-result : tie.Need-shared-slice-read-result
-shared-slice-read-result c = let at-start = c .before .before .before .before .before .before .before .before in
+shared-slice-read-result c = let at-start = c .before .before .before .before .before .before .before .before .before in
     let at-owned = c .before .before .owned in
-    omega (arith, owned-inside (at-start .args .file .now) (at-start .pre .0 .1) (c .before .before .before .before .word .result) (c .before .before .before .word2 .result) (omega arith) (sym (at-owned .ensures) ∙ not-false (at-owned .result) (c .before .if1 .left)))
+    let B = bodies 3 (at-start .args .functions .now) (at-start .args .code .now) (at-start .args .entry) in
+    omega (arith, owned-inside B (at-start .pre .0 .1) (c .before .before .before .before .word .result) (c .before .before .before .word2 .result) (at-start .pre .0 .0 .entry-inside) (sym (at-owned .ensures) ∙ not-false (at-owned .result) (c .before .if1 .left)))
 
 returns-2 : tie.Need-returns-2
-returns-2 c = let at-start = c .before .before .before .before .before .before .before .before in
+returns-2 c = let at-start = c .before .before .before .before .before .before .before .before .before in
+    let at-owned = c .before .before .owned in
     let at-word = c .before .before .before .before .word in
     let at-word2 = c .before .before .before .word2 in
-    let at-owned = c .before .before .owned in
+    let B = bodies 3 (at-start .args .functions .now) (at-start .args .code .now) (at-start .args .entry) in
     let h = sym (at-owned .ensures) ∙ not-false (at-owned .result) (c .before .if1 .left) in
-    let l = owned-inside (at-start .args .file .now) (at-start .pre .0 .1) (at-word .result) (at-word2 .result) (omega arith) h in
-    owned-marked (at-start .args .file .now) (at-start .args .c) (at-start .pre .0 .0) (at-start .args .i) _ _ (at-word .ensures .0) (at-word2 .ensures .0) h _ (at-start .pre .1 .1 (at-word2 .result) (omega arith) (omega arith))
+    let l = owned-inside B (at-start .pre .0 .1) (at-word .result) (at-word2 .result) (at-start .pre .0 .0 .entry-inside) h in
+    owned-marked B (at-start .args .labels .now) (at-start .args .i) _ _ (at-word .ensures .0) (at-word2 .ensures .0) h _ (at-start .pre .1 .1 (at-word2 .result) (omega arith) (omega arith))
 
 pub bad-label-spec : {M : Type 1} → statement M
 bad-label-spec =
     tie.close
     (tie.spec
     mul-at
-    add-at
     word-requires
     add-word
     word-requires-2

@@ -1,24 +1,24 @@
 -- The proof of `reader::labels::bad_labels`.
 use Prim.Native.Nat.{_≤_, _-_}
 use native.Mathlib.Omega.{arith}
-use mathlib.Core.Path.{_≡_}
+use mathlib.Core.Path.{_≡_, refl}
 use Rattle.format.proofs.Gathered.{some-none, some-more, some-end}
 use Rattle.rules.specs.Bytes.{some-below}
-use Rattle.rules.specs.ModuleFile.{badLabel, badLabels}
+use Rattle.rules.specs.Tables.{bodies, badLabel, badLabels}
 use Rattle.reader.proofs.labels.bad_labels.Statement.{statement}
 use Rattle.reader.proofs.labels.bad_labels.Tie as tie
 
 abbrev Inv-loop : tie.InvT-loop
-Inv-loop file c starts n bad₀ i₀ bad i = (i ≤ n) × (bad ≡ some-below i (badLabel file))
+Inv-loop functions labels code entry starts n bad₀ i₀ bad i = (i ≤ n) × (bad ≡ some-below i (badLabel (bodies 3 functions code entry) labels))
 
 abbrev μ-loop : tie.MeasureT-loop
-μ-loop file c starts n bad₀ i₀ bad i = n - i
+μ-loop functions labels code entry starts n bad₀ i₀ bad i = n - i
 
 loop-holds : tie.Need-loop-holds Inv-loop μ-loop
 loop-holds c = (omega arith, some-none _)
 
 bad-label-requires : tie.Need-bad-label-requires Inv-loop μ-loop
-bad-label-requires c κs = let at-start = c .before .before .before .before in
+bad-label-requires c κs = let at-start = c .before .before .before .before .before .before in
     (at-start .pre .0, ((omega arith, at-start .pre .1 .0 (omega arith)), at-start .pre .1 .1))
 
 add-i : tie.Need-add-i Inv-loop μ-loop
@@ -32,7 +32,7 @@ loop-again c = (omega arith, some-more _ _ _ _ (c .before .before .loop .inv .1)
 
 returns : tie.Need-returns Inv-loop μ-loop
 unfolding badLabels
-returns c = some-end _ _ _ _ _ (c .before .loop .inv .1) (omega arith) (omega arith) (c .before .before .before .before .pre .0 .0 .labels-is)
+returns c = some-end _ _ _ _ _ (c .before .loop .inv .1) (omega arith) (omega arith) refl
 
 pub bad-labels-spec : {M : Type 1} → statement M
 bad-labels-spec =

@@ -7,9 +7,6 @@ use Rattle.reader.proofs.labels.owned.Tie as tie
 mul-at : tie.Need-mul-at
 mul-at c = search needs
 
-add-at : tie.Need-add-at
-add-at c = search needs
-
 word-requires : tie.Need-word-requires
 word-requires c κs = search needs
 
@@ -23,14 +20,13 @@ add-result : tie.Need-add-result
 add-result c = search needs
 
 returns : tie.Need-returns
-returns c = let at-start = c .before .before .before .before .before .before in
-    owns-function (at-start .args .file .now) (at-start .args .c) ((at-start .pre)) (at-start .args .owner) (at-start .args .place) _ _ (c .before .before .before .if1 .taken) (c .before .word .ensures .0) (c .word2 .ensures .0)
+returns c = let at-start = c .before .before .before .before in
+    owns-function (at-start .args .functions .now) (at-start .args .entry) (at-start .pre) (at-start .args .owner) (at-start .args .place) _ _ (c .before .before .if1 .taken) (c .before .word .ensures .0) (c .word2 .ensures .0)
 
 returns-2 : tie.Need-returns-2
-returns-2 c = let at-start = c .before .before .before .before in
-    owns-entry (at-start .args .file .now) (at-start .args .c) ((at-start .pre)) (at-start .args .owner) (at-start .args .place) (c .before .if1 .left)
+returns-2 c = let at-start = c .before .before in
+    owns-entry (at-start .args .functions .now) (at-start .args .entry) (at-start .args .owner) (at-start .args .place) (c .if1 .left)
 
 pub owned-spec : {M : Type 1} → statement M
 owned-spec =
-    tie.close
-    (tie.spec mul-at add-at word-requires add-word word-requires-2 add-result returns returns-2)
+    tie.close (tie.spec mul-at word-requires add-word word-requires-2 add-result returns returns-2)

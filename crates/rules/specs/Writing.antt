@@ -1,0 +1,81 @@
+-- 02, A1: the module writer, from tables to an answer and to the lent output after.
+use Prim.Native.Nat.{ℕ, zero, suc, _+_, _/_, _%_}
+use mathlib.Core.Bool.{Bool, _||_, cond}
+use mathlib.Core.Option.{Option, none, some}
+use mathlib.Core.List.{List, [], _∷_, _++_}
+use lib.ListN.{length, drop}
+use lib.Dec.{ltb}
+pub use Rattle.rules.specs.declared.WriteAnswer.{WriteAnswer}
+pub use Rattle.rules.specs.declared.WriteAnswer.the-variants.{Unwritten, Written}
+use Rattle.rules.specs.Bytes.{words}
+use Rattle.rules.specs.Numbers.{done, output-too-short}
+use Rattle.rules.specs.Tables.{Tables, constantCount, functionCount, labelCount, differs, overLimits, firstOf, contentTests}
+
+-- ---- the file of these tables: "A header of counts and offsets, then four sections without gaps."
+
+-- the words of the header, in its order, from the lengths in bytes of constants, functions, labels and code
+abbrev pub headerWords : ℕ → ℕ → ℕ → ℕ → ℕ → ℕ → List ℕ
+headerWords e c f l n entry =
+    e ∷ (48 + c + f + l + n)
+    ∷ (c / 12) ∷ 48
+    ∷ (f / 20) ∷ (48 + c)
+    ∷ (l / 8) ∷ (48 + c + f)
+    ∷ n ∷ (48 + c + f + l)
+    ∷ entry ∷ 0 ∷ []
+
+abbrev pub headerOf : Tables → List ℕ
+headerOf t =
+    words (headerWords (t .bodies .edition) (length (t .constants)) (length (t .bodies .functions)) (length (t .labels)) (length (t .bodies .code)) (t .bodies .entry))
+
+abbrev pub fileLength : Tables → ℕ
+fileLength t = 48 + length (t .constants) + length (t .bodies .functions) + length (t .labels) + length (t .bodies .code)
+
+unfoldable pub fileOf : Tables → List ℕ
+fileOf t = headerOf t ++ (t .constants ++ (t .bodies .functions ++ (t .labels ++ t .bodies .code)))
+
+-- ---- "Refusals: the reader's 4 to 9 (part of a record at a table's end is 5); then 16, output too short."
+
+-- 4: "a count or the code length is over its limit". A count is that of whole records.
+unfoldable pub tooMany : Tables → Bool
+tooMany t = overLimits (constantCount (t .constants)) (functionCount (t .bodies .functions)) (labelCount (t .labels)) (length (t .bodies .code))
+
+-- 5: "part of a record at a table's end", or "the entry is longer than the code"
+unfoldable pub broken : Tables → Bool
+broken t =
+    differs (length (t .constants) % 12) 0 || differs (length (t .bodies .functions) % 20) 0 || differs (length (t .labels) % 8) 0
+    || ltb (length (t .bodies .code)) (t .bodies .entry)
+
+-- 4 to 9; 0 where none holds
+unfoldable pub tableRefusal : Tables → ℕ
+tableRefusal t = firstOf 4 (tooMany t ∷ broken t ∷ contentTests t)
+
+-- ---- what a writer answers: "0 with the length", or a refusal by its number alone
+
+abbrev pub writeNumber : WriteAnswer → ℕ
+writeNumber (Unwritten n) = n
+writeNumber (Written n) = done
+
+abbrev pub writeLength : WriteAnswer → Option ℕ
+writeLength (Unwritten n) = none
+writeLength (Written n) = some n
+
+-- output: what the lent output holds after
+pub record Wrote : Type 0 where
+  pub answer : WriteAnswer
+  pub output : List ℕ
+
+abbrev pub wrote : WriteAnswer → List ℕ → Wrote
+wrote a out = record { answer = a; output = out }
+
+-- "then 16, output too short. Here and later a writer answers 0 with the length and leaves output past it unchanged"
+abbrev pub delivered : List ℕ → List ℕ → Wrote
+delivered file out =
+    cond (ltb (length out) (length file)) (wrote (Unwritten output-too-short) out) (wrote (Written (length file)) (file ++ drop (length file) out))
+
+-- a refusal by its number, else the file; "a new refusal .. changes no lent memory and returns only its number"
+abbrev pub writeWith : ℕ → List ℕ → List ℕ → Wrote
+writeWith zero file out = delivered file out
+writeWith (suc n) file out = wrote (Unwritten (suc n)) out
+
+unfoldable pub write : Tables → List ℕ → Wrote
+write t out = writeWith (tableRefusal t) (fileOf t) out

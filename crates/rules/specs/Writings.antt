@@ -1,0 +1,61 @@
+-- A table that is not of the paper: the module writer on W1's tables, refusals 4 to 9 and 16, and which of two comes first.
+use mathlib.Core.Path.{_≡_, refl}
+use Prim.Native.Nat.{ℕ}
+use mathlib.Core.List.{List, [], _∷_, _++_}
+use lib.ListN.{take, set}
+use Rattle.rules.specs.Bytes.{zeros}
+use Rattle.rules.specs.Tables.{Tables, tables}
+use Rattle.rules.specs.Writing.{writeNumber, Unwritten, Written, wrote}
+use Rattle.rules.specs.Files.{PUSH, ADD, LOAD, RET, constantBytes, functionBytes, labelBytes, function, nines, file}
+use Rattle.rules.specs.Samples.{w1}
+use Rattle.rules.specs.Evaluate.{writeNow}
+
+abbrev numbers : List ℕ
+numbers = constantBytes ((3, 7) ∷ (3, 5) ∷ [])
+
+abbrev sum : List ℕ
+sum = PUSH 0 ++ (PUSH 1 ++ ADD)
+
+-- one function of one int to int after an empty entry
+abbrev one : List ℕ
+one = functionBytes 0 (function (3 ∷ []) 3 (LOAD 0 ++ RET) ∷ [])
+
+-- tables, the length of the output, and the number that is answered
+pub rows : List (Tables × (ℕ × ℕ))
+rows =
+    (tables 3 numbers [] [] sum 11, (83, 0)) ∷ (tables 3 numbers [] [] sum 11, (200, 0)) ∷ (tables 3 numbers [] [] sum 11, (82, 16)) ∷ (tables 3 [] [] [] [] 0, (48, 0)) ∷ (tables 3 [] [] [] [] 0, (47, 16))
+    -- 4, and 4 before 5
+    ∷ (tables 3 [] (zeros 2580) [] [] 0, (0, 4)) ∷ (tables 3 [] [] (zeros 2056) [] 0, (0, 4)) ∷ (tables 3 [] [] (zeros 2057) [] 0, (0, 4)) ∷ (tables 3 [] [] (zeros 2055) [] 0, (0, 5))
+    -- 5: part of a record, the entry longer than the code
+    ∷ (tables 3 (take 23 numbers) [] [] sum 11, (200, 5)) ∷ (tables 3 numbers (0 ∷ []) [] sum 11, (200, 5)) ∷ (tables 3 numbers [] (0 ∷ []) sum 11, (200, 5)) ∷ (tables 3 numbers [] [] sum 12, (200, 5))
+    -- 6 to 9
+    ∷ (tables 3 (set numbers 0 5) [] [] sum 11, (0, 6)) ∷ (tables 3 numbers [] [] sum 10, (0, 7)) ∷ (tables 3 [] one [] (LOAD 0 ++ RET) 0, (74, 0)) ∷ (tables 3 [] (set one 4 5) [] (LOAD 0 ++ RET) 0, (0, 7))
+    ∷ (tables 3 numbers [] [] (set sum 10 6) 11, (0, 8)) ∷ (tables 3 numbers [] (labelBytes ((0xffffffff, 1) ∷ [])) sum 11, (0, 9)) ∷ (tables 3 numbers [] (labelBytes ((0xffffffff, 5) ∷ [])) sum 11, (91, 0))
+    ∷ []
+
+pub computed : List (Tables × (ℕ × ℕ)) → List ℕ
+unfolding writeNow
+computed [] = []
+computed (r ∷ rs) = writeNumber (writeNow (r .0) (nines (r .1 .0)) .answer) ∷ computed rs
+
+pub expected : List (Tables × (ℕ × ℕ)) → List ℕ
+expected [] = []
+expected (r ∷ rs) = r .1 .1 ∷ expected rs
+
+pub table : computed rows ≡ expected rows
+unfolding computed expected rows
+table = refl
+
+-- W1 is written byte for byte, and what lies past it is left; a refusal leaves all
+pub w1-written : writeNow (tables 3 numbers [] [] sum 11) (nines 85) ≡ wrote (Written 83) (w1 ++ nines 2)
+unfolding writeNow
+w1-written = refl
+
+pub w1-refused : writeNow (tables 3 numbers [] [] sum 11) (nines 82) ≡ wrote (Unwritten 16) (nines 82)
+unfolding writeNow
+w1-refused = refl
+
+-- the assembler of the tables above and below puts the same file together
+pub same-file : writeNow (tables 3 [] one [] (LOAD 0 ++ RET) 0) (nines 74) .output ≡ file [] (function (3 ∷ []) 3 (LOAD 0 ++ RET) ∷ []) [] []
+unfolding writeNow
+same-file = refl

@@ -1,0 +1,144 @@
+-- A file cut into its tables: what the header's rows leave, and that the tables of a file that can be read are good.
+use mathlib.Core.Path.{_≡_, _∙_, subst}
+use Prim.Native.Nat.{ℕ, zero, suc, _+_, _*_, _%_, _≤_, _<_}
+use native.Mathlib.Omega.{arith}
+use mathlib.Core.Bool.{false}
+use mathlib.Core.List.{List, [], _∷_}
+use lib.ListN.{length, getD, take, drop, length-drop}
+use lib.Seq.{length-take-le, getD-drop}
+use lib.Dec.{ltb}
+use Rattle.rules.specs.Bytes.{word, cut}
+use Rattle.rules.specs.Tables.{differs, overLimits, firstOf, contentTests, constantCount, functionCount, labelCount, badConstants, badFunctions}
+use Rattle.rules.specs.ModuleFile.{edition, constants, functions, labels, codeLength, entryLength, functionsAt, labelsAt, codeAt, constantsIn, functionsIn, labelsIn, codeIn, bodiesIn, tablesIn, short, otherEdition, otherTotal, overLimit, notPacked, refusal}
+use Rattle.rules.specs.Writing.{tooMany, broken, tableRefusal}
+use Rattle.rules.specs.Claims.{AreBytes}
+use Rattle.soundness.specs.Tests.{ltb-isnt, ltb-no, or-neither}
+use Rattle.soundness.specs.Readable.{AllFalse, none-first, same-numbers, good-tables}
+
+-- ---- a part of a list
+
+pub length-cut : (s : List ℕ) (a n : ℕ) → a + n ≤ length s → length (cut s a n) ≡ n
+length-cut s a n h = length-take-le n (drop a s) (simp length-drop (omega arith))
+
+taken-le : (n : ℕ) (l : List ℕ) → length (take n l) ≤ n
+taken-le zero l = omega arith
+taken-le (suc n) [] = omega arith
+taken-le (suc n) (x ∷ l) = let h : length (take n l) ≤ n = taken-le n l in omega arith
+
+-- no more than n bytes, also where the list is shorter
+pub length-cut-le : (s : List ℕ) (a n : ℕ) → length (cut s a n) ≤ n
+length-cut-le s a n = taken-le n (drop a s)
+
+bytes-take : (n i : ℕ) (l : List ℕ) → ((j : ℕ) → getD l j 0 < 256) → getD (take n l) i 0 < 256
+bytes-take zero i l q = omega arith
+bytes-take (suc n) i [] q = omega arith
+bytes-take (suc n) zero (x ∷ l) q = q 0
+bytes-take (suc n) (suc i) (x ∷ l) q = bytes-take n i l (λ j. q (suc j))
+
+pub bytes-cut : (s : List ℕ) (a n : ℕ) → AreBytes s → AreBytes (cut s a n)
+bytes-cut s a n h i = bytes-take n i (drop a s) (λ j. rw (getD-drop a s j 0) (h (a + j)))
+
+-- the counts are at most those of the header, also in a file that can't be read
+pub function-count-le : (s : List ℕ) → functionCount (functionsIn s) ≤ functions s
+function-count-le s = let h : length (functionsIn s) ≤ 20 * functions s = length-cut-le s (functionsAt s) (20 * functions s) in omega arith
+
+pub label-count-le : (s : List ℕ) → labelCount (labelsIn s) ≤ labels s
+label-count-le s = let h : length (labelsIn s) ≤ 8 * labels s = length-cut-le s (labelsAt s) (8 * labels s) in omega arith
+
+-- ---- rows 1 to 5
+
+pub record Packed (s : List ℕ) : Type 0 where
+  pub third : edition s ≡ 3
+  pub total : word 4 s 4 ≡ length s
+  pub limits : overLimits (constants s) (functions s) (labels s) (codeLength s) ≡ false
+  pub zero-word : word 4 s 44 ≡ 0
+  pub constants-at : word 4 s 12 ≡ 48
+  pub functions-at : word 4 s 20 ≡ functionsAt s
+  pub labels-at : word 4 s 28 ≡ labelsAt s
+  pub code-at : word 4 s 36 ≡ codeAt s
+  pub whole : codeAt s + codeLength s ≡ length s
+  pub inside : entryLength s ≤ codeLength s
+
+module _ (s : List ℕ) (e : refusal s ≡ 0) where
+  rows : AllFalse (short s ∷ otherEdition s ∷ otherTotal s ∷ overLimit s ∷ notPacked s ∷ contentTests (tablesIn s))
+  unfolding refusal
+  rows = none-first 0 (short s ∷ otherEdition s ∷ otherTotal s ∷ overLimit s ∷ notPacked s ∷ contentTests (tablesIn s)) e
+
+  pub packed : Packed s
+  unfolding overLimit notPacked
+  packed =
+      let l : (overLimits (constants s) (functions s) (labels s) (codeLength s) ≡ false) × (differs (word 4 s 44) 0 ≡ false) =
+      or-neither (overLimits (constants s) (functions s) (labels s) (codeLength s)) (differs (word 4 s 44) 0) (rows .1 .1 .1 .0) in
+      let p6 : _ × (ltb (codeLength s) (entryLength s) ≡ false) = or-neither _ (ltb (codeLength s) (entryLength s)) (rows .1 .1 .1 .1 .0) in
+      let p5 : _ × (differs (codeAt s + codeLength s) (word 4 s 4) ≡ false) = or-neither _ (differs (codeAt s + codeLength s) (word 4 s 4)) (p6 .0) in
+      let p4 : _ × (differs (word 4 s 36) (codeAt s) ≡ false) = or-neither _ (differs (word 4 s 36) (codeAt s)) (p5 .0) in
+      let p3 : _ × (differs (word 4 s 28) (labelsAt s) ≡ false) = or-neither _ (differs (word 4 s 28) (labelsAt s)) (p4 .0) in
+      let p2 : (differs (word 4 s 12) 48 ≡ false) × (differs (word 4 s 20) (functionsAt s) ≡ false) =
+      or-neither (differs (word 4 s 12) 48) (differs (word 4 s 20) (functionsAt s)) (p3 .0) in
+      let t : word 4 s 4 ≡ length s = same-numbers (word 4 s 4) (length s) (rows .1 .1 .0) in
+      record {
+        third = same-numbers (edition s) 3 (rows .1 .0);
+        total = t;
+        limits = l .0;
+        zero-word = same-numbers (word 4 s 44) 0 (l .1);
+        constants-at = same-numbers (word 4 s 12) 48 (p2 .0);
+        functions-at = same-numbers (word 4 s 20) (functionsAt s) (p2 .1);
+        labels-at = same-numbers (word 4 s 28) (labelsAt s) (p3 .1);
+        code-at = same-numbers (word 4 s 36) (codeAt s) (p4 .1);
+        whole = same-numbers (codeAt s + codeLength s) (word 4 s 4) (p5 .1) ∙ t;
+        inside = ltb-isnt (codeLength s) (entryLength s) (p6 .1);
+      }
+
+  -- ---- the tables are as long as the header counts
+
+  pub constants-length : length (constantsIn s) ≡ 12 * constants s
+  constants-length = let w : codeAt s + codeLength s ≡ length s = packed .whole in length-cut s 48 (12 * constants s) (omega arith)
+
+  pub functions-length : length (functionsIn s) ≡ 20 * functions s
+  functions-length = let w : codeAt s + codeLength s ≡ length s = packed .whole in length-cut s (functionsAt s) (20 * functions s) (omega arith)
+
+  pub labels-length : length (labelsIn s) ≡ 8 * labels s
+  labels-length = let w : codeAt s + codeLength s ≡ length s = packed .whole in length-cut s (labelsAt s) (8 * labels s) (omega arith)
+
+  pub code-length : length (codeIn s) ≡ codeLength s
+  code-length = let w : codeAt s + codeLength s ≡ length s = packed .whole in length-cut s (codeAt s) (codeLength s) (omega arith)
+
+  pub constant-count : constantCount (constantsIn s) ≡ constants s
+  constant-count = let h : length (constantsIn s) ≡ 12 * constants s = constants-length in omega arith
+
+  pub function-count : functionCount (functionsIn s) ≡ functions s
+  function-count = let h : length (functionsIn s) ≡ 20 * functions s = functions-length in omega arith
+
+  pub label-count : labelCount (labelsIn s) ≡ labels s
+  label-count = let h : length (labelsIn s) ≡ 8 * labels s = labels-length in omega arith
+
+  -- rows 4 and 5 of the writer don't hold of the tables of a file that can be read
+  not-many : tooMany (tablesIn s) ≡ false
+  unfolding tooMany
+  not-many = rw (constant-count, function-count, label-count, code-length) (packed .limits)
+
+  not-broken : broken (tablesIn s) ≡ false
+  unfolding broken
+  not-broken =
+      let c : length (constantsIn s) % 12 ≡ 0 = let h : length (constantsIn s) ≡ 12 * constants s = constants-length in omega arith in
+      let f : length (functionsIn s) % 20 ≡ 0 = let h : length (functionsIn s) ≡ 20 * functions s = functions-length in omega arith in
+      let l : length (labelsIn s) % 8 ≡ 0 = let h : length (labelsIn s) ≡ 8 * labels s = labels-length in omega arith in
+      rw (c, f, l, code-length) (ltb-no (codeLength s) (entryLength s) (packed .inside))
+
+  pub good-file : tableRefusal (tablesIn s) ≡ 0
+  unfolding tableRefusal firstOf
+  good-file = rw (not-many, not-broken, rows .1 .1 .1 .1 .1 .0, rows .1 .1 .1 .1 .1 .1 .0, rows .1 .1 .1 .1 .1 .1 .1 .0, rows .1 .1 .1 .1 .1 .1 .1 .1 .0)
+
+  -- what the rows leave of it
+
+  pub constants-good : badConstants (constantsIn s) ≡ false
+  constants-good = good-tables (tablesIn s) good-file .sixth
+
+  pub functions-good : badFunctions (bodiesIn s) ≡ false
+  functions-good = good-tables (tablesIn s) good-file .good .seventh
+
+  pub few-functions : functionCount (functionsIn s) ≤ 128
+  few-functions = good-tables (tablesIn s) good-file .good .few-functions
+
+  pub little-code : length (codeIn s) ≤ 16384
+  little-code = good-tables (tablesIn s) good-file .good .little-code

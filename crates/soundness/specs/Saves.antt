@@ -1,0 +1,365 @@
+-- 02, A1: what is written can be read and gives the tables back, and what was read is written as it was.
+use mathlib.Core.Path.{_≡_, refl, sym, ap, _∙_}
+use mathlib.Core.Logic.{_≢_}
+use Prim.Native.Nat.{ℕ, zero, suc, _+_, _*_, _/_, _%_, _^_, _≤_, _<_}
+use native.Mathlib.Omega.{arith}
+use mathlib.Core.Bool.{Bool, true, false, not, _||_, or-false}
+use mathlib.Core.List.{List, [], _∷_, _++_, append-assoc}
+use lib.ListN.{length, getD, take, drop, length-append, length-drop, take-append-drop}
+use lib.Seq.{take-at, drop-at, take-all, take-add, drop-drop}
+use lib.Dec.{ltb, eqb}
+use Rattle.rules.specs.Bytes.{words, word, cut}
+use Rattle.rules.specs.Tables.{Tables, differs, firstOf, contentTests, constantCount, functionCount, labelCount}
+use Rattle.rules.specs.ModuleFile.{edition, constants, functions, labels, codeLength, entryLength, functionsAt, labelsAt, codeAt, constantsIn, functionsIn, labelsIn, codeIn, tablesIn, short, otherEdition, otherTotal, overLimit, notPacked, refusal}
+use Rattle.rules.specs.Writing.{fileLength, headerWords, fileOf, tooMany, broken, tableRefusal, writeNumber, wrote, writeWith, write}
+use Rattle.rules.specs.Numbers.{done, output-too-short}
+use Rattle.rules.specs.Claims.{AreBytes}
+use Rattle.rules.specs.Saved.{Saves}
+use Rattle.memory.proofs.Words.{number-bytes}
+use Rattle.memory.proofs.Copies.{word-bytes}
+use Rattle.soundness.specs.Names.{Unwritten, Written}
+use Rattle.soundness.specs.Tests.{decide, eqb-is, eqb-same, eqb-other, ltb-no, or-neither}
+use Rattle.soundness.specs.Readable.{same-numbers, Good, GoodTables, good-tables}
+use Rattle.soundness.specs.Cutting.{Packed, packed, constants-length, functions-length, labels-length, code-length, constant-count, function-count, label-count, good-file}
+
+-- ---- tests
+
+differs-same : (a b : ℕ) → a ≡ b → differs a b ≡ false
+differs-same a b e = ap not (ap (λ k. eqb k b) e ∙ eqb-same b)
+
+differs-not : (a b : ℕ) → a ≢ b → differs a b ≡ true
+differs-not a b n = ap not (eqb-other a b n)
+
+-- two tests that hold together
+differs-iff : (a b c d : ℕ) → (a ≡ b → c ≡ d) → (c ≡ d → a ≡ b) → differs a b ≡ differs c d
+differs-iff a b c d f g =
+    decide (eqb a b) (λ y. let e : a ≡ b = eqb-is a b y in differs-same a b e ∙ sym (differs-same c d (f e)))
+    (λ y. ap not y ∙ sym (decide (eqb c d) (λ z. differs-same c d (eqb-is c d z) ∙ sym (differs-same a b (g (eqb-is c d z))) ∙ ap not y) (λ z. ap not z)))
+
+-- row 5 of the file against row 5 of the tables, as numbers: lengths C, F, L, N of the tables, entry length E
+module _ (C F L N E : ℕ) where
+  abbrev loose : Bool
+  loose =
+      differs 48 48 || differs (48 + C) (48 + 12 * (C / 12)) || differs (48 + C + F) (48 + 12 * (C / 12) + 20 * (F / 20))
+      || differs (48 + C + F + L) (48 + 12 * (C / 12) + 20 * (F / 20) + 8 * (L / 8))
+      || differs (48 + 12 * (C / 12) + 20 * (F / 20) + 8 * (L / 8) + N) (48 + C + F + L + N) || ltb N E
+
+  abbrev parted : Bool
+  parted = differs (C % 12) 0 || differs (F % 20) 0 || differs (L % 8) 0 || ltb N E
+
+  same-row : loose ≡ parted
+  same-row = at-c (differs (C % 12) 0) refl
+    where
+      c-test : differs (48 + C) (48 + 12 * (C / 12)) ≡ differs (C % 12) 0
+      c-test = differs-iff (48 + C) (48 + 12 * (C / 12)) (C % 12) 0 (λ e. omega arith) (λ e. omega arith)
+
+      f-test : C % 12 ≡ 0 → differs (48 + C + F) (48 + 12 * (C / 12) + 20 * (F / 20)) ≡ differs (F % 20) 0
+      f-test c = differs-iff (48 + C + F) (48 + 12 * (C / 12) + 20 * (F / 20)) (F % 20) 0 (λ e. omega arith) (λ e. omega arith)
+
+      l-test : C % 12 ≡ 0 → F % 20 ≡ 0 → differs (48 + C + F + L) (48 + 12 * (C / 12) + 20 * (F / 20) + 8 * (L / 8)) ≡ differs (L % 8) 0
+      l-test c f = differs-iff (48 + C + F + L) (48 + 12 * (C / 12) + 20 * (F / 20) + 8 * (L / 8)) (L % 8) 0 (λ e. omega arith) (λ e. omega arith)
+
+      n-test : C % 12 ≡ 0 → F % 20 ≡ 0 → L % 8 ≡ 0 → differs (48 + 12 * (C / 12) + 20 * (F / 20) + 8 * (L / 8) + N) (48 + C + F + L + N) ≡ false
+      n-test c f l = differs-same (48 + 12 * (C / 12) + 20 * (F / 20) + 8 * (L / 8) + N) (48 + C + F + L + N) (omega arith)
+
+      at-l : C % 12 ≡ 0 → F % 20 ≡ 0 → (x : Bool) → differs (L % 8) 0 ≡ x → loose ≡ parted
+      at-l c f true y = rw (c-test, f-test c, l-test c f, differs-same (C % 12) 0 c, differs-same (F % 20) 0 f, y)
+      at-l c f false y = rw (c-test, f-test c, l-test c f, n-test c f (same-numbers (L % 8) 0 y), differs-same (C % 12) 0 c, differs-same (F % 20) 0 f, y)
+
+      at-f : C % 12 ≡ 0 → (x : Bool) → differs (F % 20) 0 ≡ x → loose ≡ parted
+      at-f c true y = rw (c-test, f-test c, differs-same (C % 12) 0 c, y)
+      at-f c false y = at-l c (same-numbers (F % 20) 0 y) (differs (L % 8) 0) refl
+
+      at-c : (x : Bool) → differs (C % 12) 0 ≡ x → loose ≡ parted
+      at-c true y = rw (c-test, y)
+      at-c false y = at-f (same-numbers (C % 12) 0 y) (differs (F % 20) 0) refl
+
+-- ---- words, one after the other
+
+length-words : (ws : List ℕ) → length (words ws) ≡ 4 * length ws
+length-words [] = refl
+length-words (w ∷ ws) = let h : length (words ws) ≡ 4 * length ws = length-words ws in omega arith
+
+word-words : (ws rest : List ℕ) (i : ℕ) → getD ws i 0 < 2 ^ 32 → i < length ws → word 4 (words ws ++ rest) (4 * i) ≡ getD ws i 0
+unfolding word
+word-words [] rest i h l = absurd (omega arith)
+word-words (w ∷ ws) rest zero h l = number-bytes 4 w (omega arith)
+word-words (w ∷ ws) rest (suc i) h l =
+    let q : 4 * suc i ≡ suc (suc (suc (suc (4 * i)))) = omega arith in rw q (word-words ws rest i h (omega arith))
+
+cut-at : (p q r : List ℕ) (a n : ℕ) → length p ≡ a → length q ≡ n → cut (p ++ (q ++ r)) a n ≡ q
+cut-at p q r a n h k = ap (take n) (drop-at p (q ++ r) a h) ∙ take-at q r n k
+
+-- ---- the file of tables
+
+abbrev numbers : Tables → List ℕ
+numbers t = headerWords (t .bodies .edition) (length (t .constants)) (length (t .bodies .functions)) (length (t .labels)) (length (t .bodies .code)) (t .bodies .entry)
+
+abbrev functionsFrom : Tables → ℕ
+functionsFrom t = 48 + length (t .constants)
+
+abbrev labelsFrom : Tables → ℕ
+labelsFrom t = functionsFrom t + length (t .bodies .functions)
+
+abbrev codeFrom : Tables → ℕ
+codeFrom t = labelsFrom t + length (t .labels)
+
+module _ (t : Tables) where
+  pub length-file : length (fileOf t) ≡ fileLength t
+  unfolding fileOf
+  length-file =
+      let h : length (words (numbers t)) ≡ 48 = length-words (numbers t) in
+      simp length-append (omega arith)
+
+module _ (t : Tables) (third : t .bodies .edition ≡ 3) (small : fileLength t < 2 ^ 32) (low : t .bodies .entry < 2 ^ 32) where
+  header-word : (i : ℕ) → i < 12 → getD (numbers t) i 0 < 2 ^ 32 → word 4 (fileOf t) (4 * i) ≡ getD (numbers t) i 0
+  unfolding fileOf
+  header-word i l h = word-words (numbers t) (t .constants ++ (t .bodies .functions ++ (t .labels ++ t .bodies .code))) i h l
+
+  edition-back : edition (fileOf t) ≡ t .bodies .edition
+  edition-back = header-word 0 (omega arith) (omega arith)
+
+  total-back : word 4 (fileOf t) 4 ≡ fileLength t
+  total-back = header-word 1 (omega arith) small
+
+  constants-back : constants (fileOf t) ≡ constantCount (t .constants)
+  constants-back = header-word 2 (omega arith) (omega arith)
+
+  constants-at-back : word 4 (fileOf t) 12 ≡ 48
+  constants-at-back = header-word 3 (omega arith) (omega arith)
+
+  functions-back : functions (fileOf t) ≡ functionCount (t .bodies .functions)
+  functions-back = header-word 4 (omega arith) (omega arith)
+
+  functions-at-back : word 4 (fileOf t) 20 ≡ functionsFrom t
+  functions-at-back = header-word 5 (omega arith) (omega arith)
+
+  labels-back : labels (fileOf t) ≡ labelCount (t .labels)
+  labels-back = header-word 6 (omega arith) (omega arith)
+
+  labels-at-back : word 4 (fileOf t) 28 ≡ labelsFrom t
+  labels-at-back = header-word 7 (omega arith) (omega arith)
+
+  code-back : codeLength (fileOf t) ≡ length (t .bodies .code)
+  code-back = header-word 8 (omega arith) (omega arith)
+
+  code-at-back : word 4 (fileOf t) 36 ≡ codeFrom t
+  code-at-back = header-word 9 (omega arith) (omega arith)
+
+  entry-back : entryLength (fileOf t) ≡ t .bodies .entry
+  entry-back = header-word 10 (omega arith) low
+
+  zero-back : word 4 (fileOf t) 44 ≡ 0
+  zero-back = header-word 11 (omega arith) (omega arith)
+
+  -- ---- rows 1 to 5
+
+  long-enough : short (fileOf t) ≡ false
+  long-enough = let l : length (fileOf t) ≡ fileLength t = length-file t in ltb-no (length (fileOf t)) 48 (omega arith)
+
+  its-edition : otherEdition (fileOf t) ≡ false
+  its-edition = differs-same (edition (fileOf t)) 3 (edition-back ∙ third)
+
+  its-total : otherTotal (fileOf t) ≡ false
+  its-total = differs-same (word 4 (fileOf t) 4) (length (fileOf t)) (total-back ∙ sym (length-file t))
+
+  fourth : overLimit (fileOf t) ≡ tooMany t
+  unfolding overLimit tooMany
+  fourth = rw (constants-back, functions-back, labels-back, code-back, zero-back) (or-false _)
+
+  fifth : notPacked (fileOf t) ≡ broken t
+  unfolding notPacked broken
+  fifth =
+      rw (constants-at-back, functions-at-back, labels-at-back, code-at-back, total-back, constants-back, functions-back, labels-back, code-back, entry-back)
+      (same-row (length (t .constants)) (length (t .bodies .functions)) (length (t .labels)) (length (t .bodies .code)) (t .bodies .entry))
+
+  -- ---- the tables, where no record is broken
+
+  module _ (c : length (t .constants) % 12 ≡ 0) (f : length (t .bodies .functions) % 20 ≡ 0) (l : length (t .labels) % 8 ≡ 0) where
+    constants-is : constantsIn (fileOf t) ≡ t .constants
+    unfolding fileOf
+    constants-is =
+        let n : 12 * constants (fileOf t) ≡ length (t .constants) = let h : constants (fileOf t) ≡ constantCount (t .constants) = constants-back in omega arith in
+        ap (cut (fileOf t) 48) n
+        ∙ cut-at (words (numbers t)) (t .constants) (t .bodies .functions ++ (t .labels ++ t .bodies .code)) 48 (length (t .constants)) (length-words (numbers t)) refl
+
+    before-functions : List ℕ
+    before-functions = words (numbers t) ++ t .constants
+
+    before-labels : List ℕ
+    before-labels = before-functions ++ t .bodies .functions
+
+    before-code : List ℕ
+    before-code = before-labels ++ t .labels
+
+    lengths : (length before-functions ≡ functionsFrom t) × (length before-labels ≡ labelsFrom t) × (length before-code ≡ codeFrom t)
+    unfolding before-functions before-labels before-code
+    lengths =
+        let h : length (words (numbers t)) ≡ 48 = length-words (numbers t) in
+        (simp length-append (omega arith), simp length-append (omega arith), simp length-append (omega arith))
+
+    functions-from : functionsAt (fileOf t) ≡ functionsFrom t
+    functions-from = let h : constants (fileOf t) ≡ constantCount (t .constants) = constants-back in omega arith
+
+    functions-size : 20 * functions (fileOf t) ≡ length (t .bodies .functions)
+    functions-size = let h : functions (fileOf t) ≡ functionCount (t .bodies .functions) = functions-back in omega arith
+
+    labels-from : labelsAt (fileOf t) ≡ labelsFrom t
+    labels-from = let h : functionsAt (fileOf t) ≡ functionsFrom t = functions-from in let k : 20 * functions (fileOf t) ≡ length (t .bodies .functions) = functions-size in omega arith
+
+    labels-size : 8 * labels (fileOf t) ≡ length (t .labels)
+    labels-size = let h : labels (fileOf t) ≡ labelCount (t .labels) = labels-back in omega arith
+
+    code-from : codeAt (fileOf t) ≡ codeFrom t
+    code-from = let h : labelsAt (fileOf t) ≡ labelsFrom t = labels-from in let k : 8 * labels (fileOf t) ≡ length (t .labels) = labels-size in omega arith
+
+    functions-is : functionsIn (fileOf t) ≡ t .bodies .functions
+    unfolding fileOf before-functions
+    functions-is =
+        ap (λ a. cut (fileOf t) a (20 * functions (fileOf t))) functions-from ∙ ap (cut (fileOf t) (functionsFrom t)) functions-size
+        ∙ ap (λ x. cut x (functionsFrom t) (length (t .bodies .functions))) (sym (append-assoc (words (numbers t)) (t .constants) (t .bodies .functions ++ (t .labels ++ t .bodies .code))))
+        ∙ cut-at before-functions (t .bodies .functions) (t .labels ++ t .bodies .code) (functionsFrom t) (length (t .bodies .functions)) (lengths .0) refl
+
+    labels-is : labelsIn (fileOf t) ≡ t .labels
+    unfolding fileOf before-functions before-labels
+    labels-is =
+        let re : fileOf t ≡ before-labels ++ (t .labels ++ t .bodies .code) = simp append-assoc in
+        ap (λ a. cut (fileOf t) a (8 * labels (fileOf t))) labels-from ∙ ap (cut (fileOf t) (labelsFrom t)) labels-size
+        ∙ ap (λ x. cut x (labelsFrom t) (length (t .labels))) re
+        ∙ cut-at before-labels (t .labels) (t .bodies .code) (labelsFrom t) (length (t .labels)) (lengths .1) refl
+
+    code-is : codeIn (fileOf t) ≡ t .bodies .code
+    unfolding fileOf before-functions before-labels before-code
+    code-is =
+        let re : fileOf t ≡ before-code ++ t .bodies .code = simp append-assoc in
+        ap (λ a. cut (fileOf t) a (codeLength (fileOf t))) code-from ∙ ap (cut (fileOf t) (codeFrom t)) code-back
+        ∙ ap (λ x. cut x (codeFrom t) (length (t .bodies .code))) re
+        ∙ ap (take (length (t .bodies .code))) (drop-at before-code (t .bodies .code) (codeFrom t) (lengths .2))
+        ∙ take-all (length (t .bodies .code)) (t .bodies .code) (omega arith)
+
+    tables-back : tablesIn (fileOf t) ≡ t
+    tables-back = rw (edition-back, constants-is, functions-is, labels-is, code-is, entry-back)
+
+  -- ---- the table of refusals
+
+  unbroken : broken t ≡ false → tablesIn (fileOf t) ≡ t
+  unfolding broken
+  unbroken e =
+      let x : _ × (ltb (length (t .bodies .code)) (t .bodies .entry) ≡ false) = or-neither _ (ltb (length (t .bodies .code)) (t .bodies .entry)) e in
+      let y : _ × (differs (length (t .labels) % 8) 0 ≡ false) = or-neither _ (differs (length (t .labels) % 8) 0) (x .0) in
+      let z : (differs (length (t .constants) % 12) 0 ≡ false) × (differs (length (t .bodies .functions) % 20) 0 ≡ false) =
+      or-neither (differs (length (t .constants) % 12) 0) (differs (length (t .bodies .functions) % 20) 0) (y .0) in
+      tables-back (same-numbers (length (t .constants) % 12) 0 (z .0)) (same-numbers (length (t .bodies .functions) % 20) 0 (z .1)) (same-numbers (length (t .labels) % 8) 0 (y .1))
+
+  same-refusal : refusal (fileOf t) ≡ tableRefusal t
+  unfolding refusal tableRefusal firstOf
+  same-refusal =
+      rw (long-enough, its-edition, its-total, fourth, fifth)
+      (go (tooMany t) (broken t) refl)
+    where
+      go : (x y : Bool) → broken t ≡ y → firstOf 1 (false ∷ false ∷ false ∷ x ∷ y ∷ contentTests (tablesIn (fileOf t))) ≡ firstOf 4 (x ∷ y ∷ contentTests t)
+      go true y e = refl
+      go false true e = refl
+      go false false e = ap (λ u. firstOf 6 (contentTests u)) (unbroken e)
+
+-- ---- what is written is read back
+
+-- tables that are not refused fit the header's words
+pub fits : (t : Tables) → tableRefusal t ≡ 0 → (fileLength t < 2 ^ 32) × (t .bodies .entry < 2 ^ 32)
+fits t e =
+    let g : GoodTables t = good-tables t e in
+    let h : Good (t .bodies) = g .good in
+    let fc : constantCount (t .constants) ≤ 1024 = g .few-constants in
+    let ff : functionCount (t .bodies .functions) ≤ 128 = h .few-functions in
+    let fl : labelCount (t .labels) ≤ 256 = g .few-labels in
+    let fn : length (t .bodies .code) ≤ 16384 = h .little-code in
+    let fe : t .bodies .entry ≤ length (t .bodies .code) = h .inside in
+    (omega arith, omega arith)
+
+pub file-readable : (t : Tables) → t .bodies .edition ≡ 3 → tableRefusal t ≡ 0 → (refusal (fileOf t) ≡ 0) × (tablesIn (fileOf t) ≡ t)
+file-readable t third e =
+    let s : (fileLength t < 2 ^ 32) × (t .bodies .entry < 2 ^ 32) = fits t e in
+    let g : GoodTables t = good-tables t e in
+    (same-refusal t third (s .0) (s .1) ∙ e, tables-back t third (s .0) (s .1) (g .whole-constants) (g .whole-functions) (g .whole-labels))
+
+module _ (t : Tables) (out : List ℕ) (n : ℕ) where
+  -- a writer that answers 0 has written the file
+  pub written-is : write t out .answer ≡ Written n → (tableRefusal t ≡ 0) × (take n (write t out .output) ≡ fileOf t)
+  unfolding write
+  written-is h = go (tableRefusal t) refl h
+    where
+      clash : (m : ℕ) → Unwritten m ≡ Written n → ⊥
+      clash m q = let z : _≡_ {A = ℕ} 0 1 = cc in omega arith
+
+      go : (r : ℕ) → tableRefusal t ≡ r → writeWith r (fileOf t) out .answer ≡ Written n → (tableRefusal t ≡ 0) × (take n (writeWith r (fileOf t) out .output) ≡ fileOf t)
+      go (suc r) q h = absurd (clash (suc r) h)
+      go zero q h =
+          decide (ltb (length out) (length (fileOf t))) (λ y. absurd (clash 16 (rw y at h)))
+          (λ y.
+          let w : Written (length (fileOf t)) ≡ Written n = rw y at h in
+          let k : length (fileOf t) ≡ n = cc in
+          (q, rw y (take-at (fileOf t) (drop (length (fileOf t)) out) n k)))
+
+-- 0 comes with a length
+pub written-with : (t : Tables) (out : List ℕ) → writeNumber (write t out .answer) ≡ done → (n : ℕ) × (write t out .answer ≡ Written n)
+unfolding write
+written-with t out = go (tableRefusal t)
+  where
+    go : (r : ℕ) → writeNumber (writeWith r (fileOf t) out .answer) ≡ done → (n : ℕ) × (writeWith r (fileOf t) out .answer ≡ Written n)
+    go (suc r) h = absurd (omega (arith, h))
+    go zero h =
+        decide (ltb (length out) (length (fileOf t))) (λ y. let z : output-too-short ≡ done = rw y at h in absurd (omega arith))
+        (λ y. (length (fileOf t), rw y refl))
+
+-- ---- what was read is written
+
+abbrev wordsFrom : List ℕ → ℕ → ℕ → List ℕ
+wordsFrom s a zero = []
+wordsFrom s a (suc n) = word 4 s a ∷ wordsFrom s (a + 4) n
+
+words-from : (s : List ℕ) → AreBytes s → (n a : ℕ) → a + 4 * n ≤ length s → words (wordsFrom s a n) ≡ take (4 * n) (drop a s)
+words-from s b zero a h = refl
+words-from s b (suc n) a h =
+    let q : 4 * suc n ≡ 4 + 4 * n = omega arith in
+    ap (λ x. x ++ words (wordsFrom s (a + 4) n)) (word-bytes s b 4 a (omega arith))
+    ∙ ap (λ x. take 4 (drop a s) ++ x) (words-from s b n (a + 4) (omega arith) ∙ ap (take (4 * n)) (sym (drop-drop 4 a s)))
+    ∙ sym (take-add 4 (4 * n) (drop a s)) ∙ ap (λ k. take k (drop a s)) (sym q)
+
+-- one section more, in front of the rest of the file
+seam : (s : List ℕ) (a n : ℕ) (r : List ℕ) → r ≡ drop (a + n) s → cut s a n ++ r ≡ drop a s
+seam s a n r e = ap (λ x. cut s a n ++ x) (e ∙ sym (drop-drop n a s)) ∙ take-append-drop n (drop a s)
+
+module _ (s : List ℕ) (b : AreBytes s) (e : refusal s ≡ 0) where
+  same-words : numbers (tablesIn s) ≡ wordsFrom s 0 12
+  same-words =
+      let p : Packed s = packed s e in
+      let lc : length (constantsIn s) ≡ 12 * constants s = constants-length s e in
+      let lf : length (functionsIn s) ≡ 20 * functions s = functions-length s e in
+      let ll : length (labelsIn s) ≡ 8 * labels s = labels-length s e in
+      let ln : length (codeIn s) ≡ codeLength s = code-length s e in
+      rw (constant-count s e, function-count s e, label-count s e, lc, lf, ll, ln, p .whole, p .zero-word, p .constants-at, p .functions-at, p .labels-at, p .code-at, p .total)
+
+  pub file-back : fileOf (tablesIn s) ≡ s
+  unfolding fileOf
+  file-back =
+      let p : Packed s = packed s e in
+      let w : codeAt s + codeLength s ≡ length s = p .whole in
+      ap (λ ws. words ws ++ (constantsIn s ++ (functionsIn s ++ (labelsIn s ++ codeIn s)))) same-words
+      ∙ ap (λ x. x ++ (constantsIn s ++ (functionsIn s ++ (labelsIn s ++ codeIn s)))) (words-from s b 12 0 (omega arith))
+      ∙ seam s 0 48 _ (seam s 48 (12 * constants s) _ (seam s (functionsAt s) (20 * functions s) _ (seam s (labelsAt s) (8 * labels s) _
+      (take-all (codeLength s) (drop (codeAt s) s) (simp length-drop (omega arith))))))
+
+  pub written-back : (out : List ℕ) → length s ≤ length out → write (tablesIn s) out ≡ wrote (Written (length s)) (s ++ drop (length s) out)
+  unfolding write
+  written-back out l = rw (good-file s e, file-back) (rw (ltb-no (length out) (length s) l))
+
+pub saves : Saves
+saves =
+    record {
+      exactly = same-refusal;
+      read-back = λ t out n third h.
+          let w : (tableRefusal t ≡ 0) × (take n (write t out .output) ≡ fileOf t) = written-is t out n h in
+          let r : (refusal (fileOf t) ≡ 0) × (tablesIn (fileOf t) ≡ t) = file-readable t third (w .0) in
+          (ap refusal (w .1) ∙ r .0, ap tablesIn (w .1) ∙ r .1);
+      write-back = λ s out b e l. written-back s b e out l;
+    }
