@@ -1,9 +1,9 @@
 /*
- * limpetskein.h: the check of a module and the run of one of its bodies, for C.
+ * limpetskein.h: the check of a module, the run of one of its bodies, and the writer of modules, for C.
  *
  * Link with target/staticlib/liblimpetskein.a (`rt staticlib limpetskein`; x86-64 Linux).
  *
- * Both functions take any bytes, any numbers and any lengths, always return, and test for
+ * The functions take any bytes, any numbers and any lengths, always return, and test for
  * themselves whatever they depend on. They allocate nothing, keep nothing between calls and
  * hold no pointer after they return: every byte that they read or write is lent by the caller
  * and stays the caller's. Calls on memory of their own may go on at the same time.
@@ -11,8 +11,8 @@
  * What the caller owes:
  *   - A slice is a pointer and a number of bytes. All of them can be read and, where the pointer
  *     is not const, written. With length 0 the pointer may be null.
- *   - A slice that is written overlaps no other slice, and neither body, steps nor height.
- *   - body, steps and height are not null, are aligned and do not overlap each other.
+ *   - A slice that is written overlaps no other slice, and neither body, steps, height nor written.
+ *   - body, steps, height and written are not null, are aligned and do not overlap each other.
  *   - Nothing else writes these bytes during the call.
  *
  * Numbers are little endian. Bodies are numbered as in the module's function section.
@@ -32,9 +32,18 @@ extern "C" {
 
 /* Limits of the format. */
 #define LIMPETSKEIN_LONGEST_MODULE 33328 /* bytes */
+#define LIMPETSKEIN_MOST_CONSTANTS 1024
+#define LIMPETSKEIN_MOST_FUNCTIONS 128
 #define LIMPETSKEIN_MOST_LABELS 256
+#define LIMPETSKEIN_MOST_CODE 16384 /* bytes */
 #define LIMPETSKEIN_ROOM_PER_LABEL 64 /* bytes of checking room */
 #define LIMPETSKEIN_MOST_SLOTS 4096   /* a larger lent stack is used up to here */
+
+/* Bytes of a module's header, and of a record of its tables. */
+#define LIMPETSKEIN_HEADER 48
+#define LIMPETSKEIN_CONSTANT 12
+#define LIMPETSKEIN_FUNCTION 20
+#define LIMPETSKEIN_LABEL 8
 
 /* Type bytes of slots and arguments. */
 #define LIMPETSKEIN_INT 3     /* 32 bits; the payload's upper four bytes are zero */
@@ -44,14 +53,15 @@ extern "C" {
 
 /* Answers. A call gives the first in number order that holds. */
 enum {
-    LIMPETSKEIN_DONE = 0, /* check: accepted. run: finished */
+    LIMPETSKEIN_DONE = 0, /* check: accepted. run: finished. write: written */
 
-    /* The module can't be read: check and run. */
+    /* The module can't be read: check and run. 4 to 9 also: these tables are no module: write. */
     LIMPETSKEIN_TOO_SHORT = 1,     /* under 48 bytes */
     LIMPETSKEIN_OTHER_EDITION = 2, /* the edition is not 3 */
     LIMPETSKEIN_OTHER_LENGTH = 3,  /* the total length word differs from the lent length */
     LIMPETSKEIN_OVER_LIMIT = 4,    /* a count or the code length is over its limit, or word 44 is not zero */
-    LIMPETSKEIN_NOT_PACKED = 5,    /* an offset, the sections' sum, or an entry longer than the code */
+    LIMPETSKEIN_NOT_PACKED = 5,    /* an offset, the sections' sum, or an entry longer than the code; write: part
+                                      of a record at a table's end */
     LIMPETSKEIN_BAD_CONSTANT = 6,  /* a constant of another type, or an int with upper bytes set */
     LIMPETSKEIN_BAD_FUNCTION = 7,  /* a bad function record, or bodies that don't fill the code */
     LIMPETSKEIN_BAD_CODE = 8,      /* an unknown opcode, or an instruction crossing its body's end */
@@ -65,6 +75,9 @@ enum {
     LIMPETSKEIN_NO_SUCH_FUNCTION = 12,
     LIMPETSKEIN_BAD_ARGUMENTS = 13, /* not 8 payload bytes per type byte, other types than declared, an int with
                                        upper bits, a pointer parameter, or arguments for the entry */
+
+    /* Write only. */
+    LIMPETSKEIN_OUTPUT_TOO_SHORT = 16, /* the tables are a module, and the output is shorter than it */
 
     /* Run only: it stopped. Of an accepted module only 0, 15, 20 and 24 come from a run that started. */
     LIMPETSKEIN_ALLOWANCE_USED_UP = 15,
@@ -125,6 +138,29 @@ uint32_t limpetskein_run(const uint8_t *module, size_t module_len, uint32_t func
                          size_t arg_types_len, const uint8_t *arg_payloads, size_t arg_payloads_len,
                          uint64_t allowance, uint8_t *payloads, size_t payloads_len, uint8_t *types,
                          size_t types_len, uint64_t *steps, uint64_t *height);
+
+/*
+ * Writes the module of these tables: 0, 4 to 9, 16.
+ *
+ *   constants     12 bytes each: type word (3, 4, 6), 8-byte payload.
+ *   functions     20 bytes each: start, length, parameter count, return type, eight parameter types, two zeros.
+ *   labels        8 bytes each: owner's function number, or LIMPETSKEIN_ENTRY; place in the code.
+ *   code          the entry's body, then the functions' in order, without gaps.
+ *   entry_length  the bytes of the entry's body.
+ *   *written      written with 0 only: the module's length, which is 48 and the lengths of the four tables.
+ *
+ * The tables are those of the module file. 4 to 9 are given exactly where a check or a run would refuse the module of
+ * these tables with this number, and 5 where a table ends in part of a record; a table's count is that of its whole
+ * records. No typing is asked: what the check refuses with 11 is written.
+ *
+ * The output after the call:
+ *   4 to 9, 16  unchanged.
+ *   0           the module, and past it unchanged. It can be read, and its sections and entry length are those that
+ *               were lent. Tables cut from a module that can be read give that module's bytes again.
+ */
+uint32_t limpetskein_write(const uint8_t *constants, size_t constants_len, const uint8_t *functions,
+                           size_t functions_len, const uint8_t *labels, size_t labels_len, const uint8_t *code,
+                           size_t code_len, uint32_t entry_length, uint8_t *out, size_t out_len, uint64_t *written);
 
 #ifdef __cplusplus
 }

@@ -14,7 +14,8 @@ use Rattle.rules.specs.declared.RunAnswer.{RunAnswer}
 use Rattle.rules.specs.declared.RunAnswer.the-variants.{Finished}
 use Rattle.rules.specs.declared.Tally.{Tally}
 use Rattle.rules.specs.Numbers.{no-typing}
-use Rattle.rules.specs.ModuleFile.{firstOf, refusal, labels, functions, Body, bodyOf, read}
+use Rattle.rules.specs.Tables.{firstOf, Body, bodyOf}
+use Rattle.rules.specs.ModuleFile.{refusal, labels, functions, read}
 use Rattle.rules.specs.Stack.{Lent, capacity}
 use Rattle.rules.specs.Machine.{Outcome, run}
 use Rattle.rules.specs.Check.{bodies, firstUntyped}

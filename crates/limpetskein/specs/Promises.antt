@@ -8,7 +8,8 @@ use Rattle.rules.specs.declared.CheckAnswer.{CheckAnswer}
 use Rattle.rules.specs.declared.CheckAnswer.the-variants.{Untyped}
 use Rattle.rules.specs.declared.RunAnswer.{RunAnswer}
 use Rattle.rules.specs.Numbers.{done, no-typing}
-use Rattle.rules.specs.ModuleFile.{refusal, labels, Body, bodyOf, read}
+use Rattle.rules.specs.Tables.{Body, bodyOf}
+use Rattle.rules.specs.ModuleFile.{refusal, labels, read}
 use Rattle.rules.specs.Stack.{Lent, capacity, lentAfter}
 use Rattle.rules.specs.Machine.{State, Outcome}
 use Rattle.rules.specs.Typing.{WellTyped}

@@ -1,10 +1,14 @@
 // The C interface: the paper's number is the answer, and what else an answer holds goes through pointers.
 ghost use mathlib.Core.Path.{_≡_};
+ghost use Rattle.rules.specs.Tables.{tables};
 ghost use Rattle.rules.specs.Answers.{checkNumber, runNumber};
-ghost use Rattle.rules.specs.Host.{bodyAfter, stepsAfter, heightAfter};
+ghost use Rattle.rules.specs.Writing.{writeNumber};
+ghost use Rattle.rules.specs.Host.{bodyAfter, stepsAfter, heightAfter, writtenAfter};
 ghost use Rattle.limpetskein.specs.Promises.{lentOf, HostCheckKeeps, HostRunKeeps};
+ghost use Rattle.limpetskein.specs.WritePromises.{HostWriteKeeps};
 use rules::CheckAnswer;
 use rules::RunAnswer;
+use rules::WriteAnswer;
 
 const NO_TYPING: u32 = 11;
 
@@ -80,4 +84,41 @@ pub extern "C" fn limpetskein_run(
     *steps = tally.steps;
     *height = tally.height;
     0
+}
+
+// An answer's number. The length is written with 0 only.
+fn write_number(answer: WriteAnswer, written: &mut u64) -> u32
+    ensures { λ r. ⌜ (r ≡ writeNumber answer) × (now (written .exit) ≡ writtenAfter answer (now (written .entry))) ⌝ }
+{
+    match answer {
+        WriteAnswer::Unwritten(n) => n,
+        WriteAnswer::Written(n) => {
+            *written = n;
+            0
+        }
+    }
+}
+
+// `write` for C.
+#[no_mangle]
+pub extern "C" fn limpetskein_write(
+    constants: &[u8],
+    functions: &[u8],
+    labels: &[u8],
+    code: &[u8],
+    entry_length: u32,
+    out: &mut [u8],
+    written: &mut u64,
+) -> u32
+    ensures { λ r. ⌜ HostWriteKeeps (tables 3 (now (constants .entry)) (now (functions .entry)) (now (labels .entry)) (now (code .entry)) «entry_length») (now (out .entry)) (now (written .entry)) r (now (out .exit)) (now (written .exit)) ⌝ }
+{
+    let answer = crate::write(
+        constants,
+        functions,
+        labels,
+        code,
+        entry_length as usize,
+        out,
+    );
+    write_number(answer, written)
 }

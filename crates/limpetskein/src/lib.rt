@@ -1,7 +1,10 @@
-// The public library: the check of any bytes, and the run of any body of any bytes.
+// The public library: the check of any bytes, the run of any body of any bytes, and the writer of modules.
+ghost use Rattle.rules.specs.Tables.{tables};
 ghost use Rattle.limpetskein.specs.Promises.{lentOf, CheckKeeps, RunKeeps};
+ghost use Rattle.limpetskein.specs.WritePromises.{WriteKeeps};
 use rules::CheckAnswer;
 use rules::RunAnswer;
+use rules::WriteAnswer;
 
 mod host;
 
@@ -33,4 +36,18 @@ pub fn run(
         payloads,
         types,
     )
+}
+
+// Writes the module of these tables into the lent output, or refuses and changes nothing.
+pub fn write(
+    constants: &[u8],
+    functions: &[u8],
+    labels: &[u8],
+    code: &[u8],
+    entry: usize,
+    out: &mut [u8],
+) -> WriteAnswer
+    ensures { λ r. ⌜ WriteKeeps (tables 3 (now (constants .entry)) (now (functions .entry)) (now (labels .entry)) (now (code .entry)) entry) (now (out .entry)) r (now (out .exit)) ⌝ }
+{
+    writer::write(constants, functions, labels, code, entry, out)
 }

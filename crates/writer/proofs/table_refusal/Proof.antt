@@ -1,0 +1,31 @@
+-- The proof of `writer::table_refusal`.
+use mathlib.Core.Path.{sym, _∙_}
+use borrow.Author.Needs.{needs}
+use Rattle.rules.specs.Tables.{firstOf}
+use Rattle.rules.specs.Writing.{tableRefusal, tooMany, broken}
+use Rattle.writer.proofs.Laws.{fits-of}
+use Rattle.writer.proofs.table_refusal.Statement.{statement}
+use Rattle.writer.proofs.table_refusal.Tie as tie
+
+over-limits-requires : tie.Need-over-limits-requires
+over-limits-requires c κs = search needs
+
+returns : tie.Need-returns
+unfolding tableRefusal tooMany firstOf
+returns c = simp (← c .before .over-limits .ensures, c .if1 .taken)
+
+returns-2 : tie.Need-returns-2
+unfolding tableRefusal tooMany broken firstOf
+returns-2 c = simp (← c .before .before .over-limits .ensures, c .before .if1 .left, c .if2 .taken)
+
+content-refusal-requires : tie.Need-content-refusal-requires
+content-refusal-requires c κs = let at-start = c .before .before .before .before .before .before .before in
+    fits-of (at-start .args .constants .now) (at-start .args .functions .now) (at-start .args .labels .now) (at-start .args .code .now) (at-start .args .entry) (sym (c .before .before .over-limits .ensures) ∙ c .before .if1 .left) (c .if2 .left)
+
+returns-3 : tie.Need-returns-3
+unfolding tableRefusal tooMany broken firstOf
+returns-3 c = simp (← c .before .before .before .over-limits .ensures, c .before .before .if1 .left, c .before .if2 .left) (c .content-refusal .ensures)
+
+pub table-refusal-spec : {M : Type 1} → statement M
+table-refusal-spec =
+    tie.close (tie.spec over-limits-requires returns returns-2 content-refusal-requires returns-3)
