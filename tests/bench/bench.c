@@ -114,7 +114,7 @@ static double counted(const char *program, const char *directory, int i, int s) 
     snprintf(command, sizeof command,
              "env -i PATH=\"$PATH\" valgrind --tool=callgrind --callgrind-out-file=/dev/null --toggle-collect=%s "
              "'%s' '%s' --turn %d %d 2>&1",
-             rows[i].kind == CHECK ? sides[s].check_name : sides[s].run_name, program, directory, i, s);
+             called(&sides[s], &rows[i]), program, directory, i, s);
     FILE *output = popen(command, "r");
     while (output != NULL && fgets(line, sizeof line, output)) {
         const char *at = strstr(line, "Collected : ");

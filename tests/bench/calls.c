@@ -5,9 +5,14 @@
 #include "baseline/baseline.h"
 
 const Side sides[SIDES] = {
-    [LIBRARY] = {limpetskein_check, limpetskein_run, "limpetskein_check", "limpetskein_run"},
-    [BASELINE] = {baseline_check, baseline_run, "baseline_check", "baseline_run"},
+    [LIBRARY] = {limpetskein_check, limpetskein_run, limpetskein_write, "limpetskein_check", "limpetskein_run",
+                 "limpetskein_write"},
+    [BASELINE] = {baseline_check, baseline_run, baseline_write, "baseline_check", "baseline_run", "baseline_write"},
 };
+
+const char *called(const Side *side, const Row *row) {
+    return row->kind == CHECK ? side->check_name : row->kind == WRITE ? side->write_name : side->run_name;
+}
 
 void lend(Lent *lent) { memset(lent, 0xA5, sizeof *lent); }
 
@@ -36,6 +41,21 @@ static void open_only(const Side *side, const File *module, Lent *lent) {
                                0, &lent->steps, &lent->height);
 }
 
+static uint32_t word(const File *module, size_t at) {
+    return module->file[at] | module->file[at + 1] << 8 | module->file[at + 2] << 16 |
+           (uint32_t)module->file[at + 3] << 24;
+}
+
+// The module's own sections, by the offsets in its header.
+static void write_again(const Side *side, const File *module, Lent *lent) {
+    size_t constants = word(module, 12), functions = word(module, 20), labels = word(module, 28);
+    size_t code = word(module, 36);
+    const uint8_t *file = module->file;
+    lent->answers |= side->write(file + constants, functions - constants, file + functions, labels - functions,
+                                 file + labels, code - labels, file + code, module->length - code, word(module, 40),
+                                 lent->out + GUARD, LIMPETSKEIN_LONGEST_MODULE, &lent->written);
+}
+
 void turn(const Side *side, const Row *row, const File *module, uint32_t calls, uint64_t allowance, uint32_t seed,
           Lent *lent) {
     lent->answers = 0;
@@ -51,6 +71,9 @@ void turn(const Side *side, const Row *row, const File *module, uint32_t calls, 
             break;
         case CHECK:
             lent->answers |= side->check(module->file, module->length, lent->room + GUARD, ROOM, &lent->body);
+            break;
+        case WRITE:
+            write_again(side, module, lent);
             break;
         default:
             open_only(side, module, lent);

@@ -7,11 +7,12 @@
 #include "limpetskein.h"
 #include "rows.h"
 
-// The two functions, and their names in the program.
+// The three functions, and their names in the program.
 typedef struct {
     __typeof__(limpetskein_check) *check;
     __typeof__(limpetskein_run) *run;
-    const char *check_name, *run_name;
+    __typeof__(limpetskein_write) *write;
+    const char *check_name, *run_name, *write_name;
 } Side;
 
 enum { LIBRARY, BASELINE, SIDES };
@@ -28,10 +29,13 @@ enum { GUARD = 64, ROOM = LIMPETSKEIN_MOST_LABELS * LIMPETSKEIN_ROOM_PER_LABEL }
 // All that a side is lent, with bytes around that must stay, and all that it gives.
 typedef struct {
     uint8_t payloads[GUARD + 8 * LIMPETSKEIN_MOST_SLOTS + GUARD], types[GUARD + LIMPETSKEIN_MOST_SLOTS + GUARD];
-    uint8_t room[GUARD + ROOM + GUARD];
-    uint64_t steps, height, all_steps, all_values;
+    uint8_t room[GUARD + ROOM + GUARD], out[GUARD + LIMPETSKEIN_LONGEST_MODULE + GUARD];
+    uint64_t steps, height, all_steps, all_values, written;
     uint32_t body, answers;
 } Lent;
+
+// The name of the function that a row calls.
+const char *called(const Side *side, const Row *row);
 
 // The memory as it is before the first call.
 void lend(Lent *lent);

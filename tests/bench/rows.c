@@ -7,6 +7,7 @@ const Group groups[KINDS] = {
     [RECIPE] = {"recipes", "a call", 1.3, LIMPETSKEIN_DONE},
     [CHECK] = {"checks", "a call", 1.5, LIMPETSKEIN_DONE},
     [OPENING] = {"openings", "a call", 1.3, LIMPETSKEIN_NO_SUCH_FUNCTION},
+    [WRITE] = {"writes", "a call", 1.5, LIMPETSKEIN_DONE},
 };
 
 const Row rows[ROWS] = {
@@ -32,4 +33,6 @@ const Row rows[ROWS] = {
     {"all counts at their limits", "full", OPENING, 0},
     {"one-byte instructions, 256 labels on the last", "last-labels", OPENING, 0},
     {"the same without labels", "no-labels", OPENING, 0},
+    {"the recipe of 40 steps", "recipe-40", WRITE, 0},
+    {"all counts at their limits", "full", WRITE, 0},
 };

@@ -4,7 +4,7 @@
 
 #include <stdint.h>
 
-typedef enum { RUN, RECIPE, CHECK, OPENING, KINDS } Kind;
+typedef enum { RUN, RECIPE, CHECK, OPENING, WRITE, KINDS } Kind;
 
 // What the rows of a kind have in common. limit: the most machine instructions, as a ratio to C.
 typedef struct {
@@ -20,7 +20,7 @@ typedef struct {
     uint32_t slots;
 } Row;
 
-enum { ROWS = 22 };
+enum { ROWS = 24 };
 
 extern const Group groups[KINDS];
 extern const Row rows[ROWS];

@@ -6,7 +6,7 @@ shift
 here=$(cd "$(dirname "$0")" && pwd)
 mkdir -p "$made"
 rm -f "$made/libbaseline.a"
-for name in reader checker machine; do
+for name in reader writer checker machine; do
     # each instruction keeps its own jump to the next
     cc -O3 -fno-gcse -fno-crossjumping -fno-tree-vectorize -Wall -Wextra -Werror -I"$here/../../../include" "$@" \
         -c -o "$made/$name.o" "$here/$name.c"

@@ -1,4 +1,4 @@
-// What reader, checker and machine share: the module file's layout, and a module that was opened.
+// What reader, writer, checker and machine share: the module file's layout, and a module that was opened.
 #ifndef MODULE_H
 #define MODULE_H
 
@@ -11,7 +11,8 @@
 #define likely(x) __builtin_expect(!!(x), 1)
 #define unlikely(x) __builtin_expect(!!(x), 0)
 
-enum { LONGEST_CODE = 16384, MOST_LOCALS = 16, MOST_OPERANDS = 32, MOST_FRAMES = 64 };
+enum { MOST_CONSTANTS = 1024, MOST_FUNCTIONS = 128, LONGEST_CODE = 16384 };
+enum { MOST_LOCALS = 16, MOST_OPERANDS = 32, MOST_FRAMES = 64 };
 
 // A bit for each place of the code, and for its end.
 enum { BITMAP = LONGEST_CODE / 64 + 1 };
@@ -36,7 +37,7 @@ enum {
     TOI = 0x2B, TOL = 0x2C, TOD = 0x2E
 };
 
-// The sections of an opened module, in the lent file, and their counts.
+// The sections of a module, in the lent file or lent each, and their counts.
 typedef struct {
     const uint8_t *constants, *functions, *labels, *code;
     uint32_t constant_count, function_count, label_count, code_length, entry_length;
@@ -60,5 +61,8 @@ static inline int has_bit(const uint64_t *bitmap, uint32_t place) {
 
 // Refusals 1 to 9, or 0 and the module. starts: BITMAP words to work in.
 uint32_t open_module(const uint8_t *file, size_t length, Module *module, uint64_t *starts);
+
+// Refusals 6 to 9, or 0, of sections within their limits, the entry no longer than the code.
+uint32_t test_sections(const Module *module, uint64_t *starts);
 
 #endif

@@ -1,10 +1,14 @@
-// Opens a module in one pass over its code. Short code is walked by plain branches, with a byte for each place; longer
-// code 64 bytes at a time, into a bitmap of instruction starts. Bodies and labels are then looked up there.
+// Opens a module, and tests the sections of one that is to be written, in one pass over its code. Short code is walked
+// by plain branches, with a byte for each place; longer code 64 bytes at a time, into a bitmap of instruction starts.
+// Bodies and labels are then looked up there.
 #include <emmintrin.h>
 
 #include "module.h"
 
 enum { SHORT_CODE = 1024 };
+
+// In both callers, the opening and the test of sections alone.
+#define INLINE inline __attribute__((always_inline))
 
 // Opcodes as bits: those with an operand, and all.
 #define WIDE_OPCODES 0x000000FF0000003Aull
@@ -26,18 +30,17 @@ static inline int parameters_are_good(uint64_t types, uint32_t count) {
 
 // ---- short code
 
-// Rows 8 and 9. A processor learns the branches when the same module comes again.
-static uint32_t open_short(const uint8_t *file, Module *module, uint32_t nc, uint32_t nf, uint32_t nl,
-                           uint32_t code_length, uint32_t entry_length, uint32_t functions, uint32_t labels,
-                           const uint8_t *code) {
+// Rows 8 and 9. A processor learns the branches when the same module comes again. Its bytes would make a large frame of
+// the caller's.
+static __attribute__((noinline)) uint32_t test_short_code(const Module *m) {
     uint8_t starts[SHORT_CODE + 1];
-    uint32_t place = 0, end = entry_length;
-    const uint8_t *at = file + functions;
-    if (nl)
-        memset(starts, 0, code_length);
+    uint32_t place = 0, end = m->entry_length;
+    const uint8_t *at = m->functions;
+    if (m->label_count)
+        memset(starts, 0, m->code_length);
     for (uint32_t i = 0;; i++, at += FUNCTION) {
         while (place < end) {
-            uint32_t op = code[place];
+            uint32_t op = m->code[place];
             if (unlikely(op > TOD))
                 return LIMPETSKEIN_BAD_CODE;
             starts[place] = 1;
@@ -52,24 +55,23 @@ static uint32_t open_short(const uint8_t *file, Module *module, uint32_t nc, uin
         }
         if (unlikely(place != end))
             return LIMPETSKEIN_BAD_CODE;
-        if (i == nf)
+        if (i == m->function_count)
             break;
         end += read32(at + 4);
     }
-    at = file + labels;
-    for (uint32_t i = 0; i < nl; i++, at += LABEL) {
-        uint32_t owner = read32(at), target = read32(at + 4), from = 0, to = entry_length;
+    at = m->labels;
+    for (uint32_t i = 0; i < m->label_count; i++, at += LABEL) {
+        uint32_t owner = read32(at), target = read32(at + 4), from = 0, to = m->entry_length;
         if (owner != ENTRY) {
-            if (unlikely(owner >= nf))
+            if (unlikely(owner >= m->function_count))
                 return LIMPETSKEIN_BAD_LABEL;
-            const uint8_t *f = file + functions + FUNCTION * owner;
+            const uint8_t *f = m->functions + FUNCTION * owner;
             from = read32(f);
             to = from + read32(f + 4);
         }
         if (unlikely(target < from || target >= to || !starts[target]))
             return LIMPETSKEIN_BAD_LABEL;
     }
-    *module = (Module){file + HEADER, file + functions, file + labels, code, nc, nf, nl, code_length, entry_length};
     return 0;
 }
 
@@ -128,7 +130,7 @@ static inline int find_starts(const uint8_t *code, uint32_t length, uint64_t *st
         wide |= (uint64_t)w << i;
         unknown |= (uint64_t)u << i;
     }
-    if (i < left) { // the file's last 16 bytes: at least 48 stand before the code
+    if (i < left) { // the code's last 16 bytes: it is not short
         uint32_t w, u, rest = left - i;
         classify(code + length - 16, &w, &u);
         wide |= (uint64_t)(w >> (16 - rest)) << i;
@@ -145,6 +147,66 @@ static inline int find_starts(const uint8_t *code, uint32_t length, uint64_t *st
     return 1;
 }
 
+static INLINE uint32_t test_long_code(const Module *m, uint64_t *starts) {
+    if (unlikely(!find_starts(m->code, m->code_length, starts)))
+        return LIMPETSKEIN_BAD_CODE;
+    const uint8_t *at = m->functions;
+    for (uint32_t i = 0; i < m->function_count; i++, at += FUNCTION)
+        if (unlikely(!has_bit(starts, read32(at))))
+            return LIMPETSKEIN_BAD_CODE;
+    at = m->labels;
+    for (uint32_t i = 0; i < m->label_count; i++, at += LABEL) {
+        uint32_t owner = read32(at), target = read32(at + 4), from, to;
+        if (owner == ENTRY) {
+            from = 0;
+            to = m->entry_length;
+        } else {
+            if (unlikely(owner >= m->function_count))
+                return LIMPETSKEIN_BAD_LABEL;
+            const uint8_t *f = m->functions + FUNCTION * owner;
+            from = read32(f);
+            to = from + read32(f + 4);
+        }
+        if (unlikely(target < from || target >= to || !has_bit(starts, target)))
+            return LIMPETSKEIN_BAD_LABEL;
+    }
+    return 0;
+}
+
+// ---- sections
+
+static INLINE uint32_t test_records_and_code(const Module *m, uint64_t *starts) {
+    const uint8_t *at = m->constants;
+    uint32_t bad = 0;
+    for (uint32_t i = 0; i < m->constant_count; i++, at += CONSTANT) {
+        uint32_t type = read32(at);
+        bad |= (type > DOUBLE) | !(NUMBER_TYPES >> (type & 31) & 1) | ((type == INT) & (read32(at + 8) != 0));
+    }
+    if (unlikely(bad))
+        return LIMPETSKEIN_BAD_CONSTANT;
+
+    // bodies follow each other from the entry's end to the code's
+    uint32_t end = m->entry_length;
+    at = m->functions;
+    for (uint32_t i = 0; i < m->function_count; i++, at += FUNCTION) {
+        uint32_t start = read32(at), body_length = read32(at + 4), parameters = at[PARAMETERS], returns = at[RETURNS];
+        uint64_t types = read64(at + PARAMETER_TYPES);
+        bad |= (start != end) | (body_length - 1 >= LONGEST_CODE) | (parameters > 8) | (returns > DOUBLE) |
+               !((NUMBER_TYPES | 1) >> (returns & 31) & 1) | at[18] | at[19];
+        end += body_length;
+        bad |= end > m->code_length;
+        if (unlikely(bad))
+            return LIMPETSKEIN_BAD_FUNCTION;
+        if (unlikely(!parameters_are_good(types, parameters)))
+            return LIMPETSKEIN_BAD_FUNCTION;
+    }
+    if (unlikely(end != m->code_length))
+        return LIMPETSKEIN_BAD_FUNCTION;
+    return m->code_length <= SHORT_CODE ? test_short_code(m) : test_long_code(m, starts);
+}
+
+uint32_t test_sections(const Module *module, uint64_t *starts) { return test_records_and_code(module, starts); }
+
 // ---- opening
 
 uint32_t open_module(const uint8_t *file, size_t length, Module *module, uint64_t *starts) {
@@ -156,65 +218,17 @@ uint32_t open_module(const uint8_t *file, size_t length, Module *module, uint64_
         return LIMPETSKEIN_OTHER_LENGTH;
     uint32_t nc = read32(file + 8), nf = read32(file + 16), nl = read32(file + 24);
     uint32_t code_length = read32(file + 32), entry_length = read32(file + 40);
-    if (unlikely((nc > 1024) | (nf > 128) | (nl > 256) | (code_length > LONGEST_CODE) | (read32(file + 44) != 0)))
+    if (unlikely((nc > MOST_CONSTANTS) | (nf > MOST_FUNCTIONS) | (nl > LIMPETSKEIN_MOST_LABELS) |
+                 (code_length > LONGEST_CODE) | (read32(file + 44) != 0)))
         return LIMPETSKEIN_OVER_LIMIT;
     uint32_t functions = HEADER + CONSTANT * nc, labels = functions + FUNCTION * nf, code_at = labels + LABEL * nl;
     if (unlikely((read32(file + 12) != HEADER) | (read32(file + 20) != functions) | (read32(file + 28) != labels) |
                  (read32(file + 36) != code_at) | (code_at + code_length != length) | (entry_length > code_length)))
         return LIMPETSKEIN_NOT_PACKED;
-
-    const uint8_t *at = file + HEADER;
-    uint32_t bad = 0;
-    for (uint32_t i = 0; i < nc; i++, at += CONSTANT) {
-        uint32_t type = read32(at);
-        bad |= (type > DOUBLE) | !(NUMBER_TYPES >> (type & 31) & 1) | ((type == INT) & (read32(at + 8) != 0));
-    }
-    if (unlikely(bad))
-        return LIMPETSKEIN_BAD_CONSTANT;
-
-    // bodies follow each other from the entry's end to the code's
-    uint32_t end = entry_length;
-    at = file + functions;
-    for (uint32_t i = 0; i < nf; i++, at += FUNCTION) {
-        uint32_t start = read32(at), body_length = read32(at + 4), parameters = at[PARAMETERS], returns = at[RETURNS];
-        uint64_t types = read64(at + PARAMETER_TYPES);
-        bad |= (start != end) | (body_length - 1 >= LONGEST_CODE) | (parameters > 8) | (returns > DOUBLE) |
-               !((NUMBER_TYPES | 1) >> (returns & 31) & 1) | at[18] | at[19];
-        end += body_length;
-        bad |= end > code_length;
-        if (unlikely(bad))
-            return LIMPETSKEIN_BAD_FUNCTION;
-        if (unlikely(!parameters_are_good(types, parameters)))
-            return LIMPETSKEIN_BAD_FUNCTION;
-    }
-    if (unlikely(end != code_length))
-        return LIMPETSKEIN_BAD_FUNCTION;
-
-    const uint8_t *code = file + code_at;
-    if (code_length <= SHORT_CODE)
-        return open_short(file, module, nc, nf, nl, code_length, entry_length, functions, labels, code);
-    if (unlikely(!find_starts(code, code_length, starts)))
-        return LIMPETSKEIN_BAD_CODE;
-    at = file + functions;
-    for (uint32_t i = 0; i < nf; i++, at += FUNCTION)
-        if (unlikely(!has_bit(starts, read32(at))))
-            return LIMPETSKEIN_BAD_CODE;
-    at = file + labels;
-    for (uint32_t i = 0; i < nl; i++, at += LABEL) {
-        uint32_t owner = read32(at), target = read32(at + 4), from, to;
-        if (owner == ENTRY) {
-            from = 0;
-            to = entry_length;
-        } else {
-            if (unlikely(owner >= nf))
-                return LIMPETSKEIN_BAD_LABEL;
-            const uint8_t *f = file + functions + FUNCTION * owner;
-            from = read32(f);
-            to = from + read32(f + 4);
-        }
-        if (unlikely(target < from || target >= to || !has_bit(starts, target)))
-            return LIMPETSKEIN_BAD_LABEL;
-    }
-    *module = (Module){file + HEADER, file + functions, file + labels, code, nc, nf, nl, code_length, entry_length};
+    Module m = {file + HEADER, file + functions, file + labels, file + code_at, nc, nf, nl, code_length, entry_length};
+    uint32_t refusal = test_records_and_code(&m, starts);
+    if (unlikely(refusal))
+        return refusal;
+    *module = m;
     return 0;
 }

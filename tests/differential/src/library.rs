@@ -1,6 +1,6 @@
 //! The library under test, through its C interface.
 
-use second::memory::{CheckMemory, Lent, RunMemory};
+use second::memory::{CheckMemory, Lent, RunMemory, WriteMemory};
 use second::reader::ENTRY;
 use second::subject::Subject;
 
@@ -28,6 +28,21 @@ extern "C" {
         types_len: usize,
         steps: *mut u64,
         height: *mut u64,
+    ) -> u32;
+
+    pub fn limpetskein_write(
+        constants: *const u8,
+        constants_len: usize,
+        functions: *const u8,
+        functions_len: usize,
+        labels: *const u8,
+        labels_len: usize,
+        code: *const u8,
+        code_len: usize,
+        entry_length: u32,
+        out: *mut u8,
+        out_len: usize,
+        written: *mut u64,
     ) -> u32;
 }
 
@@ -77,6 +92,31 @@ impl Subject for Library {
                 memory.types.len(),
                 &raw mut memory.steps,
                 &raw mut memory.height,
+            )
+        }
+    }
+
+    fn write(&mut self, memory: &mut WriteMemory) -> u32 {
+        let constants = self.pointer(&mut memory.constants);
+        let functions = self.pointer(&mut memory.functions);
+        let labels = self.pointer(&mut memory.labels);
+        let code = self.pointer(&mut memory.code);
+        let out = self.pointer(&mut memory.out);
+        // SAFETY: pointers and lengths are those of separate live buffers.
+        unsafe {
+            limpetskein_write(
+                constants,
+                memory.constants.len(),
+                functions,
+                memory.functions.len(),
+                labels,
+                memory.labels.len(),
+                code,
+                memory.code.len(),
+                memory.entry_length,
+                out,
+                memory.out.len(),
+                &raw mut memory.written,
             )
         }
     }

@@ -1,24 +1,32 @@
 //! Compares the library behind the C interface with the second program on generated cases:
 //! answers, out-parameters, all lent memory and the guard bytes around it. With `--checks`,
-//! only checks are compared, first with what is stated of them, then on generated cases.
+//! only checks are compared, first with what is stated of them, then on generated cases; with
+//! `--writes`, writes in the same way.
 //!
-//! `differential [--checks] [--seed N] [--seconds N | --cases N] [--from N] [--most N]`
+//! `differential [--checks | --writes] [--seed N] [--seconds N | --cases N] [--from N] [--most N]`
 
 mod checks;
 mod guard;
 mod huge;
 mod library;
 mod rounds;
+mod writes;
 
 use library::{limpetskein_check, Library};
+use rounds::Comparison;
 use second::args;
 use second::compare::compare;
 use second::gen::case::Case;
+use second::gen::tables::WriteCase;
+use second::hex;
 use second::rules::Rules;
 use second::subject::Second;
 
 fn main() {
     rounds::start();
+    if args::has("--writes") {
+        return compare_writes();
+    }
     let check = huge::differs("check", |module, len| {
         let mut body = 0;
         // SAFETY: the module's pointer and length are those of a live buffer.
@@ -26,17 +34,38 @@ fn main() {
     });
     if args::has("--checks") {
         let before = u64::from(check) + checks::not_as_stated();
-        rounds::run(
-            "library's check",
-            before,
-            Case::without_runs,
-            checks::differs,
-        );
+        let checks = Comparison {
+            subject: "library's check",
+            make: Case::without_runs,
+            compare: checks::differs,
+            describe,
+        };
+        rounds::run(&checks, before);
     } else {
         let run = huge::differs("run", library::run_entry);
-        let before = u64::from(check) + u64::from(run);
-        rounds::run("library", before, Case::new, differs);
+        let all = Comparison {
+            subject: "library",
+            make: Case::new,
+            compare: differs,
+            describe,
+        };
+        rounds::run(&all, u64::from(check) + u64::from(run));
     }
+}
+
+fn compare_writes() {
+    let before = writes::huge_differ() + writes::not_as_stated();
+    let writes = Comparison {
+        subject: "library's writer",
+        make: WriteCase::new,
+        compare: writes::differs,
+        describe: |case: &WriteCase| (case.kind, case.describe()),
+    };
+    rounds::run(&writes, before);
+}
+
+fn describe(case: &Case) -> (&'static str, String) {
+    (case.kind, format!("module: {}", hex::encode(&case.module)))
 }
 
 fn differs(case: &Case, null_if_empty: bool) -> (usize, Option<String>) {

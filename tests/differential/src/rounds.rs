@@ -1,30 +1,37 @@
-//! The loop over generated cases, for both comparisons.
+//! The loop over generated cases, for all comparisons.
 
 use crate::guard;
 use second::args;
-use second::gen::case::Case;
-use second::hex;
 use std::time::{Duration, Instant};
 
-/// Compares one case: how many calls that takes, and what differs, in words.
-pub type Compare = fn(&Case, bool) -> (usize, Option<String>);
+/// A comparison on cases of one sort.
+pub struct Comparison<C> {
+    pub subject: &'static str,
+    /// The case of a seed and a number.
+    pub make: fn(u64, u64) -> C,
+    /// Compares one case: how many calls that takes, and what differs, in words.
+    pub compare: fn(&C, bool) -> (usize, Option<String>),
+    /// The case's generator, and its bytes in words.
+    pub describe: fn(&C) -> (&'static str, String),
+}
 
 /// Looks at the arguments, and names what crashes from here on.
 pub fn start() {
     args::expect(&[
         "--checks",
+        "--writes",
         "--seed",
         "--cases",
         "--seconds",
         "--from",
         "--most",
     ]);
-    guard::start(args::number("--seed", 1));
+    guard::start(args::number("--seed", 1), args::has("--writes"));
 }
 
 /// Compares cases until time is up or enough differences are printed, and ends the process
 /// with status 1 if there is one. `before`: differences found before the first case.
-pub fn run(subject: &str, before: u64, make: fn(u64, u64) -> Case, compare: Compare) {
+pub fn run<C>(comparison: &Comparison<C>, before: u64) {
     let seed = args::number("--seed", 1);
     let from = args::number("--from", 0);
     let cases = args::value("--cases").map(|_| args::number("--cases", 0));
@@ -41,18 +48,19 @@ pub fn run(subject: &str, before: u64, make: fn(u64, u64) -> Case, compare: Comp
             break;
         }
         guard::next(number);
-        let case = make(seed, number);
+        let case = (comparison.make)(seed, number);
         // slices of length 0 are lent as null pointers in every other case
-        let (made, difference) = compare(&case, number % 2 == 1);
+        let (made, difference) = (comparison.compare)(&case, number % 2 == 1);
         calls += made;
         if let Some(difference) = difference {
-            print(subject, seed, number, &case, &difference);
+            print(comparison, seed, number, &case, &difference);
             differences += 1;
         }
         number += 1;
     }
     println!(
-        "{subject}: {} cases from seed {seed}, {calls} calls, {differences} differences",
+        "{}: {} cases from seed {seed}, {calls} calls, {differences} differences",
+        comparison.subject,
         number - from
     );
     if differences > 0 {
@@ -61,12 +69,13 @@ pub fn run(subject: &str, before: u64, make: fn(u64, u64) -> Case, compare: Comp
 }
 
 /// A difference with all that it takes to see it again.
-fn print(subject: &str, seed: u64, number: u64, case: &Case, difference: &str) {
+fn print<C>(comparison: &Comparison<C>, seed: u64, number: u64, case: &C, difference: &str) {
+    let (kind, bytes) = (comparison.describe)(case);
     println!(
-        "DIFFERENCE in case {number} of seed {seed} ({}), second program and {subject}:",
-        case.kind
+        "DIFFERENCE in case {number} of seed {seed} ({kind}), second program and {}:",
+        comparison.subject
     );
     println!("  {difference}");
-    println!("  module: {}", hex::encode(&case.module));
+    println!("  {bytes}");
     println!("  again: --seed {seed} --from {number} --cases 1");
 }

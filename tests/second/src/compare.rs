@@ -1,8 +1,9 @@
 //! Two subjects side by side on one case.
 
 use crate::gen::case::{Case, RunCall};
+use crate::gen::tables::WriteCase;
 use crate::hex;
-use crate::memory::{CheckMemory, Lent, RunMemory};
+use crate::memory::{CheckMemory, Lent, RunMemory, WriteMemory};
 use crate::subject::Subject;
 
 /// What differs, in words; nothing if the two agree on the check and on every run.
@@ -49,6 +50,25 @@ fn compare_runs(
     ))
 }
 
+/// What differs in a write.
+pub fn compare_writes(
+    case: &WriteCase,
+    a: &mut dyn Subject,
+    b: &mut dyn Subject,
+) -> Option<String> {
+    let mut memory_a = case.memory();
+    let mut memory_b = memory_a.clone();
+    let (answer_a, answer_b) = (a.write(&mut memory_a), b.write(&mut memory_b));
+    if answer_a == answer_b && memory_a == memory_b {
+        return None;
+    }
+    let out = case.out.len();
+    Some(format!(
+        "write to {out} bytes: answers {answer_a} and {answer_b}{}",
+        write_difference(&memory_a, &memory_b)
+    ))
+}
+
 /// A run's numbers and arguments, enough to repeat it by hand.
 pub fn describe(run: &RunCall) -> String {
     format!(
@@ -90,6 +110,19 @@ fn run_difference(a: &RunMemory, b: &RunMemory) -> String {
     text += &slice_difference("argument payloads", &a.arg_payloads, &b.arg_payloads);
     text += &slice_difference("payloads", &a.payloads, &b.payloads);
     text + &slice_difference("types", &a.types, &b.types)
+}
+
+/// How what was lent to two writes differs, in words.
+pub fn write_difference(a: &WriteMemory, b: &WriteMemory) -> String {
+    let mut text = String::new();
+    if a.written != b.written {
+        text += &format!("; length {} and {}", a.written, b.written);
+    }
+    text += &slice_difference("constants", &a.constants, &b.constants);
+    text += &slice_difference("functions", &a.functions, &b.functions);
+    text += &slice_difference("labels", &a.labels, &b.labels);
+    text += &slice_difference("code", &a.code, &b.code);
+    text + &slice_difference("output", &a.out, &b.out)
 }
 
 fn slice_difference(name: &str, a: &Lent, b: &Lent) -> String {

@@ -3,10 +3,11 @@
 use crate::check::Checked;
 use crate::claims::{is_one_of_the_four_ends, Claims};
 use crate::gen::case::{Case, RunCall};
+use crate::gen::tables::WriteCase;
 use crate::machine::{Machine, Watch};
 use crate::opcode::Op;
 use crate::rules::Rules;
-use crate::subject::{checked_number, Second};
+use crate::subject::{checked_number, Second, Subject};
 use crate::types::POINTER;
 use crate::worklist::Reason;
 use std::collections::BTreeMap;
@@ -17,6 +18,7 @@ type Counts<K> = BTreeMap<K, u64>;
 pub struct Coverage {
     pub checks: Counts<u32>,
     pub runs: Counts<u32>,
+    pub writes: Counts<u32>,
     /// By opcode and variant, as in `possible::executions`.
     pub executed: Counts<(Op, u8)>,
     pub raised: Counts<(Op, u32)>,
@@ -58,6 +60,11 @@ impl Coverage {
         for run in &case.runs {
             self.add_run(case, run, accepted);
         }
+    }
+
+    pub fn add_write(&mut self, case: &WriteCase) {
+        let answer = Second(Rules::PLAIN).write(&mut case.memory());
+        count(&mut self.writes, answer);
     }
 
     fn add_run(&mut self, case: &Case, run: &RunCall, accepted: bool) {

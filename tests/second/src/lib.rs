@@ -1,14 +1,14 @@
-//! An independent second program for Limpetskein: reader, check and run, written from the
-//! sentences of the paper (document 01, the exact rules; 003 where it says so). Each rule
-//! stands beside the sentence that it comes from. The main
-//! program is compared with this one on generated modules and calls.
+//! An independent second program for Limpetskein: reader, writer, check and run, written from
+//! the sentences of the papers (document 01, the exact rules; 003 where it says so; document
+//! 02, what was asked for later). Each rule stands beside the sentence that it comes from. The
+//! main program is compared with this one on generated modules and calls.
 //!
-//! * The rules: `reader`, `check` (with `worklist` and `judge`), `run` (with `machine`,
-//!   `step`, `integer`, `double`, `convert`), `show` for the small program's output.
+//! * The rules: `reader`, `writer`, `check` (with `worklist` and `judge`), `run` (with
+//!   `machine`, `step`, `integer`, `double`, `convert`), `show` for the small program's output.
 //! * `rules`: the deliberately wrong variants that test the tests.
 //! * The tools: `program` and `asm` write modules, `gen` makes cases, `memory`, `subject` and
 //!   `compare` run two programs side by side, `coverage` counts what the cases reach,
-//!   `stated` has checks with their answers written out.
+//!   `stated` has checks and writes with their answers written out.
 
 #![forbid(unsafe_code)]
 
@@ -40,3 +40,4 @@ pub mod subject;
 pub mod types;
 pub mod words;
 pub mod worklist;
+pub mod writer;

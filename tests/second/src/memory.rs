@@ -71,3 +71,15 @@ pub struct RunMemory {
     pub steps: u64,
     pub height: u64,
 }
+
+/// Everything lent to a write, its number, and its out-parameter.
+#[derive(Clone, Debug, PartialEq, Eq)]
+pub struct WriteMemory {
+    pub constants: Lent,
+    pub functions: Lent,
+    pub labels: Lent,
+    pub code: Lent,
+    pub entry_length: u32,
+    pub out: Lent,
+    pub written: u64,
+}

@@ -78,6 +78,9 @@ pub fn executions(op: Op) -> &'static [u8] {
 /// The answers that a check can give.
 pub const CHECK_ANSWERS: [u32; 12] = [0, 1, 2, 3, 4, 5, 6, 7, 8, 9, 10, 11];
 
+/// The answers that a write can give.
+pub const WRITE_ANSWERS: [u32; 8] = [0, 4, 5, 6, 7, 8, 9, 16];
+
 /// The answers that a run can give.
 pub const RUN_ANSWERS: [u32; 28] = [
     0, 1, 2, 3, 4, 5, 6, 7, 8, 9, 12, 13, 15, 20, 21, 22, 23, 24, 25, 26, 27, 28, 29, 30, 31, 32,

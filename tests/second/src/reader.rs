@@ -247,6 +247,18 @@ impl<'a> Module<'a> {
         &self.file[self.code_at()..]
     }
 
+    /// The four sections: constants, functions, labels, code.
+    pub fn sections(&self) -> [&'a [u8]; 4] {
+        let (functions, labels, code) = (self.functions_at(), self.labels_at(), self.code_at());
+        [
+            HEADER..functions,
+            functions..labels,
+            labels..code,
+            code..self.file.len(),
+        ]
+        .map(|section| &self.file[section])
+    }
+
     /// The instruction at an instruction start.
     pub fn instruction(&self, place: usize) -> Option<Instruction> {
         let op = Op::from_byte(*self.code().get(place)?)?;
@@ -305,7 +317,8 @@ impl<'a> Module<'a> {
     }
 }
 
-fn refuse(fault: bool, number: u32) -> Result<(), u32> {
+/// The number where there is a fault.
+pub fn refuse(fault: bool, number: u32) -> Result<(), u32> {
     if fault {
         Err(number)
     } else {

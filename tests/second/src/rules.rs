@@ -63,9 +63,25 @@ pub enum Fault {
     RoomAllZeroed,
     PastCapacityCleared,
     JaeSigned,
+    LimitByBytes,
+    PartRecordIgnored,
+    PartRecordFirst,
+    TableByTable,
+    EntryLongerFour,
+    OutputFirst,
+    OutputFull,
+    OutputLonger,
+    HeaderFirst,
+    RestCleared,
+    StartsComputed,
+    UpperBytesCleared,
+    EmptySectionUnplaced,
+    LabelsUntested,
+    TypingAsked,
+    LengthOfOutput,
 }
 
-/// Every wrong variant with its name and what is wrong.
+/// The wrong variants of reader, check and run, each with its name and what is wrong.
 pub const FAULTS: [(Fault, &str, &str); 58] = [
     (
         Fault::BranchKeepsValue,
@@ -347,6 +363,90 @@ pub const FAULTS: [(Fault, &str, &str); 58] = [
     ),
 ];
 
+/// The wrong variants of the writer.
+pub const WRITER_FAULTS: [(Fault, &str, &str); 16] = [
+    (
+        Fault::LimitByBytes,
+        "limit-by-bytes",
+        "part of a record past the limit is 4",
+    ),
+    (
+        Fault::PartRecordIgnored,
+        "part-record-ignored",
+        "part of a record is left out",
+    ),
+    (
+        Fault::PartRecordFirst,
+        "5-before-4",
+        "part of a record before a count over its limit",
+    ),
+    (
+        Fault::TableByTable,
+        "table-by-table",
+        "4 and 5 of a table before those of the next",
+    ),
+    (
+        Fault::EntryLongerFour,
+        "entry-longer-4",
+        "an entry longer than the code is 4",
+    ),
+    (
+        Fault::OutputFirst,
+        "16-first",
+        "output too short before the tables' refusals",
+    ),
+    (
+        Fault::OutputFull,
+        "16-when-full",
+        "output of the module's length is too short",
+    ),
+    (
+        Fault::OutputLonger,
+        "16-when-longer",
+        "output longer than the module is refused",
+    ),
+    (
+        Fault::HeaderFirst,
+        "header-first",
+        "header written before records are tested",
+    ),
+    (
+        Fault::RestCleared,
+        "rest-cleared",
+        "output past the length is cleared",
+    ),
+    (
+        Fault::StartsComputed,
+        "starts-computed",
+        "starts of functions computed, not tested",
+    ),
+    (
+        Fault::UpperBytesCleared,
+        "upper-bytes-cleared",
+        "upper bytes of an int cleared, not refused",
+    ),
+    (
+        Fault::EmptySectionUnplaced,
+        "empty-section-unplaced",
+        "offset of an empty section written as 0",
+    ),
+    (
+        Fault::LabelsUntested,
+        "labels-untested",
+        "labels are not tested",
+    ),
+    (
+        Fault::TypingAsked,
+        "typing-asked",
+        "a module without typing is refused with 11",
+    ),
+    (
+        Fault::LengthOfOutput,
+        "length-of-output",
+        "the output's length is given",
+    ),
+];
+
 /// Which rules hold: the paper's, or the paper's with one fault.
 #[derive(Clone, Copy, Debug, PartialEq, Eq)]
 pub struct Rules {
@@ -364,6 +464,7 @@ impl Rules {
     pub fn named(name: &str) -> Option<Rules> {
         FAULTS
             .iter()
+            .chain(&WRITER_FAULTS)
             .find(|(_, n, _)| *n == name)
             .map(|&(fault, _, _)| Rules::with(fault))
     }

@@ -1,10 +1,11 @@
-//! What is compared: something that answers the two calls of the C interface.
+//! What is compared: something that answers the three calls of the C interface.
 
 use crate::check::{check, Checked};
 use crate::machine::{Unwatched, Watch};
-use crate::memory::{CheckMemory, RunMemory};
+use crate::memory::{CheckMemory, RunMemory, WriteMemory};
 use crate::rules::Rules;
 use crate::run::{run_watched, Call, LentStack, Ran};
+use crate::writer::{write, Tables};
 
 pub trait Subject {
     /// The paper's number; the out-parameter `body` is written with 11 only.
@@ -12,6 +13,9 @@ pub trait Subject {
 
     /// The paper's number; `steps` and `height` are written with 0, 15 and 20 to 34 only.
     fn run(&mut self, function: u32, allowance: u64, memory: &mut RunMemory) -> u32;
+
+    /// The paper's number; `written` is written with 0 only.
+    fn write(&mut self, memory: &mut WriteMemory) -> u32;
 }
 
 /// The second program with these rules.
@@ -24,6 +28,18 @@ impl Subject for Second {
 
     fn run(&mut self, function: u32, allowance: u64, memory: &mut RunMemory) -> u32 {
         self.run_watched(function, allowance, memory, &mut Unwatched)
+    }
+
+    fn write(&mut self, memory: &mut WriteMemory) -> u32 {
+        let tables = Tables {
+            constants: memory.constants.slice(),
+            functions: memory.functions.slice(),
+            labels: memory.labels.slice(),
+            code: memory.code.slice(),
+            entry_length: memory.entry_length,
+        };
+        let answer = write(self.0, tables, memory.out.slice_mut());
+        wrote_number(answer, &mut memory.written)
     }
 }
 
@@ -79,6 +95,17 @@ pub fn ran_number(answer: Ran, steps_out: &mut u64, height_out: &mut u64) -> u32
             *steps_out = steps;
             *height_out = height as u64;
             outcome
+        }
+    }
+}
+
+/// The number of a write's answer; the length is given with 0 only.
+pub fn wrote_number(answer: Result<usize, u32>, out: &mut u64) -> u32 {
+    match answer {
+        Err(number) => number,
+        Ok(length) => {
+            *out = length as u64;
+            0
         }
     }
 }

@@ -7,7 +7,8 @@ mod misuse;
 use second::check::check;
 use second::rules::Rules;
 use second::run::{run, Call, LentStack};
-use second::subject::{checked_number, ran_number};
+use second::subject::{checked_number, ran_number, wrote_number};
+use second::writer::{write, Tables};
 
 const FAULT: &str = match option_env!("STANDIN_FAULT") {
     Some(name) => name,
@@ -88,5 +89,36 @@ pub unsafe extern "C" fn limpetskein_run(
     let answer = run(rules(), lent(module, module_len), call, stack);
     let number = ran_number(answer, &mut *steps, &mut *height);
     misuse::after_run(FAULT, types, types_len, steps);
+    number
+}
+
+/// # Safety
+/// As the C interface says: slices that don't overlap, a valid out-parameter.
+#[no_mangle]
+#[allow(clippy::too_many_arguments)]
+pub unsafe extern "C" fn limpetskein_write(
+    constants: *const u8,
+    constants_len: usize,
+    functions: *const u8,
+    functions_len: usize,
+    labels: *const u8,
+    labels_len: usize,
+    code: *const u8,
+    code_len: usize,
+    entry_length: u32,
+    out: *mut u8,
+    out_len: usize,
+    written: *mut u64,
+) -> u32 {
+    let tables = Tables {
+        constants: lent(constants, constants_len),
+        functions: lent(functions, functions_len),
+        labels: lent(labels, labels_len),
+        code: lent(code, code_len),
+        entry_length,
+    };
+    let answer = write(rules(), tables, lent_mut(out, out_len));
+    let number = wrote_number(answer, &mut *written);
+    misuse::after_write(FAULT, code.cast_mut(), code_len, out, out_len, written);
     number
 }

@@ -1,14 +1,17 @@
 //! Ways of misusing the C interface, which the differential test must notice: a byte written
-//! past a lent slice, an out-parameter written that must stay, the module changed, a crash.
+//! past a lent slice, an out-parameter written that must stay, an input changed, a crash.
 
 /// The names that `STANDIN_FAULT` knows besides those of the wrong variants.
-pub const NAMES: [&str; 6] = [
+pub const NAMES: [&str; 9] = [
     "misuse-past-room",
     "misuse-before-types",
     "misuse-body-written",
     "misuse-steps-written",
     "misuse-module-changed",
     "misuse-crash",
+    "misuse-past-output",
+    "misuse-length-written",
+    "misuse-code-changed",
 ];
 
 /// # Safety
@@ -35,6 +38,25 @@ pub unsafe fn after_run(fault: &str, types: *mut u8, types_len: usize, steps: *m
     match fault {
         "misuse-before-types" if types_len > 0 => *types.sub(1) = 0,
         "misuse-steps-written" => *steps = 0,
+        _ => {}
+    }
+}
+
+/// # Safety
+/// As for the write; and there are bytes around the slices.
+pub unsafe fn after_write(
+    fault: &str,
+    code: *mut u8,
+    code_len: usize,
+    out: *mut u8,
+    out_len: usize,
+    written: *mut u64,
+) {
+    match fault {
+        "misuse-past-output" if out_len > 0 => *out.add(out_len) = 0,
+        "misuse-length-written" => *written = out_len as u64,
+        "misuse-code-changed" if code_len > 0 && out_len > 0 => *code ^= 1,
+        "misuse-crash" if out_len > 200 => std::process::abort(),
         _ => {}
     }
 }

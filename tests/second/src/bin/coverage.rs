@@ -5,8 +5,11 @@
 use second::args;
 use second::coverage::Coverage;
 use second::gen::case::Case;
+use second::gen::tables::WriteCase;
 use second::opcode::ALL;
-use second::possible::{exceptions, executions, reasons, CHECK_ANSWERS, RUN_ANSWERS};
+use second::possible::{
+    exceptions, executions, reasons, CHECK_ANSWERS, RUN_ANSWERS, WRITE_ANSWERS,
+};
 
 fn main() {
     args::expect(&["--seed", "--cases", "--full"]);
@@ -15,6 +18,7 @@ fn main() {
     let mut coverage = Coverage::default();
     for number in 0..cases {
         coverage.add(&Case::new(seed, number));
+        coverage.add_write(&WriteCase::new(seed, number));
     }
     println!("coverage of {cases} cases from seed {seed}");
     let full = args::has("--full");
@@ -70,9 +74,11 @@ fn answers(coverage: &Coverage) -> u64 {
     };
     let checks = CHECK_ANSWERS.iter().map(|&n| of(&coverage.checks, n));
     let runs = RUN_ANSWERS.iter().map(|&n| of(&coverage.runs, n));
+    let writes = WRITE_ANSWERS.iter().map(|&n| of(&coverage.writes, n));
     let misfit = std::iter::once(("20".to_string(), coverage.misfits));
     row("answers of checks:", checks)
         + row("answers of runs:", runs)
+        + row("answers of writes:", writes)
         + row("arguments that don't fit:", misfit)
 }
 

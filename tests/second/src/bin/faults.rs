@@ -1,34 +1,68 @@
 //! Tests the tests: every deliberately wrong variant of the second program must be found by
-//! comparing it with the plain one on generated cases.
+//! comparing it with the plain one, on generated cases, or on generated tables for those of the
+//! writer.
 //!
 //! `faults [--seed N] [--cases N] [--show]`: at most N cases for each variant.
 
 use second::args;
-use second::compare::compare;
+use second::compare::{compare, compare_writes};
 use second::gen::case::Case;
-use second::rules::{Rules, FAULTS};
+use second::gen::tables::WriteCase;
+use second::rules::{Fault, Rules, FAULTS, WRITER_FAULTS};
 use second::subject::Second;
+
+/// A wrong variant, its name, and what is wrong.
+type Variant = (Fault, &'static str, &'static str);
+
+/// After how many cases a variant was found, on what kind of case, and the difference.
+type Found = Option<(u64, &'static str, String)>;
 
 fn main() {
     args::expect(&["--seed", "--cases", "--show"]);
     let seed = args::number("--seed", 1);
     let limit = args::number("--cases", 50_000);
     println!("wrong variants, found after how many cases from seed {seed} (at most {limit}):");
-    let mut missed: Vec<usize> = (0..FAULTS.len()).collect();
-    let mut found = vec![None; FAULTS.len()];
+    let missed = search(&FAULTS, limit, |number| {
+        let case = Case::new(seed, number);
+        move |wrong: &mut Second| {
+            let difference = compare(&case, &mut Second(Rules::PLAIN), wrong);
+            difference.map(|text| (number + 1, case.kind, text))
+        }
+    });
+    let missed_writers = search(&WRITER_FAULTS, limit, |number| {
+        let case = WriteCase::new(seed, number);
+        move |wrong: &mut Second| {
+            let difference = compare_writes(&case, &mut Second(Rules::PLAIN), wrong);
+            difference.map(|text| (number + 1, case.kind, text))
+        }
+    });
+    let (all, missed) = (FAULTS.len() + WRITER_FAULTS.len(), missed + missed_writers);
+    println!("{all} wrong variants, {missed} missed");
+    if missed > 0 {
+        std::process::exit(1);
+    }
+}
+
+/// Compares each variant on cases up to the first that tells it, and prints a line for each;
+/// gives how many were not found. `make` gives the comparison on the case of a number.
+fn search<C: Fn(&mut Second) -> Found>(
+    variants: &[Variant],
+    limit: u64,
+    make: impl Fn(u64) -> C,
+) -> usize {
+    let mut missed: Vec<usize> = (0..variants.len()).collect();
+    let mut found: Vec<Found> = vec![None; variants.len()];
     for number in 0..limit {
         if missed.is_empty() {
             break;
         }
-        let case = Case::new(seed, number);
+        let compare = make(number);
         missed.retain(|&n| {
-            let mut wrong = Second(Rules::with(FAULTS[n].0));
-            let difference = compare(&case, &mut Second(Rules::PLAIN), &mut wrong);
-            found[n] = difference.map(|text| (number + 1, case.kind, text));
+            found[n] = compare(&mut Second(Rules::with(variants[n].0)));
             found[n].is_none()
         });
     }
-    for ((_, name, meaning), found) in FAULTS.iter().zip(&found) {
+    for ((_, name, meaning), found) in variants.iter().zip(&found) {
         match found {
             Some((cases, kind, text)) => {
                 println!("  {cases:>6}  {name}: {meaning} [{kind}]");
@@ -39,8 +73,5 @@ fn main() {
             None => println!("  MISSED  {name}: {meaning}"),
         }
     }
-    println!("{} wrong variants, {} missed", FAULTS.len(), missed.len());
-    if !missed.is_empty() {
-        std::process::exit(1);
-    }
+    missed.len()
 }

@@ -1,11 +1,13 @@
-//! Shows a generated case, or a module given in hex, and the second program's answers.
+//! Shows a generated case, generated tables, or a module given in hex, and the second program's
+//! answers.
 //!
-//! `show [--seed N] --case N`, `show --module HEX`
+//! `show [--seed N] --case N`, `show [--seed N] --write N`, `show --module HEX`
 
 use second::args;
 use second::check::{check, Checked};
 use second::compare::describe;
 use second::gen::case::Case;
+use second::gen::tables::WriteCase;
 use second::hex;
 use second::reader::{read, Module};
 use second::rules::Rules;
@@ -13,7 +15,7 @@ use second::show::small;
 use second::subject::{Second, Subject};
 
 fn main() {
-    args::expect(&["--seed", "--case", "--module"]);
+    args::expect(&["--seed", "--case", "--write", "--module"]);
     if let Some(digits) = args::value("--module") {
         let Some(file) = hex::decode(&digits) else {
             eprintln!("--module needs hex digits");
@@ -24,6 +26,9 @@ fn main() {
         return;
     }
     let seed = args::number("--seed", 1);
+    if args::value("--write").is_some() {
+        return show_write(seed, args::number("--write", 0));
+    }
     let number = args::number("--case", 0);
     let case = Case::new(seed, number);
     println!("case {number} of seed {seed} ({})", case.kind);
@@ -39,6 +44,16 @@ fn main() {
         println!("  types {}", hex::encode(memory.types.slice()));
         println!("  payloads {}", hex::encode(memory.payloads.slice()));
     }
+}
+
+fn show_write(seed: u64, number: u64) {
+    let case = WriteCase::new(seed, number);
+    println!("tables {number} of seed {seed} ({})", case.kind);
+    println!("{}", case.describe());
+    let mut memory = case.memory();
+    let answer = Second(Rules::PLAIN).write(&mut memory);
+    println!("write: {answer}, length {}", memory.written);
+    println!("output {}", hex::encode(memory.out.slice()));
 }
 
 fn show_module(file: &[u8]) {

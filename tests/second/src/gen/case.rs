@@ -115,7 +115,7 @@ pub fn module(rng: &mut Rng) -> (&'static str, Vec<u8>) {
     }
 }
 
-fn well_typed(rng: &mut Rng) -> Program {
+pub fn well_typed(rng: &mut Rng) -> Program {
     let size = typed::size(rng);
     typed::program(rng, size)
 }

@@ -22,14 +22,29 @@ pub fn file(rng: &mut Rng, program: &Program) -> Vec<u8> {
         file: program.file(),
     };
     for _ in 0..rng.pick(&[1, 1, 1, 2, 2, 3]) {
-        damage.once(rng);
+        let kind = rng.below(20);
+        damage.once(rng, kind);
+    }
+    damage.file
+}
+
+/// The same, with faults in records, code and entry length alone: lengths and offsets stay.
+pub fn records(rng: &mut Rng, program: &Program) -> Vec<u8> {
+    let mut damage = Damage {
+        program,
+        file: program.file(),
+    };
+    for _ in 0..rng.pick(&[1, 1, 1, 2, 2, 3]) {
+        let kind = rng.range(7, 19);
+        damage.once(rng, kind);
     }
     damage.file
 }
 
 impl Damage<'_> {
-    fn once(&mut self, rng: &mut Rng) {
-        match rng.below(20) {
+    /// One of twenty kinds of faults; from 7 on they are in records, code and entry length.
+    fn once(&mut self, rng: &mut Rng, kind: usize) {
+        match kind {
             0..=2 => self.header(rng),
             3 => self.bit(rng, HEADER),
             4 => {

@@ -1,4 +1,4 @@
-//! Seeded generators of modules and calls.
+//! Seeded generators of modules, calls and tables.
 
 pub mod body;
 pub mod calls;
@@ -14,4 +14,5 @@ pub mod near;
 pub mod pointers;
 pub mod rng;
 pub mod shapes;
+pub mod tables;
 pub mod typed;

@@ -1,5 +1,6 @@
 //! Checks with their answers stated: module, room before, and what the paper says of number,
 //! body and the whole room afterwards. They are written out from the paper, not computed.
+//! `writes` has the same for writes.
 
 mod bodies;
 mod calls;
@@ -8,6 +9,7 @@ mod instructions;
 mod joins;
 mod labels;
 mod refusals;
+pub mod writes;
 
 use crate::asm;
 use crate::compare::check_difference;
