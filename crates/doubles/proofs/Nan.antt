@@ -1,5 +1,5 @@
 -- NaNs, by their patterns and by the test `x != x`. Assumes nothing.
-use mathlib.Core.Path.{_≡_, refl, sym, _∙_, subst}
+use mathlib.Core.Path.{_≡_, refl, sym, ap, _∙_, subst}
 use mathlib.Core.Bool.{Bool, true, false, not}
 use Prim.Native.Nat.{ℕ, _+_, _%_, _^_, _<_}
 use native.Mathlib.Omega.{arith}
@@ -8,7 +8,7 @@ use borrow.Author.Tests.{ltb-true, ltb-false, le-leb, lt-leb}
 use lib.Ieee as Ieee
 use lib.Ieee.{Float, nan, inf, fin, binary64, ofBits, isNan, ne, nanBits}
 use lib.Ieee.Bits.{nanBits-is, nanBits-above}
-use lib.Ieee.Compare.{nan-differs}
+use lib.Ieee.Compare.{differs-from-itself, nan-differs}
 
 is-nan : (x : Float) → isNan x ≡ true → x ≡ nan
 unfolding isNan
@@ -39,3 +39,19 @@ unfolding isNan
 equals-itself nan e = absurd (subst T (sym nan-differs ∙ e) tt)
 equals-itself (inf s) e = tt
 equals-itself (fin s m k) e = tt
+
+nan-is : isNan nan ≡ true
+unfolding isNan
+nan-is = refl
+
+not-true : (b : Bool) → T (not b) → b ≡ false
+not-true true h = absurd h
+not-true false h = refl
+
+-- the test is exact
+pub nan-test : (x : Float) → ne x x ≡ isNan x
+nan-test x = go (ne x x) refl
+  where
+    go : (b : Bool) → ne x x ≡ b → b ≡ isNan x
+    go true e = let q : x ≡ nan = differs-from-itself x (subst T (sym e) tt) in sym (ap isNan q ∙ nan-is)
+    go false e = sym (not-true (isNan x) (equals-itself x e))

@@ -1,6 +1,6 @@
 // Doubles: from patterns and back, their order, and conversions from and to whole numbers.
 ghost use mathlib.Core.Path.{_≡_};
-ghost use mathlib.Core.Bool.{not};
+ghost use mathlib.Core.Bool.{not, _||_};
 ghost use lib.Ieee as Ieee;
 ghost use Rattle.rules.specs.Words.{orderOf};
 ghost use Rattle.rules.specs.Doubles.{decodeOf, encodeOf, cutOf, todOf};
@@ -33,6 +33,13 @@ pub fn encode(x: f64) -> u64
     } else {
         f64::to_bits(x)
     }
+}
+
+// Whether one of two doubles is a NaN.
+pub fn unordered(x: f64, y: f64) -> bool
+    ensures { λ r. ⌜ r ≡ (Ieee.isNan x || Ieee.isNan y) ⌝ }
+{
+    (x != x) | (y != y)
 }
 
 // 1 for more, 0 for equal, -1 for anything else, as an int. A NaN is neither more nor equal.

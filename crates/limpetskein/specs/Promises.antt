@@ -44,7 +44,7 @@ firstState s f args = startState (read s) (bodyOf f) (arguments args)
 
 -- demand 3, second and third part, of a run of body f of s on these arguments and slots that answered this number
 pub record Sound (s : List ℕ) (f : ℕ) (args x : Lent) (number : ℕ) : Type 0 where
-  -- one of the four ends
+  -- one of the ends
   pub ends : (room : List ℕ) → IsAccepted s room → runRefusal s f args ≡ 0 → End number
   -- the slots below each of its calls are kept
   pub kept : (room : List ℕ) → IsAccepted s room → runRefusal s f args ≡ 0 → Kept (read s) (capacity x) (firstState s f args)

@@ -48,12 +48,13 @@ Shows m b p bytes =
 
 -- ---- the second part: "how a run can end"
 
--- "The four ends are outcomes 0, 15, 20 and 24.": exactly these (`exactly-four` of `Ends`)
+-- "The four ends are outcomes 0, 15, 20 and 24." 02, A2: "Demand 3's ends .. gain this", 35. Exactly these: `exactly-five` of `Ends`
 pub data End : ℕ → Type 0 where
   finished : End 0
   used-up : End 15
   overflow : End 20
   zero-divide : End 24
+  no-order : End 35
 
 -- ---- the third part: "the slots below a call"
 
@@ -120,7 +121,7 @@ pub record Demand3 : Type 0 where
   pub same-lists : (m : Module) (b : Body) (p : ℕ) → Reached m b p → (T U : Typing) → Consistent m b T → Consistent m b U → T p ≡ U p
   -- "Take any accepted module, run from its entry or from any function without pointer parameters on any arguments that
   -- document 01 admits. Whatever the allowance and the lent stack, this run can only finish, use up its allowance, overflow
-  -- the stack or divide by zero." (With a pointer parameter, or with arguments that are not admitted, the run is refused: 13.)
+  -- the stack or divide by zero"; or compare with a NaN (02, A2). (With a pointer parameter, or with arguments that are not admitted, the run is refused: 13.)
   pub ends : (s room : List ℕ) → IsAccepted s room → (f : ℕ) (args : Lent) → runRefusal s f args ≡ 0
       → (n : ℕ) (x : Lent) → End (runNumber (runModule s f args n x .answer))
   -- "Take any call made in such a run, at whatever depth. At every moment from that call to its return, or to the run's end

@@ -14,7 +14,7 @@ use Rattle.rules.specs.Instructions.{Ty, num, ptr, numKind}
 use Rattle.rules.specs.Tables.{constantCount, constantAt, constantOf, bodyOf, moduleOf}
 use Rattle.rules.specs.ModuleFile.{constantsIn, refusal, read}
 use Rattle.rules.specs.Stack.{Lent}
-use Rattle.rules.specs.Operations.{zeroDivide, class1, class2, refuse, eval1, eval2}
+use Rattle.rules.specs.Operations.{zeroDivide, unordered, class1, class2, refuse, eval1, eval2}
 use Rattle.rules.specs.Answers.{fits, declared, arguments, runRefusal, startState}
 use Rattle.soundness.specs.Tests.{decide, none-some, some-inj, eqb-is, ltb-is, false-true, and-both}
 use Rattle.soundness.specs.Readable.{NumberByte, constant-type}
@@ -61,7 +61,8 @@ twos : (o : Binary) (v w : Slot) → OfKind v → OfKind w → Yielded OfKind (e
 twos swap v w p q = (p, (q, tt))
 twos (arithmetic o) v w p q =
     decide (zeroDivide o (v .kind) (w .payload)) (λ y. rw y (exception 24 (omega arith) (omega arith))) (λ y. rw y (p, tt))
-twos (cmp s) v w p q = (inl refl, tt)
+twos (cmp s) v w p q =
+    decide (unordered (v .kind) (v .payload) (w .payload)) (λ y. rw y (exception 35 (omega arith) (omega arith))) (λ y. rw y (inl refl, tt))
 
 constant-kind : (s : List ℕ) → refusal s ≡ 0 → (k : ℕ) (c : Slot) → read s .constant k ≡ some c → OfKind c
 unfolding moduleOf constantOf

@@ -20,7 +20,7 @@ use Rattle.rules.specs.Doubles.{decodeOf, wordOf, cutOf}
 use Rattle.rules.specs.Tables.{constantCount, constantAt, badConstants, differs, oddConstant, badConstant, constantOf, Module, moduleOf}
 use Rattle.rules.specs.ModuleFile.{constants, constantsIn, tablesIn, refusal, read}
 use Rattle.rules.specs.Stack.{slot, pointerTo}
-use Rattle.rules.specs.Operations.{low, onWords, computed, zeroDivide, negated, complemented, converted, compared, bumped, Class, any, number as numbers, whole, class1, class2, refuse, Result, yields, raises, eval1, eval2, apply1, apply2}
+use Rattle.rules.specs.Operations.{low, onWords, computed, zeroDivide, negated, complemented, converted, compared, unordered, bumped, Class, any, number as numbers, whole, class1, class2, refuse, Result, yields, raises, eval1, eval2, apply1, apply2}
 use Rattle.rules.specs.Claims.{RunEnd, AreBytes}
 use Rattle.soundness.specs.Tests.{decide, none-some, some-inj, eqb-is, ltb-is, or-neither, not-false}
 use Rattle.soundness.specs.Readable.{good-constant, constant-word, good-tables}
@@ -148,7 +148,9 @@ module _ (B : Type 0) where
   twos (arithmetic o) v w p q =
       decide (zeroDivide o (v .kind) (w .payload)) (λ y. rw y (exception 24 (omega arith) (omega arith)))
       (λ y. rw y ((λ b e. computed-narrow o (v .kind) (v .payload) (w .payload) e), tt))
-  twos (cmp s) v w p q = ((λ b e. compared-narrow s (v .kind) (v .payload) (w .payload)), tt)
+  twos (cmp s) v w p q =
+      decide (unordered (v .kind) (v .payload) (w .payload)) (λ y. rw y (exception 35 (omega arith) (omega arith)))
+      (λ y. rw y ((λ b e. compared-narrow s (v .kind) (v .payload) (w .payload)), tt))
 
 -- ---- constants
 

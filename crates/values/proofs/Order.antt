@@ -1,12 +1,12 @@
 -- What `cmp` and `icmp` give for two operands, by their values. Assumes nothing.
 use mathlib.Core.Path.{_≡_, refl, sym, _∙_}
-use mathlib.Core.Bool.{Bool, true, false, cond}
+use mathlib.Core.Bool.{Bool, true, false, cond, _||_}
 use Prim.Native.Nat.{ℕ}
 use lib.Ieee as Ieee
 use lib.Ieee.{Float}
 use borrow.Author.Tests.{eq-eqb, ne-eqb}
-use Rattle.rules.specs.Doubles.{dcmpOf}
-use Rattle.rules.specs.Operations.{apply2, compared, low, Result, raises}
+use Rattle.rules.specs.Doubles.{decodeOf, dcmpOf}
+use Rattle.rules.specs.Operations.{apply2, compared, unordered, low, Result, raises}
 use Rattle.rules.specs.Words.{cmpOf, icmpOf, orderOf}
 use Rattle.rules.specs.declared.Binary.the-variants.{Cmp}
 use Rattle.rules.specs.declared.Slot.{Slot}
@@ -39,9 +39,30 @@ compared-pointers false x y = refl
 
 -- ---- order, signed where g holds
 
-cmp-like : (g : Bool) (w : Result) (s u : Slot) (k n : ℕ) → s .kind ≡ k → u .kind ≡ k → w ≡ gives 3 n → compared g k (s .payload) (u .payload) ≡ n
+cmp-like : (g : Bool) (w : Result) (s u : Slot) (k n : ℕ) → s .kind ≡ k → u .kind ≡ k → unordered k (s .payload) (u .payload) ≡ false → w ≡ gives 3 n
+    → compared g k (s .payload) (u .payload) ≡ n → w ≡ apply2 (Cmp g) s u
+cmp-like g w s u k n e f o h i = h ∙ sym (rw (e, f, eq-eqb k k refl, o, i) refl)
+
+cmp-stray : (g : Bool) (w : Result) (s u : Slot) (k : ℕ) → s .kind ≡ k → u .kind ≡ k → unordered k (s .payload) (u .payload) ≡ true → w ≡ raises 35
     → w ≡ apply2 (Cmp g) s u
-cmp-like g w s u k n e f h i = h ∙ sym (rw (e, f, eq-eqb k k refl, i) refl)
+cmp-stray g w s u k e f o h = h ∙ sym (rw (e, f, eq-eqb k k refl, o) refl)
+
+-- what is no double has an order
+ints-ordered : (x y : ℕ) → unordered 3 x y ≡ false
+unfolding unordered
+ints-ordered x y = refl
+
+longs-ordered : (x y : ℕ) → unordered 4 x y ≡ false
+unfolding unordered
+longs-ordered x y = refl
+
+pointers-ordered : (x y : ℕ) → unordered 7 x y ≡ false
+unfolding unordered
+pointers-ordered x y = refl
+
+doubles-unordered : (x y : ℕ) → unordered 6 x y ≡ (Ieee.isNan (decodeOf x) || Ieee.isNan (decodeOf y))
+unfolding unordered
+doubles-unordered x y = refl
 
 module _ (g : Bool) {a b : Value} {w : Result} where
   pub cmp-unlike : (kindOfValue a ≡ kindOfValue b → ⊥) → w ≡ raises 22 → ComputesTo (Cmp g) a b w
@@ -54,22 +75,32 @@ module _ (g : Bool) {a b : Value} {w : Result} where
   cmp-ints f h e s u k l ea eb =
       let i = int-kind s k ea f in
       let j = int-kind u l eb h in
-      cmp-like g w s u 3 _ (i .0) (j .0) e (rw (i .1, j .1) (compared-ints g (s .payload) (u .payload)))
+      cmp-like g w s u 3 _ (i .0) (j .0) (ints-ordered (s .payload) (u .payload)) e (rw (i .1, j .1) (compared-ints g (s .payload) (u .payload)))
 
   pub cmp-longs : {x y : ℕ} → a ≡ Long x → b ≡ Long y → w ≡ gives 3 (cond g (icmpOf 64 x y) (cmpOf x y)) → ComputesTo (Cmp g) a b w
   cmp-longs f h e s u k l ea eb =
       let i = long-kind s k ea f in
       let j = long-kind u l eb h in
-      cmp-like g w s u 4 _ (i .0) (j .0) e (rw (i .1, j .1) (compared-longs g (s .payload) (u .payload)))
+      cmp-like g w s u 4 _ (i .0) (j .0) (longs-ordered (s .payload) (u .payload)) e (rw (i .1, j .1) (compared-longs g (s .payload) (u .payload)))
 
-  pub cmp-doubles : {x y : Float} → a ≡ Double x → b ≡ Double y → w ≡ gives 3 (orderOf (Ieee.lt y x) (Ieee.eq x y)) → ComputesTo (Cmp g) a b w
-  cmp-doubles f h e s u k l ea eb =
+  pub cmp-doubles : {x y : Float} → a ≡ Double x → b ≡ Double y → (Ieee.isNan x || Ieee.isNan y) ≡ false
+      → w ≡ gives 3 (orderOf (Ieee.lt y x) (Ieee.eq x y)) → ComputesTo (Cmp g) a b w
+  cmp-doubles f h o e s u k l ea eb =
       let i = double-kind s k ea f in
       let j = double-kind u l eb h in
-      cmp-like g w s u 6 _ (i .0) (j .0) e (rw (i .1, j .1) (compared-doubles g (s .payload) (u .payload)))
+      cmp-like g w s u 6 _ (i .0) (j .0) (doubles-unordered (s .payload) (u .payload) ∙ rw (i .1, j .1) at o) e
+      (rw (i .1, j .1) (compared-doubles g (s .payload) (u .payload)))
+
+  -- one of them is a NaN
+  pub cmp-nan : {x y : Float} → a ≡ Double x → b ≡ Double y → (Ieee.isNan x || Ieee.isNan y) ≡ true → w ≡ raises 35 → ComputesTo (Cmp g) a b w
+  cmp-nan f h o e s u k l ea eb =
+      let i = double-kind s k ea f in
+      let j = double-kind u l eb h in
+      let q : unordered 6 (s .payload) (u .payload) ≡ true = doubles-unordered (s .payload) (u .payload) ∙ rw (i .1, j .1) at o in
+      cmp-stray g w s u 6 (i .0) (j .0) q e
 
   pub cmp-pointers : {x y : ℕ} → a ≡ Pointer x → b ≡ Pointer y → w ≡ gives 3 (cmpOf x y) → ComputesTo (Cmp g) a b w
   cmp-pointers f h e s u k l ea eb =
       let i = pointer-kind s k ea f in
       let j = pointer-kind u l eb h in
-      cmp-like g w s u 7 _ (i .0) (j .0) e (rw (i .1, j .1) (compared-pointers g (s .payload) (u .payload)))
+      cmp-like g w s u 7 _ (i .0) (j .0) (pointers-ordered (s .payload) (u .payload)) e (rw (i .1, j .1) (compared-pointers g (s .payload) (u .payload)))

@@ -1,8 +1,9 @@
-// `cmp` and `icmp` on two values; a is the deeper operand. Doubles and pointers have one order.
+// `cmp` and `icmp` on two values; a is the deeper operand. Doubles and pointers have one order; a NaN has none.
 ghost use mathlib.Core.Bool.{true, false};
 ghost use Rattle.rules.specs.declared.Binary.the-variants.{Cmp};
 ghost use Rattle.values.specs.Values.{Computes};
 use crate::Computed;
+use crate::DOUBLE_UNORDERED;
 use crate::STACK_DIFFERENTTYPE;
 use crate::Value;
 
@@ -27,6 +28,10 @@ pub fn cmp_values(a: Value, b: Value) -> Computed
             let Value::Double(y) = b else {
                 return Computed::Raises(STACK_DIFFERENTTYPE);
             };
+            let unordered = doubles::unordered(x, y);
+            if unordered {
+                return Computed::Raises(DOUBLE_UNORDERED);
+            }
             Computed::Yields(Value::Int(doubles::compare(x, y)))
         }
         Value::Pointer(x) => {
@@ -59,6 +64,10 @@ pub fn icmp_values(a: Value, b: Value) -> Computed
             let Value::Double(y) = b else {
                 return Computed::Raises(STACK_DIFFERENTTYPE);
             };
+            let unordered = doubles::unordered(x, y);
+            if unordered {
+                return Computed::Raises(DOUBLE_UNORDERED);
+            }
             Computed::Yields(Value::Int(doubles::compare(x, y)))
         }
         Value::Pointer(x) => {

@@ -12,6 +12,8 @@ pub(crate) const POINTER_INVALIDFORPOINTER: u32 = 32;
 
 pub(crate) const DOUBLE_INVALIDFORDOUBLE: u32 = 34;
 
+pub(crate) const DOUBLE_UNORDERED: u32 = 35;
+
 // An int, a long, a double with its number, or a pointer with its slot.
 pub enum Value {
     Int(u32),
