@@ -79,7 +79,7 @@ enum {
     /* Write only. */
     LIMPETSKEIN_OUTPUT_TOO_SHORT = 16, /* the tables are a module, and the output is shorter than it */
 
-    /* Run only: it stopped. Of an accepted module only 0, 15, 20 and 24 come from a run that started. */
+    /* Run only: it stopped. Of an accepted module only 0, 15, 20, 24 and 35 come from a run that started. */
     LIMPETSKEIN_ALLOWANCE_USED_UP = 15,
     LIMPETSKEIN_STACK_OVERFLOW = 20, /* no free slot, a 65th frame, or arguments that don't fit */
     LIMPETSKEIN_STACK_EMPTY = 21,
@@ -95,7 +95,8 @@ enum {
     LIMPETSKEIN_POINTER_NOTPOINTER = 31,
     LIMPETSKEIN_POINTER_INVALIDFORPOINTER = 32,
     LIMPETSKEIN_POINTER_UNKNOWNADDRESS = 33,
-    LIMPETSKEIN_DOUBLE_INVALIDFORDOUBLE = 34
+    LIMPETSKEIN_DOUBLE_INVALIDFORDOUBLE = 34,
+    LIMPETSKEIN_DOUBLE_UNORDERED = 35 /* cmp or icmp of two doubles, one of them a NaN */
 };
 
 /*
@@ -115,7 +116,7 @@ enum {
 uint32_t limpetskein_check(const uint8_t *module, size_t module_len, uint8_t *room, size_t room_len, uint32_t *body);
 
 /*
- * Runs a body of a module, checked or not: 0 to 9, 12, 13, 15, 20 to 34.
+ * Runs a body of a module, checked or not: 0 to 9, 12, 13, 15, 20 to 35.
  *
  *   function      its number, or LIMPETSKEIN_ENTRY.
  *   arg_types     a type byte for each argument, parameter 0 first.
@@ -124,11 +125,11 @@ uint32_t limpetskein_check(const uint8_t *module, size_t module_len, uint8_t *ro
  *   payloads      8 bytes a slot. types: a byte a slot. The capacity is the smaller number of whole slots,
  *                 at most LIMPETSKEIN_MOST_SLOTS.
  *   *steps        the instructions counted; *height: the slots in use at the end. Both are written with 0, 15
- *                 and 20 to 34 only.
+ *                 and 20 to 35 only.
  *
  * The slots after the call:
  *   1 to 9, 12, 13   unchanged.
- *   0, 15, 20 to 34  slots 0 to the height, deepest first, as the run left them; from the height to the capacity
+ *   0, 15, 20 to 35  slots 0 to the height, deepest first, as the run left them; from the height to the capacity
  *                    zero; payload and type bytes past the capacity unchanged. What the slots held before does
  *                    not matter: a run starts empty, or with its arguments.
  *

@@ -128,7 +128,9 @@ static inline uint64_t double_to_long(double v) {
             v = ORDER(a, b);                                      \
         } else if (type == DOUBLE) {                              \
             double b = read_double(TOP), a = read_double(SECOND); \
-            v = (uint32_t)(a > b) - (uint32_t) !(a >= b);         \
+            if (unlikely(__builtin_isunordered(a, b)))            \
+                RAISE(DOUBLE_UNORDERED);                          \
+            v = ORDER(a, b);                                      \
         } else if (type == LONG) {                                \
             Long b = (Long)read64(TOP), a = (Long)read64(SECOND); \
             v = ORDER(a, b);                                      \

@@ -60,7 +60,8 @@ impl Below {
     }
 }
 
-/// "this run can only finish, use up its allowance, overflow the stack or divide by zero"
-pub fn is_one_of_the_four_ends(outcome: u32) -> bool {
-    [0, 15, 20, 24].contains(&outcome)
+/// "this run can only finish, use up its allowance, overflow the stack or divide by zero"; or
+/// compare with a NaN: "Demand 3's ends and the typing rule gain this."
+pub fn is_an_end_of_demand_3(outcome: u32) -> bool {
+    [0, 15, 20, 24, 35].contains(&outcome)
 }

@@ -1,7 +1,7 @@
 //! Counts what generated cases reach.
 
 use crate::check::Checked;
-use crate::claims::{is_one_of_the_four_ends, Claims};
+use crate::claims::{is_an_end_of_demand_3, Claims};
 use crate::gen::case::{Case, RunCall};
 use crate::gen::tables::WriteCase;
 use crate::machine::{Machine, Watch};
@@ -78,7 +78,7 @@ impl Coverage {
             let mut claims = Claims::default();
             let mut memory = case.run_memory(run);
             second.run_watched(run.function, run.allowance, &mut memory, &mut claims);
-            let ends = is_one_of_the_four_ends(answer) || [12, 13].contains(&answer);
+            let ends = is_an_end_of_demand_3(answer) || [12, 13].contains(&answer);
             self.broken += claims.broken + u64::from(!ends);
         }
     }

@@ -44,17 +44,30 @@ pub fn by_one(op: Op, a: u64) -> u64 {
     result(if op == Op::Inc { x + 1.0 } else { x - 1.0 })
 }
 
-/// "A > B gives 1, equal 0, anything else -1": so does a NaN on either side.
-pub fn compare(rules: Rules, a: u64, b: u64) -> i32 {
+/// "A > B gives 1, equal 0, anything else -1"; "`cmp` and `icmp` now raise when either double is
+/// a NaN ... 35 DOUBLE_UNORDERED"
+pub fn compare(rules: Rules, op: Op, a: u64, b: u64) -> Result<i32, u32> {
     let (x, y) = (f64::from_bits(a), f64::from_bits(b));
-    if rules.wrong(Fault::NanGreater) && (x.is_nan() || y.is_nan()) {
-        return 1;
+    if raises_unordered(rules, op, a, b) {
+        return Err(35);
     }
     if x > y {
-        1
+        Ok(1)
     } else if x == y {
-        0
+        Ok(0)
     } else {
-        -1
+        Ok(-1)
     }
+}
+
+/// "when either double is a NaN"
+fn raises_unordered(rules: Rules, op: Op, a: u64, b: u64) -> bool {
+    // the uppermost bit of the fraction tells quiet NaNs from signalling ones
+    let counts = |bits: u64| bits & (1 << 51) != 0 || !rules.wrong(Fault::QuietNansOnly);
+    let nan = |bits: u64| f64::from_bits(bits).is_nan() && counts(bits);
+    let first = nan(a) && !rules.wrong(Fault::UnorderedSecondOnly);
+    let second = nan(b) && !rules.wrong(Fault::UnorderedFirstOnly);
+    let spared =
+        rules.wrong(Fault::NanCompares) || rules.wrong(Fault::UnorderedCmpOnly) && op == Op::Icmp;
+    (first || second) && !spared
 }

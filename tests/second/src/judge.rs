@@ -2,7 +2,7 @@
 //!
 //! "At each given place the instruction, judged by types alone with every pointer taken as
 //! live, raises at most 20 or 24, "same type" meaning the same of six, for call arguments
-//! too".
+//! too". "Demand 3's ends and the typing rule gain" 35, document 02's A2.
 
 use crate::opcode::Op;
 use crate::reader::{Instruction, Module, ENTRY};
@@ -32,7 +32,7 @@ pub struct Judge<'m> {
 
 impl Judge<'_> {
     /// The lists after the instruction and its next places, or the exception that it raises
-    /// (other than 20 and 24, which depend on more than types).
+    /// (other than 20, 24 and 35, which depend on more than types).
     pub fn judge(&self, at: Instruction, given: &Lists) -> Result<Left, u32> {
         let mut lists = given.clone();
         let mut next = vec![at.next];
@@ -112,6 +112,7 @@ impl Judge<'_> {
         let (a, b) = (pair[0], pair[1]);
         if matches!(op, Op::Cmp | Op::Icmp) {
             self.same(a, b)?;
+            raise(a == DOUBLE && self.rules.wrong(Fault::UnorderedUntyped), 35)?;
             lists.operands.push(INT);
             return Ok(());
         }

@@ -17,7 +17,8 @@ pub fn exceptions(op: Op) -> &'static [u32] {
         Op::Tload => &[21, 31, 33],
         Op::Tstore => &[21, 31, 33, 22],
         Op::Copy => &[21, 20],
-        Op::Swap | Op::Cmp | Op::Icmp => &[21, 22],
+        Op::Swap => &[21, 22],
+        Op::Cmp | Op::Icmp => &[21, 22, 35],
         Op::Add | Op::Sub | Op::Mul | Op::Imul => &[21, 32, 22],
         Op::Div | Op::Idiv => &[21, 32, 22, 24],
         Op::Mod | Op::Imod => &[21, 32, 22, 34, 24],
@@ -32,12 +33,12 @@ pub fn exceptions(op: Op) -> &'static [u32] {
     }
 }
 
-/// The exceptions that leave a body without typing: those of a run other than 20 and 24, other
-/// than 33 ("every pointer taken as live") and than 32 for `inc` and `dec` (no pointer points
-/// to a pointer); and `lea` of a local that holds no number, shown as 32.
+/// The exceptions that leave a body without typing: those of a run other than 20, 24 and 35,
+/// other than 33 ("every pointer taken as live") and than 32 for `inc` and `dec` (no pointer
+/// points to a pointer); and `lea` of a local that holds no number, shown as 32.
 pub fn typing_exceptions(op: Op) -> Vec<u32> {
     let mut numbers: Vec<u32> = exceptions(op).to_vec();
-    numbers.retain(|number| ![20, 24, 33].contains(number));
+    numbers.retain(|number| ![20, 24, 33, 35].contains(number));
     match op {
         Op::Inc | Op::Dec => numbers.retain(|&number| number != 32),
         Op::Lea => numbers.push(32),
@@ -82,7 +83,7 @@ pub const CHECK_ANSWERS: [u32; 12] = [0, 1, 2, 3, 4, 5, 6, 7, 8, 9, 10, 11];
 pub const WRITE_ANSWERS: [u32; 8] = [0, 4, 5, 6, 7, 8, 9, 16];
 
 /// The answers that a run can give.
-pub const RUN_ANSWERS: [u32; 28] = [
+pub const RUN_ANSWERS: [u32; 29] = [
     0, 1, 2, 3, 4, 5, 6, 7, 8, 9, 12, 13, 15, 20, 21, 22, 23, 24, 25, 26, 27, 28, 29, 30, 31, 32,
-    33, 34,
+    33, 34, 35,
 ];

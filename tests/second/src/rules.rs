@@ -31,7 +31,13 @@ pub enum Fault {
     MisfitKeepsMemory,
     NegKeepsNan,
     SarMasksCount,
-    NanGreater,
+    NanCompares,
+    UnorderedFirstOnly,
+    UnorderedSecondOnly,
+    UnorderedCmpOnly,
+    UnorderedBeforeType,
+    UnorderedUntyped,
+    QuietNansOnly,
     RoomKeptWithEleven,
     UnreachedRecordKept,
     BuriedOperandsKept,
@@ -82,7 +88,7 @@ pub enum Fault {
 }
 
 /// The wrong variants of reader, check and run, each with its name and what is wrong.
-pub const FAULTS: [(Fault, &str, &str); 58] = [
+pub const FAULTS: [(Fault, &str, &str); 64] = [
     (
         Fault::BranchKeepsValue,
         "branch-keeps-value",
@@ -206,9 +212,39 @@ pub const FAULTS: [(Fault, &str, &str); 58] = [
         "sar takes its count modulo the width",
     ),
     (
-        Fault::NanGreater,
-        "nan-greater",
-        "comparison with NaN gives 1",
+        Fault::NanCompares,
+        "nan-compares",
+        "comparison with a NaN gives -1",
+    ),
+    (
+        Fault::UnorderedFirstOnly,
+        "35-first-only",
+        "a NaN on top gives -1",
+    ),
+    (
+        Fault::UnorderedSecondOnly,
+        "35-second-only",
+        "a NaN under the top gives -1",
+    ),
+    (
+        Fault::UnorderedCmpOnly,
+        "35-cmp-only",
+        "icmp with a NaN gives -1",
+    ),
+    (
+        Fault::UnorderedBeforeType,
+        "35-before-22",
+        "a NaN beside another type raises 35",
+    ),
+    (
+        Fault::UnorderedUntyped,
+        "35-untyped",
+        "comparison of doubles has no typing",
+    ),
+    (
+        Fault::QuietNansOnly,
+        "35-quiet-only",
+        "comparison with a signalling NaN gives -1",
     ),
     (
         Fault::RoomKeptWithEleven,

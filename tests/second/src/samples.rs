@@ -296,7 +296,7 @@ pub const PROGRAMS: [Sample; 9] = [
 ];
 
 /// Doubles, conversions, comparisons.
-pub const NUMBERS: [Sample; 10] = [
+pub const NUMBERS: [Sample; 15] = [
     text(
         "double-sum",
         "0.1 + 0.2 rounded once",
@@ -323,12 +323,42 @@ pub const NUMBERS: [Sample; 10] = [
     ),
     text(
         "double-compare",
-        "-0.0 equals 0.0; a NaN on either side gives -1",
-        "double -0.0; double 0.0; double #7FF8000000000000
+        "-0.0 equals 0.0; infinity is greater than 1e300; -infinity is less",
+        "double -0.0; double 0.0; double #7FF0000000000000; double 1e300; double #FFF0000000000000
          entry:
          push 0; push 1; cmp
-         push 2; push 1; cmp
-         push 1; push 2; icmp",
+         push 2; push 3; cmp
+         push 4; push 3; icmp",
+    ),
+    text(
+        "nan-branch",
+        "zero by zero, compared, is exception 35: no branch is taken",
+        "double 0.0; int 1; int 2
+         entry:
+         push 0; push 0; div; push 0; cmp; jb 0
+         push 1; jmp 1
+         @0; push 2
+         @1; neg",
+    ),
+    text(
+        "nan-cmp-top",
+        "cmp with a signalling NaN on top is exception 35; the operands stay",
+        "double 1.0; double #7FF0000000000001; entry: push 0; push 1; cmp",
+    ),
+    text(
+        "nan-icmp-under",
+        "icmp with a negative NaN under the top is exception 35",
+        "double #FFF8000000000000; double #FFF0000000000000; entry: push 0; push 1; icmp",
+    ),
+    text(
+        "nan-icmp-top",
+        "icmp with a NaN on top, after a comparison without",
+        "double 2.5; double #7FFFFFFFFFFFFFFF; entry: push 0; push 0; icmp; push 0; push 1; icmp",
+    ),
+    text(
+        "nan-beside-int",
+        "an int beside a NaN: cmp has no typing",
+        "double #7FF8000000000000; int 1; entry: push 0; push 1; cmp",
     ),
     text(
         "toi-edges",

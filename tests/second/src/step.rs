@@ -1,7 +1,7 @@
 //! One instruction on the machine.
 //!
 //! "Within one instruction the order is: 30; number out of range; 21; 31; 33; 32; 22; 34; 24;
-//! 20." Every function here tests in this order and changes the state only after its last
+//! 20.", with document 02's "35 DOUBLE_UNORDERED, after 24 in the order". Every function here tests in this order and changes the state only after its last
 //! test: an instruction that raises "leaves the state as before it".
 
 use crate::machine::{Frame, Machine, Slot};
@@ -275,10 +275,16 @@ fn conversion(m: &mut Machine<'_>, op: Op) -> Result<(), u32> {
     Ok(())
 }
 
-/// "`cmp`, `icmp`: A > B gives 1, equal 0, anything else -1. Pointers compare by slot."
+/// "`cmp`, `icmp`: A > B gives 1, equal 0, anything else -1. Pointers compare by slot.": 21, 22,
+/// 35.
 fn compare(m: &mut Machine<'_>, op: Op) -> Result<(), u32> {
     let pair = operands(m, 2)?;
     let (a, b) = (pair[0], pair[1]);
+    if m.rules.wrong(Fault::UnorderedBeforeType) {
+        for slot in [a, b].iter().filter(|slot| slot.ty == DOUBLE) {
+            double::compare(m.rules, op, slot.payload, slot.payload)?;
+        }
+    }
     raise(a.ty != b.ty, 22)?;
     if m.rules.wrong(Fault::PointeesCompared) && a.ty == POINTER {
         let target = |slot: Slot| m.stack.get(slot.payload as usize).map(|slot| slot.ty);
@@ -286,7 +292,7 @@ fn compare(m: &mut Machine<'_>, op: Op) -> Result<(), u32> {
     }
     let signed = op == Op::Icmp || m.rules.wrong(Fault::CmpSigned);
     let order = match (signed, width(a.ty)) {
-        _ if a.ty == DOUBLE => double::compare(m.rules, a.payload, b.payload),
+        _ if a.ty == DOUBLE => double::compare(m.rules, op, a.payload, b.payload)?,
         (true, Some(width)) => order(
             integer::signed(width, a.payload),
             integer::signed(width, b.payload),

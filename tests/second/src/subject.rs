@@ -11,7 +11,7 @@ pub trait Subject {
     /// The paper's number; the out-parameter `body` is written with 11 only.
     fn check(&mut self, memory: &mut CheckMemory) -> u32;
 
-    /// The paper's number; `steps` and `height` are written with 0, 15 and 20 to 34 only.
+    /// The paper's number; `steps` and `height` are written with 0, 15 and 20 to 35 only.
     fn run(&mut self, function: u32, allowance: u64, memory: &mut RunMemory) -> u32;
 
     /// The paper's number; `written` is written with 0 only.

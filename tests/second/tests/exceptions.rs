@@ -1,4 +1,4 @@
-//! Exceptions 20 to 34 and 15: steps, and the stack as before the instruction.
+//! Exceptions 20 to 35 and 15: steps, and the stack as before the instruction.
 
 mod common;
 use common::*;
@@ -246,6 +246,62 @@ fn invalid_for_double_34() {
         assert_eq!(after(&format!("push 2; push 0; {op}")), 22, "{op}");
     }
     assert_eq!(after("push 2; not"), 34);
+}
+
+/// Quiet and other NaNs, of both signs.
+const NANS: [u64; 6] = [
+    0x7FF8_0000_0000_0000,
+    0xFFF8_0000_0000_0000,
+    0x7FF0_0000_0000_0001,
+    0xFFF4_0000_0000_0000,
+    0x7FF8_0000_DEAD_BEEF,
+    0xFFFF_FFFF_FFFF_FFFF,
+];
+
+#[test]
+fn unordered_35() {
+    let infinity = f64::INFINITY.to_bits();
+    for (nan, op) in NANS.iter().flat_map(|nan| [(nan, "cmp"), (nan, "icmp")]) {
+        let constants = format!("double #{nan:016X}; double #{infinity:016X}; int 7;");
+        let end = |code: &str| entry(&format!("{constants} entry: {code}; {op}"));
+        // the operands stay
+        let (first, second) = ((DOUBLE, *nan), (DOUBLE, infinity));
+        assert_eq!(end("push 0; push 1"), (35, 2, vec![first, second]));
+        assert_eq!(end("push 1; push 0"), (35, 2, vec![second, first]));
+        assert_eq!(end("push 0; push 0"), (35, 2, vec![first, first]));
+        assert_eq!(end("push 1; push 1").0, 0);
+        // 22 before it: an int or a pointer beside a NaN
+        assert_eq!(end("push 0; push 2").0, 22);
+        assert_eq!(end("push 2; push 0").0, 22);
+        assert_eq!(end("push 2; store 0; push 0; lea 0").0, 22);
+        assert_eq!(end("push 2; store 0; lea 0; push 0").0, 22);
+        assert_eq!(end("push 0").0, 21);
+        // the allowance before it
+        let file = asm::file(&format!("{constants} entry: push 0; push 1; {op}"));
+        let run = |allowance| run_file(&file, ENTRY, &[], allowance, 2).expect("a run");
+        assert_eq!((run(2).0, run(3).0), (15, 35));
+        // nothing is refused that was accepted
+        assert_eq!(answer(&file), 0);
+    }
+}
+
+/// "A recipe divided zero by zero, compared the result, got -1 and took the \"darker\" branch."
+#[test]
+fn zero_by_zero_compared() {
+    let recipe = |op: &str, zero: &str| {
+        format!(
+            "double {zero}; double 0.5; int 1; int 2
+             entry: push 0; push 0; div; push 1; {op}; jb 0; push 2; jmp 1; @0; push 3; @1; neg"
+        )
+    };
+    let half = 0.5f64.to_bits();
+    for op in ["cmp", "icmp"] {
+        let stopped = entry(&recipe(op, "0.0"));
+        assert_eq!(stopped, (35, 4, vec![(DOUBLE, NAN), (DOUBLE, half)]));
+        assert_eq!(checked(&recipe(op, "0.0")), 0);
+        // one by one is brighter
+        assert_eq!(top(&recipe(op, "1.0")), (INT, 0xFFFF_FFFF));
+    }
 }
 
 #[test]

@@ -143,14 +143,27 @@ fn every_nan_result_is_the_same() {
 
 #[test]
 fn comparing_doubles() {
-    let of = |a: f64, b: f64| double::compare(PLAIN, a.to_bits(), b.to_bits());
-    assert_eq!(of(2.0, 1.0), 1);
-    assert_eq!(of(1.0, 2.0), -1);
-    assert_eq!(of(-0.0, 0.0), 0);
-    assert_eq!(of(f64::NAN, 0.0), -1);
-    assert_eq!(of(0.0, f64::NAN), -1);
-    assert_eq!(of(f64::NAN, f64::NAN), -1);
-    assert_eq!(of(f64::INFINITY, f64::MAX), 1);
+    for op in [Op::Cmp, Op::Icmp] {
+        let bits = |a: u64, b: u64| double::compare(PLAIN, op, a, b);
+        let of = |a: f64, b: f64| bits(a.to_bits(), b.to_bits());
+        assert_eq!(of(2.0, 1.0), Ok(1));
+        assert_eq!(of(1.0, 2.0), Ok(-1));
+        assert_eq!(of(-0.0, 0.0), Ok(0));
+        assert_eq!(of(f64::INFINITY, f64::MAX), Ok(1));
+        assert_eq!(of(f64::NEG_INFINITY, f64::MIN), Ok(-1));
+        assert_eq!(of(f64::INFINITY, f64::INFINITY), Ok(0));
+        // quiet and other NaNs, of both signs
+        let (infinity, one) = (0x7FF0_0000_0000_0000, 1.0f64.to_bits());
+        for sign in [0, 1 << 63] {
+            for fraction in [1, 1 << 50, 1 << 51, (1 << 51) + 1, (1 << 52) - 1] {
+                let nan = sign | infinity | fraction;
+                for other in [0, one, infinity, sign | infinity, nan, NAN] {
+                    assert_eq!(bits(nan, other), Err(35));
+                    assert_eq!(bits(other, nan), Err(35));
+                }
+            }
+        }
+    }
 }
 
 #[test]

@@ -12,7 +12,7 @@ fn the_second_program_gives_what_is_stated() {
 }
 
 /// The wrong variants of reader and check.
-const WRONG_CHECKS: [&str; 21] = [
+const WRONG_CHECKS: [&str; 22] = [
     "dead-code-typed",
     "first-typing-kept",
     "parameters-reversed",
@@ -34,6 +34,7 @@ const WRONG_CHECKS: [&str; 21] = [
     "constant-type-byte",
     "pointers-shown-as-7",
     "room-all-zeroed",
+    "35-untyped",
 ];
 
 #[test]

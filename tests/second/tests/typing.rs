@@ -3,7 +3,7 @@
 
 mod common;
 use common::*;
-use second::claims::{is_one_of_the_four_ends, Claims};
+use second::claims::{is_an_end_of_demand_3, Claims};
 use second::gen::case::Case;
 use second::judge::{Judge, Lists};
 use second::reader::{read, Module, ENTRY};
@@ -72,7 +72,7 @@ fn demand_3_on_a_sample() {
             let mut memory = case.run_memory(run);
             let answer = second.run_watched(run.function, run.allowance, &mut memory, &mut claims);
             let refused = [12, 13].contains(&answer);
-            assert!(refused || is_one_of_the_four_ends(answer), "case {number}");
+            assert!(refused || is_an_end_of_demand_3(answer), "case {number}");
             assert_eq!(claims.broken, 0, "case {number}");
         }
     }

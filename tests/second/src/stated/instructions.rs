@@ -15,7 +15,7 @@ fn text(code: &str) -> String {
 }
 
 /// The operand types that code leaves.
-const LEAVES: [(&str, &[u8]); 45] = [
+const LEAVES: [(&str, &[u8]); 46] = [
     ("push 0", &[3]),
     ("push 1", &[4]),
     ("push 2", &[6]),
@@ -55,6 +55,7 @@ const LEAVES: [(&str, &[u8]); 45] = [
     ("push 1; push 1; shr", &[4]),
     ("push 0; push 0; sar", &[3]),
     ("push 2; push 2; cmp", &[3]),
+    ("push 2; push 2; icmp", &[3]),
     ("lea 1; load 3; icmp", &[3]),
     ("push 2; toi", &[3]),
     ("push 0; tol", &[4]),
