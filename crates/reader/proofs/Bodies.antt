@@ -6,15 +6,15 @@ use mathlib.Core.Path.{_≡_, refl, sym, ap, _∙_, subst}
 use mathlib.Core.Bool.{Bool, true, false, not, _&&_, or-false, true≢false}
 use mathlib.Core.List.{List}
 use lib.Dec.{eqb, ltb, leb}
-use lib.ListN.{length, set, replicate}
+use lib.ListN.{length, getD, replicate}
 use borrow.Author.Tests.{eq-eqb, ne-eqb, lt-ltb, le-ltb, ltb-true}
 use Rattle.rules.specs.Bytes.{word, some-below}
 use Rattle.rules.specs.Tables.{Bodies, functionCount, due, dueIn, unknownAt, differs, endBefore, crossed, badCode, badFunctions, functionAt, owns, labelAt, badLabel}
 use Rattle.soundness.specs.Readable.{ends-rise, fills, starts-after}
 use Rattle.format.proofs.Tests.{and-left, and-right, or-left, or-right, either}
 use Rattle.format.proofs.Gathered.{some-hit, some-longer}
-use Rattle.reader.specs.Cut.{mark, Blank, Cut, Fails, Walked, Marked}
-use Rattle.reader.proofs.Cuts.{marked-here, mark-tells}
+use Rattle.reader.specs.Cut.{Blank, Cut, Fails, Walked, StartsExactly}
+use Rattle.reader.proofs.Starts.{start-tells}
 
 -- ---- the start
 
@@ -71,6 +71,9 @@ module _ (B : Bodies) (good : badFunctions B ≡ false) where
   unfolding some-below
   crossed-more i t h cut = rw add-one (simp (h, not-crossed i t cut))
 
+  pub at-end : (i : ℕ) (t : List ℕ) → i ≡ functionCount (B .functions) → Cut (B .edition) (B .code) (endBefore B i) t → Cut (B .edition) (B .code) (length (B .code)) t
+  at-end i t e cut = subst (λ (p : ℕ). Cut (B .edition) (B .code) p t) (ap (endBefore B) e ∙ fills B good) cut
+
   pub good-bodies : (i : ℕ) (t : List ℕ) → i ≡ functionCount (B .functions) → Cut (B .edition) (B .code) (endBefore B i) t → some-below (i + 1) (crossed B) ≡ false → false ≡ badCode B
   unfolding badCode
   good-bodies i t e cut h =
@@ -78,11 +81,6 @@ module _ (B : Bodies) (good : badFunctions B ≡ false) where
       let k : some-below (length (B .code)) (unknownAt (B .edition) (B .code)) ≡ false = rw a at (cut .known) in
       let j : some-below (suc (functionCount (B .functions))) (crossed B) ≡ false = rw (add-one, e) at h in
       simp (k, j)
-
-  pub all-marked : (i : ℕ) (t : List ℕ) → i ≡ functionCount (B .functions) → Cut (B .edition) (B .code) (endBefore B i) t → Marked (B .edition) (B .code) (set t (endBefore B i) 1)
-  all-marked i t e cut q l h =
-      let a : endBefore B i ≡ length (B .code) = ap (endBefore B) e ∙ fills B good in
-      marked-here (B .edition) (B .code) (endBefore B i) 0 t cut q (omega arith) h
 
   -- ---- an owned place lies in the code
 
@@ -120,8 +118,9 @@ module _ (B : Bodies) (ls : List ℕ) (i o p : ℕ) (owner : o ≡ word 4 ls (8 
       let g : owns (B .functions) (B .entry) (word 4 ls (labelAt i)) (word 4 ls (labelAt i + 4)) ≡ false = cc in
       simp g
 
-  pub owned-marked : owns (B .functions) (B .entry) o p ≡ true → (x : ℕ) → x ≡ mark (B .edition) (B .code) p → not (eqb x 1) ≡ badLabel B ls i
+  pub owned-marked : owns (B .functions) (B .entry) o p ≡ true → (t : List ℕ) → StartsExactly (B .edition) (B .code) t → p < length (B .code) → p < length t
+      → not (eqb (getD t p 0) 1) ≡ badLabel B ls i
   unfolding badLabel
-  owned-marked h x m =
+  owned-marked h t exact l m =
       let g : owns (B .functions) (B .entry) (word 4 ls (labelAt i)) (word 4 ls (labelAt i + 4)) ≡ true = cc in
-      simp g (ap not (mark-tells (B .edition) (B .code) p x m ∙ ap (λ (q : ℕ). eqb (dueIn B q) 0) place))
+      simp g (ap not (start-tells (B .edition) (B .code) t exact p l m ∙ ap (λ (q : ℕ). eqb (dueIn B q) 0) place))

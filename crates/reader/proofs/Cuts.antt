@@ -63,7 +63,7 @@ module _ (ed : ℕ) (s : List ℕ) (p z : ℕ) (begins : due ed s p ≡ 0) (size
 
 -- ---- marks
 
-mark-one : (ed : ℕ) (s : List ℕ) (q : ℕ) → due ed s q ≡ 0 → 1 ≡ mark ed s q
+pub mark-one : (ed : ℕ) (s : List ℕ) (q : ℕ) → due ed s q ≡ 0 → 1 ≡ mark ed s q
 unfolding mark
 mark-one ed s q h = simp (eq-eqb _ _ h)
 
@@ -93,7 +93,7 @@ absent-here (bare i) h = absurd (omega (arith, h))
 absent-here (wide i) h = absurd (omega (arith, h))
 
 module _ (ed : ℕ) (s : List ℕ) (p z : ℕ) (t : List ℕ) (cut : Cut ed s p t) where
-  pub marked-here : (q : ℕ) → q ≤ p → q < length (set t p 1) → getD (set t p 1) q 0 ≡ mark ed s q
+  marked-here : (q : ℕ) → q ≤ p → q < length (set t p 1) → getD (set t p 1) q 0 ≡ mark ed s q
   marked-here q l h =
       let g : q < length t = rw length-set at h in
       ⊎-elim (λ e. let e' : q ≡ p = e in rw e' (getD-set-same t p 1 0 (omega arith) ∙ mark-one ed s p (cut .begins)))

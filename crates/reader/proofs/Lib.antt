@@ -2,6 +2,7 @@
 pub mod Records
 pub mod Table
 pub mod Cuts
+pub mod Starts
 pub mod BareRuns
 pub mod Bodies
 pub mod Opening

@@ -3,11 +3,13 @@ use Prim.Native.Nat.{ℕ, zero, suc, _+_, _≤_, _<_}
 use mathlib.Core.Path.{_≡_}
 use mathlib.Core.Bool.{Bool, true, false, cond, _&&_, _||_}
 use mathlib.Core.List.{List}
+use mathlib.Core.Option.{some}
 use lib.ListN.{length, getD, set}
 use lib.Dec.{eqb}
 use Rattle.rules.specs.Bytes.{byte, some-below}
+use Rattle.rules.specs.declared.Instruction.{Instruction}
 use Rattle.rules.specs.Instructions.{Opcode, absent, bare, wide, edition3, opcodeOf}
-use Rattle.rules.specs.Tables.{due, unknownAt, differs}
+use Rattle.rules.specs.Tables.{due, unknownAt, differs, codeOf}
 
 -- the bytes of an opcode's instruction; 0 for none
 abbrev pub sizeIn : Opcode → ℕ
@@ -55,7 +57,17 @@ abbrev pub Walked : Bool → ℕ → List ℕ → ℕ → List ℕ → Type 0
 Walked true e s p t = Cut e s p t
 Walked false e s p t = Fails e s p
 
--- The table of starts: as far as the table goes, it has 1 at exactly those places of the code that begin an instruction, and at the code's end, and 0
--- at all others. `bad_code` ensures this of code that passes row 8.
-abbrev pub Marked : ℕ → List ℕ → List ℕ → Type 0
-Marked e s t = (q : ℕ) → q ≤ length s → q < length t → getD t q 0 ≡ mark e s q
+-- ---- the table of starts
+
+-- an instruction begins at place p of the code s, in edition e: no operand byte is due there
+abbrev pub Begins : ℕ → List ℕ → ℕ → Type 0
+Begins e s p = (p < length s) × (due e s p ≡ 0)
+
+-- As far as the table t goes, it marks exactly the places of the code that begin an instruction.
+pub record StartsExactly (e : ℕ) (s t : List ℕ) : Type 0 where
+  -- no place is marked too many: not one inside an instruction, not the code's end, none past it
+  pub only : (p : ℕ) → getD t p 0 ≡ 1 → Begins e s p
+  -- none is missing
+  pub each : (p : ℕ) → p < length t → Begins e s p → getD t p 0 ≡ 1
+  -- and the module has an instruction there
+  pub found : (p : ℕ) → Begins e s p → (i : Instruction) × (codeOf e s p ≡ some i)

@@ -6,7 +6,7 @@ ghost use lib.ListN.{length, set};
 ghost use Rattle.rules.specs.Instructions.{edition3, opcodeOf};
 ghost use Rattle.rules.specs.Tables.{bodies, badFunctions, badCode};
 ghost use Rattle.format.specs.Layout.{Fits};
-ghost use Rattle.reader.specs.Cut.{sizeIn, Blank, Cut, Walked, Marked};
+ghost use Rattle.reader.specs.Cut.{sizeIn, Blank, Cut, Walked, StartsExactly};
 use crate::blocks;
 
 // A bit for each opcode that a word follows: 01, 03 to 05, 20 to 27 hex.
@@ -72,13 +72,13 @@ fn walk_body(code: &[u8], from: usize, to: usize, starts: &mut [u8]) -> bool
     p == to
 }
 
-// Row 8. A blank table gets a mark at each place that begins an instruction, and at the end.
+// Row 8. A blank table gets a mark at each place that begins an instruction, and at no other.
 pub(crate) fn bad_code(functions: &[u8], code: &[u8], entry: usize, starts: &mut [u8]) -> bool
     requires { ⌜ Fits (now functions) (now code) entry × (badFunctions (bodies 3 (now functions) (now code) entry) ≡ false) ⌝ }
     requires { ⌜ Blank (now starts) ⌝ }
     ensures { λ r. ⌜ length (now (starts .exit)) ≡ length (now (starts .entry)) ⌝ }
     ensures { λ r. ⌜ r ≡ badCode (bodies 3 (now (functions .entry)) (now (code .entry)) entry) ⌝ }
-    ensures { λ r. ⌜ (r ≡ false → Marked 3 (now (code .entry)) (now (starts .exit))) ⌝ }
+    ensures { λ r. ⌜ (r ≡ false → StartsExactly 3 (now (code .entry)) (now (starts .exit))) ⌝ }
 {
     let n = functions.len() / 20;
     let mut from = 0;
@@ -90,7 +90,6 @@ pub(crate) fn bad_code(functions: &[u8], code: &[u8], entry: usize, starts: &mut
             return true;
         }
         if i == n {
-            mark(starts, end);
             return false;
         }
         let at = 20 * i;

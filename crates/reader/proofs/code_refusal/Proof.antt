@@ -1,5 +1,7 @@
 -- The proof of `reader::code_refusal`.
 use native.Mathlib.Omega.{arith}
+use mathlib.Core.Bool.{true≢false}
+use mathlib.Core.Path.{sym, _∙_}
 use borrow.Author.Needs.{needs}
 use Rattle.rules.specs.Tables.{firstOf}
 use Rattle.reader.proofs.code_refusal.Statement.{statement}
@@ -13,7 +15,10 @@ same-length c = search needs
 
 returns : tie.Need-returns
 unfolding firstOf
-returns c = simp (← c .before .before .before .bad-code .ensures .1 .0, c .if1 .taken)
+returns c = let at-bad-code = c .before .before .before .bad-code in (
+  simp (← at-bad-code .ensures .1 .0, c .if1 .taken),
+  λ e. absurd (true≢false (sym (c .if1 .taken) ∙ at-bad-code .ensures .1 .0 ∙ e)),
+)
 
 bad-labels-requires : tie.Need-bad-labels-requires
 bad-labels-requires c κs = let at-start = c .before .before .before .before .before .before .before .before .before .before in
@@ -25,14 +30,18 @@ same-length-2 c = search needs
 
 returns-2 : tie.Need-returns-2
 unfolding firstOf
-returns-2 c = simp (← c .before .before .before .before .before .before .bad-code .ensures .1 .0, c .before .before .before .if1 .left, ← c .before .bad-labels .ensures, c .if2 .taken)
+returns-2 c = let at-bad-code = c .before .before .before .before .before .before .bad-code in
+    let good = c .before .before .before .if1 .left in
+    (simp (← at-bad-code .ensures .1 .0, good, ← c .before .bad-labels .ensures, c .if2 .taken), λ e. at-bad-code .ensures .1 .1 good)
 
 same-length-3 : tie.Need-same-length-3
 same-length-3 c = search needs
 
 returns-3 : tie.Need-returns-3
 unfolding firstOf
-returns-3 c = simp (← c .before .before .before .before .before .before .bad-code .ensures .1 .0, c .before .before .before .if1 .left, ← c .before .bad-labels .ensures, c .if2 .left)
+returns-3 c = let at-bad-code = c .before .before .before .before .before .before .bad-code in
+    let good = c .before .before .before .if1 .left in
+    (simp (← at-bad-code .ensures .1 .0, good, ← c .before .bad-labels .ensures, c .if2 .left), λ e. at-bad-code .ensures .1 .1 good)
 
 pub code-refusal-spec : {M : Type 1} → statement M
 code-refusal-spec =

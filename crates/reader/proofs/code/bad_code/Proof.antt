@@ -1,14 +1,13 @@
 -- The proof of `reader::code::bad_code`.
-use Prim.Native.Nat.{ℕ, _+_, _-_, _≤_}
+use Prim.Native.Nat.{_+_, _-_, _≤_}
 use native.Mathlib.Omega.{arith}
 use mathlib.Core.Bool.{true≢false, false}
-use mathlib.Core.List.{List}
-use mathlib.Core.Path.{_≡_, refl, sym, _∙_, ap, subst}
-use lib.ListN.{set, length, length-set}
-use borrow.Author.Needs.{needs}
+use mathlib.Core.Path.{_≡_, refl, _∙_}
+use lib.ListN.{length}
 use borrow.Author.Tests.{not-true, not-false}
-use Rattle.reader.proofs.Bodies.{cut-none, failed, passed, end-first, end-next, end-inside, bad-body, good-bodies, all-marked, crossed-more}
-use Rattle.reader.specs.Cut.{Marked, Cut}
+use Rattle.reader.proofs.Bodies.{cut-none, failed, passed, end-first, end-next, end-inside, bad-body, at-end, good-bodies, crossed-more}
+use Rattle.reader.proofs.Starts.{starts-exactly}
+use Rattle.reader.specs.Cut.{Cut}
 use Rattle.rules.specs.Bytes.{some-below}
 use Rattle.rules.specs.Tables.{Bodies, bodies, functionCount, crossed, endBefore}
 use Rattle.reader.proofs.code.bad_code.Statement.{statement}
@@ -47,27 +46,20 @@ returns c = let at-start = c .before .before .before .before .before .before .be
       ),
     )
 
-mark-requires : tie.Need-mark-requires Inv-loop μ-loop
-mark-requires c κs = search needs
-
 same-length-2 : tie.Need-same-length-2 Inv-loop μ-loop
-same-length-2 c = let at-walk-body = c .before .before .before .before .before .before .before .before .walk-body in
-    let at-loop = c .before .before .before .before .before .before .before .before .before .before .loop in
-    ap length (c .before .before .mark .ensures) ∙ length-set (at-walk-body .last .1 .1 .1 .0) (at-loop .end) 1 ∙ at-walk-body .ensures .0 ∙ at-loop .inv .4
+same-length-2 c = c .before .before .before .before .walk-body .ensures .0 ∙ c .before .before .before .before .before .before .loop .inv .4
 
 returns-2 : tie.Need-returns-2 Inv-loop μ-loop
-returns-2 c = let at-start = c .before .before .before .before .before .before .before .before .before .before .before .before .before .before in
-    let at-loop = c .before .before .before .before .before .before .before .before .before .before .loop in
-    let at-walk-body = c .before .before .before .before .before .before .before .before .walk-body in
-    let at-mark = c .before .before .mark in
+returns-2 c = let at-start = c .before .before .before .before .before .before .before .before .before .before in
+    let at-loop = c .before .before .before .before .before .before .loop in
+    let at-walk-body = c .before .before .before .before .walk-body in
     let B : Bodies = bodies 3 (at-start .args .functions .now) (at-start .args .code .now) (at-start .args .entry) in let i = at-loop .i in let t = at-walk-body .last .1 .1 .1 .0 in
     let e : i ≡ functionCount (B .functions) = omega arith in
-    let m : at-mark .last .0 ≡ set t (endBefore B i) 1 = at-mark .ensures ∙ ap (λ (x : ℕ). set t x 1) (at-loop .inv .1) in
-    let cut = passed _ _ _ _ t _ (not-false (at-walk-body .result) (c .before .before .before .before .before .if1 .left)) (at-loop .inv .1) (at-walk-body .ensures .1) in (
-      ap length (at-mark .ensures) ∙ length-set t (at-loop .end) 1 ∙ at-walk-body .ensures .0 ∙ at-loop .inv .4,
+    let cut = passed _ _ _ _ t _ (not-false (at-walk-body .result) (c .before .if1 .left)) (at-loop .inv .1) (at-walk-body .ensures .1) in (
+      at-walk-body .ensures .0 ∙ at-loop .inv .4,
       (
         good-bodies B (at-start .pre .0 .1) i t e cut (crossed-more B (at-start .pre .0 .1) i t (at-loop .inv .5) cut),
-        λ z. subst (λ (x : List ℕ). Marked 3 (B .code) x) (sym m) (all-marked B (at-start .pre .0 .1) i t e cut),
+        λ z. starts-exactly 3 (B .code) t (at-end B (at-start .pre .0 .1) i t e cut),
       ),
     )
 
@@ -115,7 +107,6 @@ bad-code-spec =
     walk-body-requires
     same-length
     returns
-    mark-requires
     same-length-2
     returns-2
     mul-at

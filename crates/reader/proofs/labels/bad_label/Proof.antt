@@ -43,7 +43,7 @@ returns-2 c = let at-start = c .before .before .before .before .before .before .
     let B = bodies 3 (at-start .args .functions .now) (at-start .args .code .now) (at-start .args .entry) in
     let h = sym (at-owned .ensures) ∙ not-false (at-owned .result) (c .before .if1 .left) in
     let l = owned-inside B (at-start .pre .0 .1) (at-word .result) (at-word2 .result) (at-start .pre .0 .0 .entry-inside) h in
-    owned-marked B (at-start .args .labels .now) (at-start .args .i) _ _ (at-word .ensures .0) (at-word2 .ensures .0) h _ (at-start .pre .1 .1 (at-word2 .result) (omega arith) (omega arith))
+    owned-marked B (at-start .args .labels .now) (at-start .args .i) _ _ (at-word .ensures .0) (at-word2 .ensures .0) h _ (at-start .pre .1 .1) (omega arith) (omega arith)
 
 pub bad-label-spec : {M : Type 1} → statement M
 bad-label-spec =
