@@ -6,8 +6,8 @@
 #include <stdio.h>
 #include <stdlib.h>
 #include <string.h>
-#include <time.h>
 
+#include "baseline/baseline.h"
 #include "calls.h"
 
 // Allowances: for the whole of a run, and for as many steps of it as are counted.
@@ -15,25 +15,17 @@ static const uint64_t whole = 1ull << 40, counted_steps = 1000000;
 
 enum { SEED = 12345, ROUNDS = 30 };
 
+enum { LIBRARY, BASELINE, SIDES };
+
+static const Side baseline = {baseline_check,   baseline_run,   baseline_write,
+                              "baseline_check", "baseline_run", "baseline_write"};
+static const Side *const sides[SIDES] = {[LIBRARY] = &library, [BASELINE] = &baseline};
+
 static File files[ROWS];
 static Lent lent[SIDES];
 
 // How many calls are compared and counted: a recipe's depend on its arguments.
 static uint32_t counted_calls(int i) { return rows[i].kind == RECIPE ? 1000 : 1; }
-
-static void load(const char *directory) {
-    for (int i = 0; i < ROWS; i++) {
-        char path[1000];
-        snprintf(path, sizeof path, "%s/%s.lsk", directory, rows[i].module);
-        FILE *file = fopen(path, "rb");
-        if (file == NULL) {
-            perror(path);
-            exit(2);
-        }
-        files[i].length = fread(files[i].file, 1, sizeof files[i].file, file);
-        fclose(file);
-    }
-}
 
 // ---- comparing
 
@@ -53,7 +45,7 @@ static int compare(int i) {
     for (uint32_t k = 0; k < counted_calls(i); k++) {
         for (int s = 0; s < SIDES; s++) {
             lend(&lent[s]);
-            turn(&sides[s], &rows[i], &files[i], 1, whole, SEED + k, &lent[s]);
+            turn(sides[s], &rows[i], &files[i], 1, whole, SEED + k, &lent[s]);
         }
         if (!same(i))
             return 0;
@@ -63,15 +55,9 @@ static int compare(int i) {
 
 // ---- times
 
-static double seconds(void) {
-    struct timespec t;
-    clock_gettime(CLOCK_THREAD_CPUTIME_ID, &t);
-    return t.tv_sec + t.tv_nsec * 1e-9;
-}
-
 static double timed(int s, int i, uint32_t calls) {
     double from = seconds();
-    turn(&sides[s], &rows[i], &files[i], calls, whole, SEED, &lent[s]);
+    turn(sides[s], &rows[i], &files[i], calls, whole, SEED, &lent[s]);
     return seconds() - from;
 }
 
@@ -103,7 +89,7 @@ static int time_all(int rounds, double smallest[ROWS][SIDES]) {
 // ---- machine instructions
 
 static void counted_turn(int i, int s) {
-    turn(&sides[s], &rows[i], &files[i], counted_calls(i), counted_steps, SEED, &lent[s]);
+    turn(sides[s], &rows[i], &files[i], counted_calls(i), counted_steps, SEED, &lent[s]);
 }
 
 // Instructions between a call of the row's function and its return, by callgrind on a program that does the turn. Its
@@ -114,7 +100,7 @@ static double counted(const char *program, const char *directory, int i, int s) 
     snprintf(command, sizeof command,
              "env -i PATH=\"$PATH\" valgrind --tool=callgrind --callgrind-out-file=/dev/null --toggle-collect=%s "
              "'%s' '%s' --turn %d %d 2>&1",
-             called(&sides[s], &rows[i]), program, directory, i, s);
+             called(sides[s], &rows[i]), program, directory, i, s);
     FILE *output = popen(command, "r");
     while (output != NULL && fgets(line, sizeof line, output)) {
         const char *at = strstr(line, "Collected : ");
@@ -160,7 +146,8 @@ int main(int argc, char **argv) {
         fprintf(stderr, "usage: bench MODULES [ROUNDS | --count]\n");
         return 2;
     }
-    load(argv[1]);
+    for (int i = 0; i < ROWS; i++)
+        load(argv[1], rows[i].module, &files[i]);
     if (argc == 5 && !strcmp(what, "--turn")) {
         counted_turn(atoi(argv[3]), atoi(argv[4]));
         return 0;

@@ -1,14 +1,24 @@
 #include "calls.h"
 
+#include <stdio.h>
+#include <stdlib.h>
 #include <string.h>
+#include <time.h>
 
-#include "baseline/baseline.h"
+const Side library = {limpetskein_check,   limpetskein_run,   limpetskein_write,
+                      "limpetskein_check", "limpetskein_run", "limpetskein_write"};
 
-const Side sides[SIDES] = {
-    [LIBRARY] = {limpetskein_check, limpetskein_run, limpetskein_write, "limpetskein_check", "limpetskein_run",
-                 "limpetskein_write"},
-    [BASELINE] = {baseline_check, baseline_run, baseline_write, "baseline_check", "baseline_run", "baseline_write"},
-};
+void load(const char *directory, const char *name, File *module) {
+    char path[1000];
+    snprintf(path, sizeof path, "%s/%s.lsk", directory, name);
+    FILE *file = fopen(path, "rb");
+    if (file == NULL) {
+        perror(path);
+        exit(2);
+    }
+    module->length = fread(module->file, 1, sizeof module->file, file);
+    fclose(file);
+}
 
 const char *called(const Side *side, const Row *row) {
     return row->kind == CHECK ? side->check_name : row->kind == WRITE ? side->write_name : side->run_name;
@@ -79,4 +89,10 @@ void turn(const Side *side, const Row *row, const File *module, uint32_t calls, 
             open_only(side, module, lent);
         }
     }
+}
+
+double seconds(void) {
+    struct timespec t;
+    clock_gettime(CLOCK_THREAD_CPUTIME_ID, &t);
+    return t.tv_sec + t.tv_nsec * 1e-9;
 }

@@ -15,14 +15,15 @@ typedef struct {
     const char *check_name, *run_name, *write_name;
 } Side;
 
-enum { LIBRARY, BASELINE, SIDES };
-
-extern const Side sides[SIDES];
+extern const Side library;
 
 typedef struct {
     uint8_t file[LIMPETSKEIN_LONGEST_MODULE];
     size_t length;
 } File;
+
+// The module of this name in a directory; without it the program ends.
+void load(const char *directory, const char *name, File *module);
 
 enum { GUARD = 64, ROOM = LIMPETSKEIN_MOST_LABELS * LIMPETSKEIN_ROOM_PER_LABEL };
 
@@ -43,5 +44,8 @@ void lend(Lent *lent);
 // A turn: this many calls. A recipe gets other arguments in each, which depend on the seed alone.
 void turn(const Side *side, const Row *row, const File *module, uint32_t calls, uint64_t allowance, uint32_t seed,
           Lent *lent);
+
+// The thread's own time.
+double seconds(void);
 
 #endif

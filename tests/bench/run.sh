@@ -28,5 +28,5 @@ fi
 "$root/target/tests/release/workloads" "$made/modules"
 "$bench/baseline/build.sh" "$made"
 # -z now: no call is counted that looks a function up
-cc -O2 -Wall -Wextra -Werror -I"$root/include" -Wl,-z,now -o "$made/bench" "$bench"/*.c "$made/libbaseline.a" "$library"
+cc -O2 -Wall -Wextra -Werror -I"$root/include" -Wl,-z,now -o "$made/bench" "$bench"/bench.c "$bench"/calls.c "$bench"/rows.c "$made/libbaseline.a" "$library"
 exec "$made/bench" "$made/modules" "$@"

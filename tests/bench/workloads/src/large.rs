@@ -10,6 +10,8 @@ pub fn modules() -> Vec<(&'static str, Vec<u8>)> {
         ("full", full()),
         ("last-labels", one_byte_instructions(256)),
         ("no-labels", one_byte_instructions(0)),
+        ("last-labels-wide", five_byte_instructions(256)),
+        ("no-labels-wide", five_byte_instructions(0)),
         ("chain", backward_chain()),
         ("joins", joins()),
     ];
@@ -56,11 +58,24 @@ fn function(i: usize, negs: usize) -> String {
 
 /// 16,384 bytes of code, all but the first instruction of one byte, with labels on the last.
 fn one_byte_instructions(labels: usize) -> String {
-    let labels: String = (0..labels).map(|n| format!("@{n}; ")).collect();
+    let labels = labels_here(labels);
     format!(
         "int 1; entry: push 0; {}{labels}pop",
         "neg; ".repeat(CODE - 6)
     )
+}
+
+/// 16,384 bytes of code, 3,276 instructions of five bytes and four of one, with labels on the last.
+fn five_byte_instructions(labels: usize) -> String {
+    let labels = labels_here(labels);
+    format!(
+        "int 1; entry: push 0; push 0; {}neg; neg; neg; {labels}pop",
+        "store 0; load 0; ".repeat(1637)
+    )
+}
+
+fn labels_here(labels: usize) -> String {
+    (0..labels).map(|n| format!("@{n}; ")).collect()
 }
 
 /// 256 blocks with a label each; the entry jumps to the last, each block to the one before it.
