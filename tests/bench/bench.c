@@ -130,10 +130,11 @@ static int print(const char *what, double scale, double figures[ROWS][SIDES], in
         double ours = scale * figures[i][LIBRARY], c = scale * figures[i][BASELINE], ratio = ours / c;
         int decimals = rows[i].kind == RUN ? 2 : 1;
         printf("  %-46s %10.*f %10.*f  %5.2f", rows[i].name, decimals, ours, decimals, c, ratio);
+        double limit = limit_of(&rows[i]);
         if (limits)
-            printf("  %5.2f%s", group->limit, ratio > group->limit ? "  OVER" : "");
+            printf("  %5.2f%s", limit, ratio > limit ? "  OVER" : "");
         printf("\n");
-        over += ratio > group->limit;
+        over += ratio > limit;
     }
     return over;
 }

@@ -2,6 +2,10 @@
 
 #include "limpetskein.h"
 
+// W1's check judges three instructions: what it costs is opening the file, clearing tables and calls.
+enum { SHORTEST = 10 };
+static const double shortest_limit = 2.25;
+
 const Group groups[KINDS] = {
     [RUN] = {"runs", "a step", 1.25, LIMPETSKEIN_DONE},
     [RECIPE] = {"recipes", "a call", 1.3, LIMPETSKEIN_DONE},
@@ -36,3 +40,5 @@ const Row rows[ROWS] = {
     {"the recipe of 40 steps", "recipe-40", WRITE, 0},
     {"all counts at their limits", "full", WRITE, 0},
 };
+
+double limit_of(const Row *row) { return row == &rows[SHORTEST] ? shortest_limit : groups[row->kind].limit; }

@@ -25,4 +25,7 @@ enum { ROWS = 24 };
 extern const Group groups[KINDS];
 extern const Row rows[ROWS];
 
+// A row's limit: its kind's, but for the check of the shortest module.
+double limit_of(const Row *row);
+
 #endif
