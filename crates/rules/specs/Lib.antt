@@ -20,12 +20,17 @@ pub mod Ends
 pub mod Claims
 pub mod Saved
 pub mod Files
+pub mod Grammar
+pub mod Reading
+pub mod Formula
+pub mod Compiled
 pub mod Evaluate
 pub mod Samples
 pub mod Exceptions
 pub mod HostCalls
 pub mod Refusals
 pub mod Writings
+pub mod Formulas
 pub mod Typings
 pub mod Values
 pub mod Printed
