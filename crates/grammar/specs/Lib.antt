@@ -1,0 +1,11 @@
+pub mod Steps
+pub mod Unique
+pub mod Derived
+pub mod Scan
+pub mod Scanned
+pub mod Proper
+pub mod Coded
+pub mod Evaluated
+pub mod Typed
+pub mod Held
+pub mod Compiling
