@@ -1,0 +1,4 @@
+pub mod Tokens
+pub mod Readers
+pub mod Scans
+pub mod Lines
