@@ -1,5 +1,6 @@
 /*
- * limpetskein.h: the check of a module, the run of one of its bodies, and the writer of modules, for C.
+ * limpetskein.h: for C, the check of a module, the run of one of its bodies, the writer of modules, and the compiler of
+ * formula lines.
  *
  * Link with target/staticlib/liblimpetskein.a (`rt staticlib limpetskein`; x86-64 Linux).
  *
@@ -45,15 +46,21 @@ extern "C" {
 #define LIMPETSKEIN_FUNCTION 20
 #define LIMPETSKEIN_LABEL 8
 
+/* Limits of formula lines, and what serves every run of what they compile to. */
+#define LIMPETSKEIN_LONGEST_LINE 256     /* bytes */
+#define LIMPETSKEIN_LONGEST_FORMULA 2373 /* bytes of the module of a line */
+#define LIMPETSKEIN_FORMULA_ALLOWANCE 257
+#define LIMPETSKEIN_FORMULA_SLOTS 35
+
 /* Type bytes of slots and arguments. */
 #define LIMPETSKEIN_INT 3     /* 32 bits; the payload's upper four bytes are zero */
 #define LIMPETSKEIN_LONG 4    /* 64 bits */
 #define LIMPETSKEIN_DOUBLE 6  /* the bits of an IEEE 754 double */
 #define LIMPETSKEIN_POINTER 7 /* the number of a slot, from 0, the deepest */
 
-/* Answers. A call gives the first in number order that holds. */
+/* Answers. A call gives the first in number order that holds; of a formula line 16 comes last. */
 enum {
-    LIMPETSKEIN_DONE = 0, /* check: accepted. run: finished. write: written */
+    LIMPETSKEIN_DONE = 0, /* check: accepted. run: finished. write and formula: written */
 
     /* The module can't be read: check and run. 4 to 9 also: these tables are no module: write. */
     LIMPETSKEIN_TOO_SHORT = 1,     /* under 48 bytes */
@@ -76,8 +83,8 @@ enum {
     LIMPETSKEIN_BAD_ARGUMENTS = 13, /* not 8 payload bytes per type byte, other types than declared, an int with
                                        upper bits, a pointer parameter, or arguments for the entry */
 
-    /* Write only. */
-    LIMPETSKEIN_OUTPUT_TOO_SHORT = 16, /* the tables are a module, and the output is shorter than it */
+    /* Write and formula. */
+    LIMPETSKEIN_OUTPUT_TOO_SHORT = 16, /* tables or line are a module's, and the output is shorter than it */
 
     /* Run only: it stopped. Of an accepted module only 0, 15, 20, 24 and 35 come from a run that started. */
     LIMPETSKEIN_ALLOWANCE_USED_UP = 15,
@@ -96,7 +103,13 @@ enum {
     LIMPETSKEIN_POINTER_INVALIDFORPOINTER = 32,
     LIMPETSKEIN_POINTER_UNKNOWNADDRESS = 33,
     LIMPETSKEIN_DOUBLE_INVALIDFORDOUBLE = 34,
-    LIMPETSKEIN_DOUBLE_UNORDERED = 35 /* cmp or icmp of two doubles, one of them a NaN */
+    LIMPETSKEIN_DOUBLE_UNORDERED = 35, /* cmp or icmp of two doubles, one of them a NaN */
+
+    /* Formula only. */
+    LIMPETSKEIN_LINE_TOO_LONG = 40,    /* over 256 bytes, whatever they are */
+    LIMPETSKEIN_NOT_IN_GRAMMAR = 41,   /* no formula, however deep brackets may be; or a number over 4294967295 */
+    LIMPETSKEIN_TOO_DEEP = 42,         /* brackets in brackets, over 16 deep */
+    LIMPETSKEIN_TOO_MANY_OPERANDS = 43 /* over 32 operands would wait on the stack at once */
 };
 
 /*
@@ -162,6 +175,30 @@ uint32_t limpetskein_run(const uint8_t *module, size_t module_len, uint32_t func
 uint32_t limpetskein_write(const uint8_t *constants, size_t constants_len, const uint8_t *functions,
                            size_t functions_len, const uint8_t *labels, size_t labels_len, const uint8_t *code,
                            size_t code_len, uint32_t entry_length, uint8_t *out, size_t out_len, uint64_t *written);
+
+/*
+ * Compiles a formula line, such as (r*3+g)/4, to a module: 0, 16, 40 to 43.
+ *
+ *   line      unsigned decimal numbers up to 4294967295, leading zeros allowed; the names r, g, b; the signs + - * /;
+ *             brackets, up to 16 deep; minuses before a number, a name, a bracket or a minus; spaces (byte 20 hex)
+ *             anywhere but inside a number. Products go before sums, equal ranks from the left, and a minus belongs to
+ *             what follows it: -r*3 is (-r)*3. No other byte, no end of line, no sign left out: 2r is 41.
+ *   *written  written with 0 only: the module's length, at most LIMPETSKEIN_LONGEST_FORMULA.
+ *
+ * The order of the refusals is 40, 41, 42, 43, 16. So 41 is given also where the line is too deep.
+ *
+ * The output after the call:
+ *   16, 40 to 43  unchanged.
+ *   0             the module, and past it unchanged. It has no entry code, no labels, a constant for each number, and
+ *                 function 0: three ints r, g, b, parameters 0 to 2, to an int. The check accepts it. Run on three ints
+ *                 with LIMPETSKEIN_FORMULA_ALLOWANCE steps and LIMPETSKEIN_FORMULA_SLOTS slots, or more, function 0
+ *                 finishes with the line's value in unsigned 32-bit arithmetic that wraps (-1 is 4294967295, and / cuts
+ *                 the quotient), or stops with 24 where any quotient in the line is by zero.
+ *
+ * Brackets are read at most 16 deep, whatever the line is. The most of the thread's stack that was measured for a call
+ * is 7,676 bytes, for 256 bytes at depth 16; the tests refuse over 32 KB.
+ */
+uint32_t limpetskein_formula(const uint8_t *line, size_t line_len, uint8_t *out, size_t out_len, uint64_t *written);
 
 #ifdef __cplusplus
 }

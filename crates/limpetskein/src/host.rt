@@ -6,6 +6,7 @@ ghost use Rattle.rules.specs.Writing.{writeNumber};
 ghost use Rattle.rules.specs.Host.{bodyAfter, stepsAfter, heightAfter, writtenAfter};
 ghost use Rattle.limpetskein.specs.Promises.{lentOf, HostCheckKeeps, HostRunKeeps};
 ghost use Rattle.limpetskein.specs.WritePromises.{HostWriteKeeps};
+ghost use Rattle.limpetskein.specs.FormulaPromises.{HostFormulaKeeps};
 use rules::CheckAnswer;
 use rules::RunAnswer;
 use rules::WriteAnswer;
@@ -120,5 +121,14 @@ pub extern "C" fn limpetskein_write(
         entry_length as usize,
         out,
     );
+    write_number(answer, written)
+}
+
+// `formula` for C.
+#[no_mangle]
+pub extern "C" fn limpetskein_formula(line: &[u8], out: &mut [u8], written: &mut u64) -> u32
+    ensures { λ r. ⌜ HostFormulaKeeps (now (line .entry)) (now (out .entry)) (now (written .entry)) r (now (out .exit)) (now (written .exit)) ⌝ }
+{
+    let answer = crate::formula(line, out);
     write_number(answer, written)
 }

@@ -1,7 +1,9 @@
-// The public library: the check of any bytes, the run of any body of any bytes, and the writer of modules.
+// The public library: the check of any bytes, the run of any body of any bytes, the writer of modules, and the compiler of formula lines.
 ghost use Rattle.rules.specs.Tables.{tables};
 ghost use Rattle.limpetskein.specs.Promises.{lentOf, CheckKeeps, RunKeeps};
+ghost use Rattle.rules.specs.Grammar.{StopsAt};
 ghost use Rattle.limpetskein.specs.WritePromises.{WriteKeeps};
+ghost use Rattle.limpetskein.specs.FormulaPromises.{FormulaKeeps};
 use rules::CheckAnswer;
 use rules::RunAnswer;
 use rules::WriteAnswer;
@@ -50,4 +52,18 @@ pub fn write(
     ensures { λ r. ⌜ WriteKeeps (tables 3 (now (constants .entry)) (now (functions .entry)) (now (labels .entry)) (now (code .entry)) entry) (now (out .entry)) r (now (out .exit)) ⌝ }
 {
     writer::write(constants, functions, labels, code, entry, out)
+}
+
+// Compiles a formula line and writes its module into the lent output, or refuses and changes nothing.
+pub fn formula(line: &[u8], out: &mut [u8]) -> WriteAnswer
+    ensures { λ r. ⌜ FormulaKeeps (now (line .entry)) (now (out .entry)) r (now (out .exit)) ⌝ }
+{
+    formula::compile(line, out)
+}
+
+// The place where a formula line stops making sense: its length where it is in the grammar or ends too early.
+pub fn formula_stop(line: &[u8]) -> usize
+    ensures { λ r. ⌜ StopsAt (now (line .entry)) r ⌝ }
+{
+    formula::stop(line)
 }
