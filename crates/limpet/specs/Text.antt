@@ -1,7 +1,7 @@
 -- Text in a lent buffer: what was added to it, and what it holds at the end.
 use Prim.Native.Nat.{ℕ, _+_, _≤_}
 use mathlib.Core.Path.{_≡_}
-use mathlib.Core.List.{List, [], _++_}
+use mathlib.Core.List.{List, _++_}
 use lib.ListN.{length, take}
 use Rattle.rules.specs.declared.Tally.{Tally}
 use Rattle.rules.specs.Stack.{Lent}
@@ -25,6 +25,6 @@ lentOf p t = record { payloads = p; types = t }
 abbrev pub tallyLines : ℕ → Tally → List ℕ → List ℕ → List ℕ
 tallyLines n a p t = line3 n (a .steps) (a .height) ++ slotLines p t (a .height)
 
--- the lines of an accepted module
-abbrev pub entryLines : List ℕ → List ℕ
-entryLines s = ranLines (runModule s 0xffffffff (lentOf [] []) 1000000 programStack)
+-- the lines of the run of a body of an accepted module
+abbrev pub acceptedLines : List ℕ → ℕ → Lent → List ℕ
+acceptedLines s f args = ranLines (runModule s f args 1000000 programStack)

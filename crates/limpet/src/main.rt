@@ -1,96 +1,142 @@
-// The small program: reads a module from standard input, checks it, runs its entry and prints what came of it.
-ghost use Prim.Native.Nat.{_≤_};
+// The small program: moves bytes between the system and the functions that say what is written.
+//
+//     limpet < FILE                       checks a module, runs its entry and prints what came of it
+//     limpet run FUNCTION INT.. < FILE    the same for a function on int arguments
+//     limpet formula LINE                 writes the module of a formula line, or its refusal to standard error
+ghost use Prim.Native.Nat.{_*_, _≤_};
+ghost use mathlib.Core.Path.{_≡_};
+ghost use mathlib.Core.Bool.{true};
 ghost use lib.ListN.{length};
-ghost use Rattle.rules.specs.Host.{heightAfter};
-ghost use Rattle.rules.specs.Program as Program;
-ghost use Rattle.limpet.specs.Text.{Fills, lentOf, tallyLines, entryLines};
-use rules::CheckAnswer;
-use rules::RunAnswer;
-use rules::Tally;
+ghost use Rattle.limpet.specs.Commands.{LendsInts};
 
+mod numbers;
+mod reports;
 mod text;
 
-const ENTRY: u32 = 0xffff_ffff;
+use numbers::Parsed;
+use reports::Compiled;
 
-const ALLOWANCE: u64 = 1_000_000;
-
-const NO_TYPING: u64 = 11;
-
-// A number alone on a line.
-fn number_text(n: u64, out: &mut [u8]) -> usize
-    requires { ⌜ 172095 ≤ length (now out) ⌝ }
-    ensures { λ r. ⌜ Fills (Program.refusedLine n) (now (out .exit)) r ⌝ }
-{
-    text::put_number(n, b'\n', out, 0)
-}
-
-// Outcome, steps and height, then the slots.
-fn tally_text(number: u64, tally: Tally, p: &[u8], t: &[u8], out: &mut [u8]) -> usize
-    requires { ⌜ (32768 ≤ length (now p)) × (4096 ≤ length (now t)) × (172095 ≤ length (now out)) × (tally .height ≤ 4096) ⌝ }
-    ensures { λ r. ⌜ Fills (tallyLines number tally (now (p .entry)) (now (t .entry))) (now (out .exit)) r ⌝ }
-{
-    let at = text::put_line3(number, tally.steps, tally.height, out, 0);
-    let h = tally.height as usize;
-    text::put_slots(p, t, h, out, at)
-}
-
-// What a run answered.
-fn run_text(answer: RunAnswer, p: &[u8], t: &[u8], out: &mut [u8]) -> usize
-    requires { ⌜ (32768 ≤ length (now p)) × (4096 ≤ length (now t)) × (172095 ≤ length (now out)) × (heightAfter answer 0 ≤ 4096) ⌝ }
-    ensures { λ r. ⌜ Fills (Program.runLines answer (lentOf (now (p .entry)) (now (t .entry)))) (now (out .exit)) r ⌝ }
-{
-    match answer {
-        RunAnswer::Rejected(n) => number_text(n as u64, out),
-        RunAnswer::Stopped(n, tally) => tally_text(n as u64, tally, p, t, out),
-        RunAnswer::Finished(tally) => tally_text(0, tally, p, t, out),
+// Standard output, or why it takes no more.
+fn put_out(bytes: &[u8]) {
+    if !io::write_all(libc::STDOUT_FILENO, bytes) {
+        os::fail(b"limpet");
     }
 }
 
-// The run of the entry on 4,096 slots.
-fn entry_text(file: &[u8], out: &mut [u8]) -> usize
-    requires { ⌜ 172095 ≤ length (now out) ⌝ }
-    ensures { λ r. ⌜ Fills (entryLines (now (file .entry))) (now (out .exit)) r ⌝ }
-{
-    let mut payloads = [0u8; 32768];
-    let mut types = [0u8; 4096];
-    let none = &file[0..0];
-    let answer = limpetskein::run(
-        file,
-        ENTRY,
-        none,
-        none,
-        ALLOWANCE,
-        &mut payloads,
-        &mut types,
-    );
-    run_text(answer, &payloads, &types, out)
-}
-
-// What the program prints for these bytes: answers how many bytes of `out` it is.
-fn report(input: &[u8], out: &mut [u8]) -> usize
-    requires { ⌜ 172095 ≤ length (now out) ⌝ }
-    requires { ⌜ length (now input) ≤ Program.inputLimit ⌝ }
-    ensures { λ r. ⌜ Fills (Program.printed (now (input .entry))) (now (out .exit)) r ⌝ }
-{
-    let mut room = [0u8; 16384];
-    let answer = limpetskein::check(input, &mut room);
-    match answer {
-        CheckAnswer::Refused(n) => number_text(n as u64, out),
-        CheckAnswer::Untyped(_body) => number_text(NO_TYPING, out),
-        CheckAnswer::Accepted => entry_text(input, out),
-    }
-}
-
-fn print(input: &[u8])
-    requires { ⌜ length (now input) ≤ Program.inputLimit ⌝ }
-{
+// Document 01's program.
+fn print_entry() {
+    let mut input = [0u8; 33329];
+    let n = io::read_full(libc::STDIN_FILENO, &mut input);
     let mut out = [0u8; 172095];
-    let n = report(input, &mut out);
-    io::write_all(1, &out[..n]);
+    let m = reports::report(&input[..n], &mut out);
+    put_out(&out[..m]);
+}
+
+// The argument i as a number.
+fn number_in(i: usize) -> Parsed {
+    let mut text = [0u8; 256];
+    let n = os::arg(i, &mut text);
+    numbers::parse_number(&text[..n])
+}
+
+// Lends the arguments from 3 on, which are ints, to a run. Answers whether they are.
+fn lend_ints(count: usize, payloads: &mut [u8], types: &mut [u8]) -> bool
+    requires { ⌜ (count * 8 ≤ length (now payloads)) × (count ≤ length (now types)) ⌝ }
+    ensures { λ r. ⌜ (r ≡ true → LendsInts count (now (payloads .exit)) (now (types .exit))) ⌝ }
+{
+    let mut k = 0;
+    while k < count {
+        let Parsed::Number(n) = number_in(k + 3) else {
+            return false;
+        };
+        numbers::put_int(n, k, payloads, types);
+        k += 1;
+    }
+    true
+}
+
+// The run of a function of the module on standard input.
+fn print_run(function: u32, arg_payloads: &[u8], arg_types: &[u8]) {
+    let mut input = [0u8; 33329];
+    let n = io::read_full(libc::STDIN_FILENO, &mut input);
+    let mut out = [0u8; 172095];
+    let m = reports::run_report(&input[..n], function, arg_payloads, arg_types, &mut out);
+    put_out(&out[..m]);
+}
+
+// `run FUNCTION INT..`, with these many ints. Answers whether the words were understood.
+fn run_command(count: usize) -> bool {
+    let mut payloads = [0u8; 128];
+    let mut types = [0u8; 16];
+    if 16 < count {
+        return false;
+    }
+    let Parsed::Number(function) = number_in(2) else {
+        return false;
+    };
+    if !lend_ints(count, &mut payloads, &mut types) {
+        return false;
+    }
+    let end = 8 * count;
+    print_run(function, &payloads[..end], &types[..count]);
+    true
+}
+
+// The module of a formula line, or its refusal.
+fn print_formula(line: &[u8]) {
+    let mut out = [0u8; 4421];
+    let said = reports::formula_report(line, &mut out);
+    match said {
+        Compiled::Module(n) => {
+            put_out(&out[..n]);
+        }
+        Compiled::Refusal(n) => {
+            io::write_all(libc::STDERR_FILENO, &out[..n]);
+        }
+    }
+}
+
+// `formula LINE`. A longer line than the buffer, which is one byte longer than a line may be, fills it.
+fn formula_command() {
+    let mut line = [0u8; 257];
+    let n = os::arg(2, &mut line);
+    if os::errno() == libc::ENAMETOOLONG {
+        print_formula(&line);
+    } else {
+        print_formula(&line[..n]);
+    }
+}
+
+// A command by its word, of these many words with the program's name.
+fn command(count: usize) -> bool {
+    let mut word = [0u8; 8];
+    let n = os::arg(1, &mut word);
+    if check::same(&word[..n], b"run") {
+        if count < 3 {
+            return false;
+        }
+        return run_command(count - 3);
+    }
+    if check::same(&word[..n], b"formula") {
+        if count != 3 {
+            return false;
+        }
+        formula_command();
+        return true;
+    }
+    false
 }
 
 fn main() {
-    let mut input = [0u8; 33329];
-    let n = io::read_full(0, &mut input);
-    print(&input[..n]);
+    let count = os::arg_count();
+    if count < 2 {
+        print_entry();
+        return;
+    }
+    if !command(count) {
+        io::write_all(
+            libc::STDERR_FILENO,
+            b"usage: limpet < FILE, limpet run FUNCTION INT.. < FILE, or limpet formula LINE\n",
+        );
+    }
 }

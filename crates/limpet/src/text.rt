@@ -32,7 +32,7 @@ pub fn put_number(n: u64, after: u8, out: &mut [u8], at: usize) -> usize
     e + 1
 }
 
-fn put_line2(a: u64, b: u64, out: &mut [u8], at: usize) -> usize
+pub fn put_line2(a: u64, b: u64, out: &mut [u8], at: usize) -> usize
     requires { ⌜ at + 42 ≤ length (now out) ⌝ }
     ensures { λ r. ⌜ Adds 42 (now (out .entry)) at (Program.line2 a b) (now (out .exit)) r ⌝ }
 {

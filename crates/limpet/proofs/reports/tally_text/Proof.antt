@@ -1,9 +1,9 @@
--- The proof of `limpet::tally_text`.
+-- The proof of `limpet::reports::tally_text`.
 use borrow.Author.Needs.{needs}
 use native.Mathlib.Omega.{arith}
-use Rattle.limpet.proofs.Reports.{tally-fills}
-use Rattle.limpet.proofs.tally_text.Statement.{statement}
-use Rattle.limpet.proofs.tally_text.Tie as tie
+use Rattle.limpet.proofs.Lines.{tally-fills}
+use Rattle.limpet.proofs.reports.tally_text.Statement.{statement}
+use Rattle.limpet.proofs.reports.tally_text.Tie as tie
 
 put-line3-requires : tie.Need-put-line3-requires
 put-line3-requires c κs = search needs

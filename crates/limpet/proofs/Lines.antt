@@ -3,8 +3,8 @@ use Prim.Native.Nat.{ℕ, zero, suc, _+_, _*_, _-_, _≤_}
 use native.Mathlib.Omega.{arith}
 use mathlib.Core.Path.{_≡_, refl, sym, ap, subst, _∙_}
 use mathlib.Core.List.{List, [], _∷_, _++_}
-use lib.ListN.{length, drop, length-append, length-replicate}
-use lib.Seq.{take-all}
+use lib.ListN.{length, take, drop, length-append, length-replicate}
+use lib.Seq.{length-take-le, take-all}
 use Rattle.rules.specs.declared.CheckAnswer.{CheckAnswer}
 use Rattle.rules.specs.declared.RunAnswer.{RunAnswer}
 use Rattle.rules.specs.declared.Slot.{Slot}
@@ -16,8 +16,8 @@ use Rattle.rules.specs.Stack.{Lent, capacity, typeBytes, typesAfter}
 use Rattle.rules.specs.Machine.{Outcome}
 use Rattle.rules.specs.Answers.{check, runRefusal, arguments, answered, outcomeOf, Ran, ran, runModule, runWith}
 use Rattle.rules.specs.Host.{heightAfter}
-use Rattle.rules.specs.Program.{inputLimit, line3, slotLines, runLines, ranLines, checkedLines, programStack, printed}
-use Rattle.limpet.specs.Text.{Adds, Fills, lentOf, tallyLines, entryLines}
+use Rattle.rules.specs.Program.{inputLimit, line3, slotLines, runLines, ranLines, checkedLines, programStack, printedRun, printed}
+use Rattle.limpet.specs.Text.{Adds, Fills, lentOf, tallyLines, acceptedLines}
 
 pub tally-fills : (out out₁ out₂ : List ℕ) (e r n : ℕ) (a : Tally) (p t : List ℕ) → Adds 63 out 0 (line3 n (a .steps) (a .height)) out₁ e
     → Adds (42 * a .height) out₁ e (slotLines p t (a .height)) out₂ r → a .height ≤ 4096 → 172095 ≤ length out₂ → Fills (tallyLines n a p t) out₂ r
@@ -70,6 +70,10 @@ module _ (x : Lent) (enough : capacity x ≡ length (x .types)) where
 pub as-long : (n : ℕ) (l : List ℕ) → length l ≡ length (zeros n) → n ≤ length l
 as-long n l q = let h : length (zeros n) ≡ n = length-replicate {A = ℕ} n 0 in omega arith
 
+-- and its first e are e
+pub cut-of : (n e : ℕ) (l : List ℕ) → length l ≡ length (zeros n) → e ≤ n → e ≡ length (take e l)
+cut-of n e l q h = let w : n ≤ length l = as-long n l q in sym (length-take-le e l (omega arith))
+
 all-used : (p t : List ℕ) → length p ≡ 32768 → length t ≡ 4096 → capacity (lentOf p t) ≡ length t
 all-used p t lp lt = rw (lp, lt) refl
 
@@ -83,16 +87,17 @@ height-low s f args n a p t q l =
 
 -- ---- the whole
 
-pub entry-fills : (s p t out : List ℕ) (r : ℕ) (a : RunAnswer) → _≡_ {A = Ran} (record { answer = a; stack = lentOf p t }) (runModule s 0xffffffff (lentOf [] []) 1000000 programStack)
-    → Fills (runLines a (lentOf p t)) out r → Fills (entryLines s) out r
-entry-fills s p t out r a q x = subst (λ (z : Ran). Fills (ranLines z) out r) q x
-
--- no more than the limit is lent
-whole : (s : List ℕ) → length s ≤ inputLimit → printed s ≡ checkedLines s (check s (zeros 16384) .answer)
-unfolding printed
-whole s h = ap (λ (z : List ℕ). checkedLines z (check z (zeros 16384) .answer)) (take-all inputLimit s h)
+pub accepted-fills : (s : List ℕ) (f : ℕ) (args : Lent) (p t out : List ℕ) (r : ℕ) (a : RunAnswer) → _≡_ {A = Ran} (record { answer = a; stack = lentOf p t }) (runModule s f args 1000000 programStack)
+    → Fills (runLines a (lentOf p t)) out r → Fills (acceptedLines s f args) out r
+accepted-fills s f args p t out r a q x = subst (λ (z : Ran). Fills (ranLines z) out r) q x
 
 -- the lines of an answer of the check whose case is known
-pub checked-fills : (s out : List ℕ) (r : ℕ) (a b : CheckAnswer) → length s ≤ inputLimit → a ≡ check s (zeros 16384) .answer → a ≡ b
-    → Fills (checkedLines s b) out r → Fills (printed s) out r
-checked-fills s out r a b h e d x = subst (λ (z : List ℕ). Fills z out r) (sym (whole s h ∙ ap (checkedLines s) (sym e ∙ d))) x
+pub checked-fills : (s : List ℕ) (f : ℕ) (args : Lent) (out : List ℕ) (r : ℕ) (a b : CheckAnswer) → a ≡ check s (zeros 16384) .answer → a ≡ b
+    → Fills (checkedLines s f args b) out r → Fills (printedRun s f args) out r
+unfolding printedRun
+checked-fills s f args out r a b e d x = subst (λ (z : CheckAnswer). Fills (checkedLines s f args z) out r) (sym d ∙ e) x
+
+-- no more than the limit is lent
+pub entry-fills : (s out : List ℕ) (r : ℕ) → length s ≤ inputLimit → Fills (printedRun s 0xffffffff (lentOf [] [])) out r → Fills (printed s) out r
+unfolding printed
+entry-fills s out r h x = subst (λ (z : List ℕ). Fills (printedRun z 0xffffffff (lentOf [] [])) out r) (sym (take-all inputLimit s h)) x

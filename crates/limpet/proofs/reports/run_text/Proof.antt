@@ -1,12 +1,12 @@
--- The proof of `limpet::run_text`.
+-- The proof of `limpet::reports::run_text`.
 use Prim.Native.Nat.{_≤_}
 use borrow.Author.Needs.{needs}
 use mathlib.Core.Path.{subst}
-use Rattle.limpet.proofs.Reports.{run-fills}
+use Rattle.limpet.proofs.Lines.{run-fills}
 use Rattle.rules.specs.Host.{heightAfter}
 use Rattle.rules.specs.declared.RunAnswer.{RunAnswer}
-use Rattle.limpet.proofs.run_text.Statement.{statement}
-use Rattle.limpet.proofs.run_text.Tie as tie
+use Rattle.limpet.proofs.reports.run_text.Statement.{statement}
+use Rattle.limpet.proofs.reports.run_text.Tie as tie
 
 enum-known-answer : tie.Need-enum-known-answer
 enum-known-answer c = search needs
