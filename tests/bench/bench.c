@@ -1,4 +1,4 @@
-// Compares and measures the library and the C of baseline on every row.
+// Compares the library and the C of baseline on every row and on every formula line, and measures them on every row.
 //
 //     bench MODULES [ROUNDS]           times, the smallest of so many rounds
 //     bench MODULES --count            machine instructions by callgrind; 1 if a ratio is over its limit
@@ -17,8 +17,8 @@ enum { SEED = 12345, ROUNDS = 30 };
 
 enum { LIBRARY, BASELINE, SIDES };
 
-static const Side baseline = {baseline_check,   baseline_run,   baseline_write,
-                              "baseline_check", "baseline_run", "baseline_write"};
+static const Side baseline = {baseline_check,   baseline_run,   baseline_write,   baseline_formula,
+                              "baseline_check", "baseline_run", "baseline_write", "baseline_formula"};
 static const Side *const sides[SIDES] = {[LIBRARY] = &library, [BASELINE] = &baseline};
 
 static File files[ROWS];
@@ -29,15 +29,19 @@ static uint32_t counted_calls(int i) { return rows[i].kind == RECIPE ? 1000 : 1;
 
 // ---- comparing
 
-// Are all that both were lent and gave the same after a turn, and the answers those of the row?
-static int same(int i) {
-    const Group *group = &groups[rows[i].kind];
+// Are all that both were lent and gave the same after a turn, and the answers those that are wanted?
+static int same(const char *group, const char *name, uint32_t answer) {
     int equal = !memcmp(&lent[LIBRARY], &lent[BASELINE], sizeof(Lent));
-    if (equal && lent[BASELINE].answers == group->answer)
+    if (equal && lent[BASELINE].answers == answer)
         return 1;
-    printf("DIFFERENT in %s, %s: answers %u and %u, wanted %u%s\n", group->name, rows[i].name, lent[LIBRARY].answers,
-           lent[BASELINE].answers, group->answer, equal ? "" : "; what was lent or given differs");
+    printf("DIFFERENT in %s, %s: answers %u and %u, wanted %u%s\n", group, name, lent[LIBRARY].answers,
+           lent[BASELINE].answers, answer, equal ? "" : "; what was lent or given differs");
     return 0;
+}
+
+static int same_row(int i) {
+    const Group *group = &groups[rows[i].kind];
+    return same(group->name, rows[i].name, group->answer);
 }
 
 // Call by call, on memory lent anew.
@@ -47,10 +51,33 @@ static int compare(int i) {
             lend(&lent[s]);
             turn(sides[s], &rows[i], &files[i], 1, whole, SEED + k, &lent[s]);
         }
-        if (!same(i))
+        if (!same_row(i))
             return 0;
     }
     return 1;
+}
+
+static int compare_line(const Line *line, size_t room, uint32_t answer) {
+    File file;
+    file.length = spell(line, file.file);
+    for (int s = 0; s < SIDES; s++) {
+        lend(&lent[s]);
+        lent[s].answers = 0;
+        compile(sides[s], &file, room, &lent[s]);
+    }
+    return same("lines", line->name, answer);
+}
+
+// With the room that serves every line; of one that is written, with just its length, with a byte less, and with none.
+static int compare_rooms(const Line *line) {
+    if (!compare_line(line, LIMPETSKEIN_LONGEST_FORMULA, line->answer))
+        return 0;
+    if (line->answer != LIMPETSKEIN_DONE)
+        return compare_line(line, 0, line->answer);
+    size_t length = lent[BASELINE].written;
+    return compare_line(line, length, LIMPETSKEIN_DONE) &&
+           compare_line(line, length - 1, LIMPETSKEIN_OUTPUT_TOO_SHORT) &&
+           compare_line(line, 0, LIMPETSKEIN_OUTPUT_TOO_SHORT);
 }
 
 // ---- times
@@ -80,7 +107,7 @@ static int time_all(int rounds, double smallest[ROWS][SIDES]) {
                 double t = timed(s, i, calls[i]) / (rows[i].kind == RUN ? lent[s].all_steps : calls[i]);
                 smallest[i][s] = t < smallest[i][s] ? t : smallest[i][s];
             }
-            if (!same(i))
+            if (!same_row(i))
                 return 0;
         }
     return 1;
@@ -117,7 +144,7 @@ static double counted(const char *program, const char *directory, int i, int s) 
 
 // ---- the table
 
-// Prints all rows; how many ratios are over their limits.
+// Prints all rows; how many ratios are over their limits. Where ratios have none, formula lines have one of their times.
 static int print(const char *what, double scale, double figures[ROWS][SIDES], int limits) {
     int over = 0;
     for (int i = 0; i < ROWS; i++) {
@@ -133,6 +160,8 @@ static int print(const char *what, double scale, double figures[ROWS][SIDES], in
         double limit = limit_of(&rows[i]);
         if (limits)
             printf("  %5.2f%s", limit, ratio > limit ? "  OVER" : "");
+        else if (has_line(&rows[i]))
+            printf("  of at most %.0f%s", most_time(&rows[i]), ours > most_time(&rows[i]) ? "  OVER" : "");
         printf("\n");
         over += ratio > limit;
     }
@@ -148,13 +177,16 @@ int main(int argc, char **argv) {
         return 2;
     }
     for (int i = 0; i < ROWS; i++)
-        load(argv[1], rows[i].module, &files[i]);
+        load(argv[1], &rows[i], &files[i]);
     if (argc == 5 && !strcmp(what, "--turn")) {
         counted_turn(atoi(argv[3]), atoi(argv[4]));
         return 0;
     }
     for (int i = 0; i < ROWS; i++)
         if (!compare(i))
+            return 1;
+    for (int i = 0; i < LINES; i++)
+        if (!compare_rooms(&lines[i]))
             return 1;
     if (!strcmp(what, "--count")) {
         for (int i = 0; i < ROWS; i++)

@@ -5,10 +5,10 @@
 #include <string.h>
 #include <time.h>
 
-const Side library = {limpetskein_check,   limpetskein_run,   limpetskein_write,
-                      "limpetskein_check", "limpetskein_run", "limpetskein_write"};
+const Side library = {limpetskein_check,   limpetskein_run,   limpetskein_write,   limpetskein_formula,
+                      "limpetskein_check", "limpetskein_run", "limpetskein_write", "limpetskein_formula"};
 
-void load(const char *directory, const char *name, File *module) {
+static void load_module(const char *directory, const char *name, File *module) {
     char path[1000];
     snprintf(path, sizeof path, "%s/%s.lsk", directory, name);
     FILE *file = fopen(path, "rb");
@@ -20,7 +20,16 @@ void load(const char *directory, const char *name, File *module) {
     fclose(file);
 }
 
+void load(const char *directory, const Row *row, File *file) {
+    if (has_line(row))
+        file->length = spell(line_of(row->module), file->file);
+    else
+        load_module(directory, row->module, file);
+}
+
 const char *called(const Side *side, const Row *row) {
+    if (has_line(row))
+        return side->formula_name;
     return row->kind == CHECK ? side->check_name : row->kind == WRITE ? side->write_name : side->run_name;
 }
 
@@ -66,27 +75,35 @@ static void write_again(const Side *side, const File *module, Lent *lent) {
                                  lent->out + GUARD, LIMPETSKEIN_LONGEST_MODULE, &lent->written);
 }
 
-void turn(const Side *side, const Row *row, const File *module, uint32_t calls, uint64_t allowance, uint32_t seed,
+void compile(const Side *side, const File *line, size_t room, Lent *lent) {
+    lent->answers |= side->formula(line->file, line->length, lent->out + GUARD, room, &lent->written);
+}
+
+void turn(const Side *side, const Row *row, const File *file, uint32_t calls, uint64_t allowance, uint32_t seed,
           Lent *lent) {
     lent->answers = 0;
     lent->all_steps = lent->all_values = 0;
     for (uint32_t i = 0; i < calls; i++) {
         switch (row->kind) {
         case RUN:
-            run_entry(side, row, module, allowance, lent);
+            run_entry(side, row, file, allowance, lent);
             break;
         case RECIPE:
             seed = seed * 1664525u + 1013904223u;
-            run_recipe(side, row, module, allowance, seed, lent);
+            run_recipe(side, row, file, allowance, seed, lent);
             break;
         case CHECK:
-            lent->answers |= side->check(module->file, module->length, lent->room + GUARD, ROOM, &lent->body);
+            lent->answers |= side->check(file->file, file->length, lent->room + GUARD, ROOM, &lent->body);
             break;
         case WRITE:
-            write_again(side, module, lent);
+            write_again(side, file, lent);
+            break;
+        case FORMULA:
+        case REFUSED:
+            compile(side, file, LIMPETSKEIN_LONGEST_FORMULA, lent);
             break;
         default:
-            open_only(side, module, lent);
+            open_only(side, file, lent);
         }
     }
 }

@@ -1,29 +1,32 @@
-// Calls of one side, the library or the C, on a row's module and lent memory.
+// Calls of one side, the library or the C, on a row's module or line and lent memory.
 #ifndef CALLS_H
 #define CALLS_H
 
 #include <stddef.h>
 
 #include "limpetskein.h"
+#include "lines.h"
 #include "rows.h"
 
-// The three functions, and their names in the program.
+// The four functions, and their names in the program.
 typedef struct {
     __typeof__(limpetskein_check) *check;
     __typeof__(limpetskein_run) *run;
     __typeof__(limpetskein_write) *write;
-    const char *check_name, *run_name, *write_name;
+    __typeof__(limpetskein_formula) *formula;
+    const char *check_name, *run_name, *write_name, *formula_name;
 } Side;
 
 extern const Side library;
 
+// A module, or a formula line.
 typedef struct {
     uint8_t file[LIMPETSKEIN_LONGEST_MODULE];
     size_t length;
 } File;
 
-// The module of this name in a directory; without it the program ends.
-void load(const char *directory, const char *name, File *module);
+// The row's line, or its module in a directory; without it the program ends.
+void load(const char *directory, const Row *row, File *file);
 
 enum { GUARD = 64, ROOM = LIMPETSKEIN_MOST_LABELS * LIMPETSKEIN_ROOM_PER_LABEL };
 
@@ -42,8 +45,11 @@ const char *called(const Side *side, const Row *row);
 void lend(Lent *lent);
 
 // A turn: this many calls. A recipe gets other arguments in each, which depend on the seed alone.
-void turn(const Side *side, const Row *row, const File *module, uint32_t calls, uint64_t allowance, uint32_t seed,
+void turn(const Side *side, const Row *row, const File *file, uint32_t calls, uint64_t allowance, uint32_t seed,
           Lent *lent);
+
+// A formula line, with so many bytes of output lent.
+void compile(const Side *side, const File *line, size_t room, Lent *lent);
 
 // The thread's own time.
 double seconds(void);

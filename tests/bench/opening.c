@@ -63,7 +63,7 @@ int main(int argc, char **argv) {
     }
     for (int i = 0; i < PAIRS; i++) {
         for (int m = 0; m < BOTH; m++) {
-            load(argv[1], pairs[i][m].module, &files[m]);
+            load(argv[1], &pairs[i][m], &files[m]);
             if (!opens(pairs[i], m))
                 return 1;
         }

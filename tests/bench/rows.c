@@ -6,13 +6,22 @@
 enum { SHORTEST = 10 };
 static const double shortest_limit = 2.25;
 
+// The first formula line, and the longest ones.
+enum { FIRST_LINE = 24 };
+static const double first_line_time = 1000, line_time = 60000;
+
 const Group groups[KINDS] = {
     [RUN] = {"runs", "a step", 1.25, LIMPETSKEIN_DONE},
     [RECIPE] = {"recipes", "a call", 1.3, LIMPETSKEIN_DONE},
     [CHECK] = {"checks", "a call", 1.5, LIMPETSKEIN_DONE},
     [OPENING] = {"openings", "a call", 1.3, LIMPETSKEIN_NO_SUCH_FUNCTION},
     [WRITE] = {"writes", "a call", 1.5, LIMPETSKEIN_DONE},
+    [FORMULA] = {"formula lines", "a call", 2, LIMPETSKEIN_DONE},
+    [REFUSED] = {"lines not in the grammar", "a call", 2, LIMPETSKEIN_NOT_IN_GRAMMAR},
 };
+
+// A formula line, by its name in lines.c.
+#define LINE(name, kind) {name, name, kind, 0}
 
 const Row rows[ROWS] = {
     {"counting loop on int", "loop-int", RUN, 4096},
@@ -39,6 +48,19 @@ const Row rows[ROWS] = {
     {"the same without labels", "no-labels", OPENING, 0},
     {"the recipe of 40 steps", "recipe-40", WRITE, 0},
     {"all counts at their limits", "full", WRITE, 0},
+    LINE("(r*3+g)/4", FORMULA),
+    LINE("60 bytes", FORMULA),
+    LINE("256 bytes, 16 deep", FORMULA),
+    LINE("256 bytes, 64 brackets", FORMULA),
+    LINE("255 minuses and a name", FORMULA),
+    LINE("128 numbers and their signs", FORMULA),
+    LINE("128 names and their signs", FORMULA),
+    LINE("a number with 246 leading zeros", FORMULA),
+    LINE("256 opening brackets", REFUSED),
 };
 
 double limit_of(const Row *row) { return row == &rows[SHORTEST] ? shortest_limit : groups[row->kind].limit; }
+
+int has_line(const Row *row) { return row->kind == FORMULA || row->kind == REFUSED; }
+
+double most_time(const Row *row) { return row == &rows[FIRST_LINE] ? first_line_time : line_time; }

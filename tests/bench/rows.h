@@ -4,7 +4,7 @@
 
 #include <stdint.h>
 
-typedef enum { RUN, RECIPE, CHECK, OPENING, WRITE, KINDS } Kind;
+typedef enum { RUN, RECIPE, CHECK, OPENING, WRITE, FORMULA, REFUSED, KINDS } Kind;
 
 // What the rows of a kind have in common. limit: the most machine instructions, as a ratio to C.
 typedef struct {
@@ -13,19 +13,25 @@ typedef struct {
     uint32_t answer;
 } Group;
 
-// A row: its module, and the slots that are lent.
+// A row: its module, or the name of its line; and the slots that are lent.
 typedef struct {
     const char *name, *module;
     Kind kind;
     uint32_t slots;
 } Row;
 
-enum { ROWS = 24 };
+enum { ROWS = 33 };
 
 extern const Group groups[KINDS];
 extern const Row rows[ROWS];
 
 // A row's limit: its kind's, but for the check of the shortest module.
 double limit_of(const Row *row);
+
+// Does it compile a formula line?
+int has_line(const Row *row);
+
+// The most nanoseconds that a formula line may take.
+double most_time(const Row *row);
 
 #endif

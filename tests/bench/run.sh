@@ -1,5 +1,5 @@
 #!/bin/sh
-# Measures the library against the C of baseline, through the same three calls, and compares all that comes out.
+# Measures the library against the C of baseline, through the same four calls, and compares all that comes out.
 #
 #     run.sh [--library ARCHIVE] [ROUNDS]     times and ratios
 #     run.sh [--library ARCHIVE] --count      machine instructions; fails where a ratio is over its limit
@@ -28,5 +28,6 @@ fi
 "$root/target/tests/release/workloads" "$made/modules"
 "$bench/baseline/build.sh" "$made"
 # -z now: no call is counted that looks a function up
-cc -O2 -Wall -Wextra -Werror -I"$root/include" -Wl,-z,now -o "$made/bench" "$bench"/bench.c "$bench"/calls.c "$bench"/rows.c "$made/libbaseline.a" "$library"
+cc -O2 -Wall -Wextra -Werror -I"$root/include" -Wl,-z,now -o "$made/bench" \
+    "$bench"/bench.c "$bench"/calls.c "$bench"/rows.c "$bench"/lines.c "$made/libbaseline.a" "$library"
 exec "$made/bench" "$made/modules" "$@"
