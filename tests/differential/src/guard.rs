@@ -1,16 +1,25 @@
 //! Names the case when the library crashes or doesn't come back.
 
-use std::sync::atomic::{AtomicBool, AtomicU64, Ordering};
+use std::sync::atomic::{AtomicU64, Ordering};
+use std::sync::OnceLock;
 use std::time::Duration;
 
 static SEED: AtomicU64 = AtomicU64::new(0);
 static CASE: AtomicU64 = AtomicU64::new(HUGE);
-static WRITES: AtomicBool = AtomicBool::new(false);
+static CALL: OnceLock<Call> = OnceLock::new();
+
+/// What the cases call first.
+#[derive(Clone, Copy, Debug)]
+pub enum Call {
+    Check,
+    Write,
+    Formula,
+}
 
 /// Before the first case: calls on slices of over 2^32 bytes.
 const HUGE: u64 = u64::MAX;
 
-/// Set in the number of a stated check or write.
+/// Set in the number of a stated call.
 pub const STATED: u64 = 1 << 63;
 
 /// Seconds after which a case counts as hanging.
@@ -21,10 +30,9 @@ extern "C" {
     fn _exit(status: i32) -> !;
 }
 
-/// `writes`: the cases are tables to be written.
-pub fn start(seed: u64, writes: bool) {
+pub fn start(seed: u64, call: Call) {
     SEED.store(seed, Ordering::Relaxed);
-    WRITES.store(writes, Ordering::Relaxed);
+    let _ = CALL.set(call);
     for number in [4, 6, 7, 8, 11] {
         // SAFETY: the handler only reads numbers, writes to standard output and ends.
         unsafe { signal(number, crashed as *const () as usize) };
@@ -62,21 +70,20 @@ fn watch() {
 
 fn report(what: &str) {
     let (seed, case) = (SEED.load(Ordering::Relaxed), CASE.load(Ordering::Relaxed));
-    let writes = WRITES.load(Ordering::Relaxed);
+    let (call, cases, show) = match CALL.get() {
+        Some(Call::Write) => ("write", "tables", "--write"),
+        Some(Call::Formula) => ("formula", "line", "--formula"),
+        _ => ("check", "module", "--case"),
+    };
     if case == HUGE {
         println!("DIFFERENCE: {what} on a slice of over 2^32 bytes");
         return;
     }
     if case & STATED != 0 {
-        let call = if writes { "write" } else { "check" };
         println!("DIFFERENCE: {what} in stated {call} {}", case & !STATED);
         return;
     }
     println!("DIFFERENCE: {what} in case {case} of seed {seed}");
     println!("again: --seed {seed} --from {case} --cases 1");
-    if writes {
-        println!("the tables: show --seed {seed} --write {case}");
-    } else {
-        println!("the module: show --seed {seed} --case {case}");
-    }
+    println!("the {cases}: show --seed {seed} {show} {case}");
 }

@@ -1,6 +1,6 @@
 //! The library under test, through its C interface.
 
-use second::memory::{CheckMemory, Lent, RunMemory, WriteMemory};
+use second::memory::{CheckMemory, FormulaMemory, Lent, RunMemory, WriteMemory};
 use second::reader::ENTRY;
 use second::subject::Subject;
 
@@ -40,6 +40,14 @@ extern "C" {
         code: *const u8,
         code_len: usize,
         entry_length: u32,
+        out: *mut u8,
+        out_len: usize,
+        written: *mut u64,
+    ) -> u32;
+
+    pub fn limpetskein_formula(
+        line: *const u8,
+        line_len: usize,
         out: *mut u8,
         out_len: usize,
         written: *mut u64,
@@ -119,6 +127,14 @@ impl Subject for Library {
                 &raw mut memory.written,
             )
         }
+    }
+
+    fn formula(&mut self, memory: &mut FormulaMemory) -> u32 {
+        let (line_len, out_len) = (memory.line.len(), memory.out.len());
+        let line = self.pointer(&mut memory.line);
+        let out = self.pointer(&mut memory.out);
+        // SAFETY: pointers and lengths are those of separate live buffers.
+        unsafe { limpetskein_formula(line, line_len, out, out_len, &raw mut memory.written) }
     }
 }
 

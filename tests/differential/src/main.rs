@@ -1,11 +1,13 @@
 //! Compares the library behind the C interface with the second program on generated cases:
 //! answers, out-parameters, all lent memory and the guard bytes around it. With `--checks`,
 //! only checks are compared, first with what is stated of them, then on generated cases; with
-//! `--writes`, writes in the same way.
+//! `--writes`, writes in the same way; with `--formulas`, formula lines, and the check and the
+//! runs of what they are written as.
 //!
-//! `differential [--checks | --writes] [--seed N] [--seconds N | --cases N] [--from N] [--most N]`
+//! `differential [--checks | --writes | --formulas] [--seed N] [--seconds N | --cases N] [--from N] [--most N]`
 
 mod checks;
+mod formulas;
 mod guard;
 mod huge;
 mod library;
@@ -17,6 +19,7 @@ use rounds::Comparison;
 use second::args;
 use second::compare::compare;
 use second::gen::case::Case;
+use second::gen::lines::LineCase;
 use second::gen::tables::WriteCase;
 use second::hex;
 use second::rules::Rules;
@@ -26,6 +29,9 @@ fn main() {
     rounds::start();
     if args::has("--writes") {
         return compare_writes();
+    }
+    if args::has("--formulas") {
+        return compare_formulas();
     }
     let check = huge::differs("check", |module, len| {
         let mut body = 0;
@@ -62,6 +68,17 @@ fn compare_writes() {
         describe: |case: &WriteCase| (case.kind, case.describe()),
     };
     rounds::run(&writes, before);
+}
+
+fn compare_formulas() {
+    let before = formulas::huge_differ() + formulas::not_as_stated();
+    let formulas = Comparison {
+        subject: "library's formula",
+        make: LineCase::new,
+        compare: formulas::differs,
+        describe: |case: &LineCase| (case.kind, case.describe()),
+    };
+    rounds::run(&formulas, before);
 }
 
 fn describe(case: &Case) -> (&'static str, String) {

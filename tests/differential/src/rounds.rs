@@ -1,6 +1,6 @@
 //! The loop over generated cases, for all comparisons.
 
-use crate::guard;
+use crate::guard::{self, Call};
 use second::args;
 use std::time::{Duration, Instant};
 
@@ -20,13 +20,21 @@ pub fn start() {
     args::expect(&[
         "--checks",
         "--writes",
+        "--formulas",
         "--seed",
         "--cases",
         "--seconds",
         "--from",
         "--most",
     ]);
-    guard::start(args::number("--seed", 1), args::has("--writes"));
+    let call = if args::has("--writes") {
+        Call::Write
+    } else if args::has("--formulas") {
+        Call::Formula
+    } else {
+        Call::Check
+    };
+    guard::start(args::number("--seed", 1), call);
 }
 
 /// Compares cases until time is up or enough differences are printed, and ends the process

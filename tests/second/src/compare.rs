@@ -1,9 +1,10 @@
 //! Two subjects side by side on one case.
 
 use crate::gen::case::{Case, RunCall};
+use crate::gen::lines::LineCase;
 use crate::gen::tables::WriteCase;
 use crate::hex;
-use crate::memory::{CheckMemory, Lent, RunMemory, WriteMemory};
+use crate::memory::{CheckMemory, FormulaMemory, Lent, RunMemory, WriteMemory};
 use crate::subject::Subject;
 
 /// What differs, in words; nothing if the two agree on the check and on every run.
@@ -69,6 +70,31 @@ pub fn compare_writes(
     ))
 }
 
+/// What differs in a formula: its answer and, where there is a module, its check and its runs.
+pub fn compare_formulas(
+    case: &LineCase,
+    a: &mut dyn Subject,
+    b: &mut dyn Subject,
+) -> Option<String> {
+    let mut memory_a = case.memory();
+    let mut memory_b = memory_a.clone();
+    let (answer_a, answer_b) = (a.formula(&mut memory_a), b.formula(&mut memory_b));
+    if answer_a != answer_b || memory_a != memory_b {
+        let out = case.out.len();
+        return Some(format!(
+            "formula to {out} bytes: answers {answer_a} and {answer_b}{}",
+            formula_difference(&memory_a, &memory_b)
+        ));
+    }
+    if answer_a != 0 {
+        return None;
+    }
+    let made = case.made(&memory_a.out.slice()[..memory_a.written as usize]);
+    compare(&made, a, b)
+        .or_else(|| case.otherwise(&made, a))
+        .or_else(|| case.otherwise(&made, b))
+}
+
 /// A run's numbers and arguments, enough to repeat it by hand.
 pub fn describe(run: &RunCall) -> String {
     format!(
@@ -122,6 +148,16 @@ pub fn write_difference(a: &WriteMemory, b: &WriteMemory) -> String {
     text += &slice_difference("functions", &a.functions, &b.functions);
     text += &slice_difference("labels", &a.labels, &b.labels);
     text += &slice_difference("code", &a.code, &b.code);
+    text + &slice_difference("output", &a.out, &b.out)
+}
+
+/// How what was lent to two formulas differs, in words.
+pub fn formula_difference(a: &FormulaMemory, b: &FormulaMemory) -> String {
+    let mut text = String::new();
+    if a.written != b.written {
+        text += &format!("; length {} and {}", a.written, b.written);
+    }
+    text += &slice_difference("line", &a.line, &b.line);
     text + &slice_difference("output", &a.out, &b.out)
 }
 

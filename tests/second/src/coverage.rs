@@ -2,7 +2,10 @@
 
 use crate::check::Checked;
 use crate::claims::{is_an_end_of_demand_3, Claims};
+use crate::compare::compare_formulas;
+use crate::formula::split;
 use crate::gen::case::{Case, RunCall};
+use crate::gen::lines::LineCase;
 use crate::gen::tables::WriteCase;
 use crate::machine::{Machine, Watch};
 use crate::opcode::Op;
@@ -19,6 +22,13 @@ pub struct Coverage {
     pub checks: Counts<u32>,
     pub runs: Counts<u32>,
     pub writes: Counts<u32>,
+    pub formulas: Counts<u32>,
+    pub line_edges: Counts<&'static str>,
+    /// Lines by generator: all, and accepted ones.
+    pub lines: Counts<&'static str>,
+    pub accepted_lines: Counts<&'static str>,
+    /// Lines that `formula` and `split` read differently, or whose module does otherwise.
+    pub misread: u64,
     /// By opcode and variant, as in `possible::executions`.
     pub executed: Counts<(Op, u8)>,
     pub raised: Counts<(Op, u32)>,
@@ -67,6 +77,26 @@ impl Coverage {
         count(&mut self.writes, answer);
     }
 
+    pub fn add_line(&mut self, case: &LineCase) {
+        let mut second = Second(Rules::PLAIN);
+        let answer = second.formula(&mut case.memory());
+        count(&mut self.formulas, answer);
+        count(&mut self.lines, case.kind);
+        let refusal = split::refusal(&case.line);
+        if refusal.is_none() {
+            count(&mut self.accepted_lines, case.kind);
+        }
+        let same = match refusal {
+            Some(number) => answer == number,
+            None => [0, 16].contains(&answer),
+        };
+        let otherwise = compare_formulas(case, &mut second, &mut Second(Rules::PLAIN));
+        self.misread += u64::from(!same || otherwise.is_some());
+        for edge in line_edges(case) {
+            count(&mut self.line_edges, edge);
+        }
+    }
+
     fn add_run(&mut self, case: &Case, run: &RunCall, accepted: bool) {
         let mut memory = case.run_memory(run);
         self.raises = 0;
@@ -82,6 +112,48 @@ impl Coverage {
             self.broken += claims.broken + u64::from(!ends);
         }
     }
+}
+
+/// Which of `possible::LINE_EDGES` a line reaches.
+fn line_edges(case: &LineCase) -> Vec<&'static str> {
+    let mut edges = Vec::new();
+    let mut reaches = |edge, holds: bool| edges.extend(holds.then_some(edge));
+    let refusal = split::refusal(&case.line);
+    let Some(reading) = split::reading(&case.line) else {
+        // the same line with 1 for each long row of digits: is a number all that is wrong?
+        let text = String::from_utf8_lossy(&case.line);
+        let rows = text.split(|c: char| !c.is_ascii_digit());
+        let long = rows.filter(|row| row.len() >= 10);
+        let small = long.fold(text.to_string(), |text, row| text.replacen(row, "1", 1));
+        let alone = split::reading(small.as_bytes()).is_some();
+        reaches("too large alone", refusal == Some(41) && alone);
+        return edges;
+    };
+    let (depth, operands) = (reading.depth(), reading.operands());
+    reaches("256 bytes", refusal.is_none() && case.line.len() == 256);
+    reaches("257 bytes in the grammar", case.line.len() == 257);
+    reaches("16 deep", refusal.is_none() && depth == 16);
+    reaches(
+        "17 deep",
+        refusal == Some(42) && depth == 17 && operands <= 32,
+    );
+    reaches("32 operands", refusal.is_none() && operands == 32);
+    reaches("33 operands", refusal == Some(43) && operands == 33);
+    reaches("42 and 43", refusal == Some(42) && operands > 32);
+    reaches(
+        "256 instructions",
+        refusal.is_none() && reading.instructions() == 256,
+    );
+    let text = String::from_utf8_lossy(&case.line);
+    reaches(
+        "4294967295",
+        refusal.is_none() && text.contains("4294967295"),
+    );
+    for &names in case.names.iter().filter(|_| refusal.is_none()) {
+        reaches("value", reading.value(names).is_some());
+        reaches("quotient by zero", reading.value(names).is_none());
+    }
+    edges
 }
 
 fn accepted_with_room(case: &Case) -> bool {

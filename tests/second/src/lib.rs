@@ -1,14 +1,15 @@
-//! An independent second program for Limpetskein: reader, writer, check and run, written from
+//! An independent second program for Limpetskein: reader, writer, check, run and formula line, written from
 //! the sentences of the papers (document 01, the exact rules; 003 where it says so; document
 //! 02, what was asked for later). Each rule stands beside the sentence that it comes from. The
 //! main program is compared with this one on generated modules and calls.
 //!
 //! * The rules: `reader`, `writer`, `check` (with `worklist` and `judge`), `run` (with
-//!   `machine`, `step`, `integer`, `double`, `convert`), `show` for the small program's output.
+//!   `machine`, `step`, `integer`, `double`, `convert`), `formula`, `show` for the small program's
+//!   output, `desk` for the desk's commands.
 //! * `rules`: the deliberately wrong variants that test the tests.
 //! * The tools: `program` and `asm` write modules, `gen` makes cases, `memory`, `subject` and
 //!   `compare` run two programs side by side, `coverage` counts what the cases reach,
-//!   `stated` has checks and writes with their answers written out.
+//!   `stated` has checks, writes and formula lines with their answers written out.
 
 #![forbid(unsafe_code)]
 
@@ -19,7 +20,9 @@ pub mod claims;
 pub mod compare;
 pub mod convert;
 pub mod coverage;
+pub mod desk;
 pub mod double;
+pub mod formula;
 pub mod gen;
 pub mod hex;
 pub mod integer;

@@ -83,3 +83,11 @@ pub struct WriteMemory {
     pub out: Lent,
     pub written: u64,
 }
+
+/// Everything lent to a formula, and its out-parameter.
+#[derive(Clone, Debug, PartialEq, Eq)]
+pub struct FormulaMemory {
+    pub line: Lent,
+    pub out: Lent,
+    pub written: u64,
+}

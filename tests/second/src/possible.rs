@@ -82,6 +82,25 @@ pub const CHECK_ANSWERS: [u32; 12] = [0, 1, 2, 3, 4, 5, 6, 7, 8, 9, 10, 11];
 /// The answers that a write can give.
 pub const WRITE_ANSWERS: [u32; 8] = [0, 4, 5, 6, 7, 8, 9, 16];
 
+/// The answers that a formula can give.
+pub const FORMULA_ANSWERS: [u32; 6] = [0, 16, 40, 41, 42, 43];
+
+/// What formula lines must reach, by name, as in `coverage::line_edges`.
+pub const LINE_EDGES: [&str; 12] = [
+    "256 bytes",
+    "257 bytes in the grammar",
+    "16 deep",
+    "17 deep",
+    "32 operands",
+    "33 operands",
+    "256 instructions",
+    "4294967295",
+    "too large alone",
+    "42 and 43",
+    "value",
+    "quotient by zero",
+];
+
 /// The answers that a run can give.
 pub const RUN_ANSWERS: [u32; 29] = [
     0, 1, 2, 3, 4, 5, 6, 7, 8, 9, 12, 13, 15, 20, 21, 22, 23, 24, 25, 26, 27, 28, 29, 30, 31, 32,

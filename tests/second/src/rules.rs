@@ -85,6 +85,39 @@ pub enum Fault {
     LabelsUntested,
     TypingAsked,
     LengthOfOutput,
+    GrammarBeforeLength,
+    SpacesUncounted,
+    LengthAtMost255,
+    DepthBeforeGrammar,
+    NumberAfterDepth,
+    OperandsBeforeDepth,
+    GroupsRight,
+    MinusBelowProducts,
+    MinusBelowSums,
+    MinusOnce,
+    UnaryPlus,
+    ProductUnwritten,
+    NumberWraps,
+    TenDigitsMost,
+    SpacesInNumbers,
+    TabsAreSpaces,
+    CapitalsTaken,
+    EmptyLineTaken,
+    DepthSeventeen,
+    MinusDeepens,
+    OperandsThirtyThree,
+    OperandsByTree,
+    ConstantsShared,
+    NegativeConstants,
+    SignedQuotient,
+    SignedProduct,
+    NamesReversed,
+    QuotientByZeroRefused,
+    FormulaOutputFirst,
+    FormulaOutputFull,
+    FormulaHeaderFirst,
+    FormulaRestCleared,
+    FormulaLengthOfOutput,
 }
 
 /// The wrong variants of reader, check and run, each with its name and what is wrong.
@@ -483,6 +516,151 @@ pub const WRITER_FAULTS: [(Fault, &str, &str); 16] = [
     ),
 ];
 
+/// The wrong variants of the formula line.
+pub const FORMULA_FAULTS: [(Fault, &str, &str); 33] = [
+    (
+        Fault::GrammarBeforeLength,
+        "41-before-40",
+        "grammar before the line's length",
+    ),
+    (
+        Fault::SpacesUncounted,
+        "40-without-spaces",
+        "spaces don't count for the line's length",
+    ),
+    (
+        Fault::LengthAtMost255,
+        "40-at-256",
+        "a line of 256 bytes is too long",
+    ),
+    (
+        Fault::DepthBeforeGrammar,
+        "42-before-41",
+        "depth before the grammar",
+    ),
+    (
+        Fault::NumberAfterDepth,
+        "42-before-large-number",
+        "depth before a number too large",
+    ),
+    (
+        Fault::OperandsBeforeDepth,
+        "43-before-42",
+        "operands before the depth",
+    ),
+    (
+        Fault::GroupsRight,
+        "groups-right",
+        "equal ranks group from the right",
+    ),
+    (
+        Fault::MinusBelowProducts,
+        "minus-below-products",
+        "unary minus binds below products",
+    ),
+    (
+        Fault::MinusBelowSums,
+        "minus-below-sums",
+        "unary minus binds below sums",
+    ),
+    (Fault::MinusOnce, "minus-once", "unary minus may not repeat"),
+    (Fault::UnaryPlus, "unary-plus", "unary plus is taken"),
+    (
+        Fault::ProductUnwritten,
+        "product-unwritten",
+        "operands side by side are a product",
+    ),
+    (
+        Fault::NumberWraps,
+        "number-wraps",
+        "a number too large wraps",
+    ),
+    (
+        Fault::TenDigitsMost,
+        "ten-digits-most",
+        "more than ten digits are too large",
+    ),
+    (
+        Fault::SpacesInNumbers,
+        "spaces-in-numbers",
+        "spaces may stand inside a number",
+    ),
+    (
+        Fault::TabsAreSpaces,
+        "tabs-are-spaces",
+        "tabs and line ends are spaces",
+    ),
+    (Fault::CapitalsTaken, "capitals-taken", "capitals are names"),
+    (
+        Fault::EmptyLineTaken,
+        "empty-line-taken",
+        "an empty line is 0",
+    ),
+    (Fault::DepthSeventeen, "depth-17", "17 deep is taken"),
+    (
+        Fault::MinusDeepens,
+        "minus-deepens",
+        "unary minus counts for the depth",
+    ),
+    (
+        Fault::OperandsThirtyThree,
+        "operands-33",
+        "33 operands are taken",
+    ),
+    (
+        Fault::OperandsByTree,
+        "operands-by-tree",
+        "operands counted in the best order",
+    ),
+    (
+        Fault::ConstantsShared,
+        "constants-shared",
+        "equal numbers share a constant",
+    ),
+    (
+        Fault::NegativeConstants,
+        "negative-constants",
+        "minus before a number goes into its constant",
+    ),
+    (
+        Fault::SignedQuotient,
+        "idiv-for-div",
+        "quotients are signed",
+    ),
+    (Fault::SignedProduct, "imul-for-mul", "products by imul"),
+    (Fault::NamesReversed, "names-reversed", "b is parameter 0"),
+    (
+        Fault::QuotientByZeroRefused,
+        "quotient-by-zero-refused",
+        "a quotient by the number 0 is 41",
+    ),
+    (
+        Fault::FormulaOutputFirst,
+        "formula-16-first",
+        "output too short before the line's refusals",
+    ),
+    (
+        Fault::FormulaOutputFull,
+        "formula-16-when-full",
+        "output of the module's length is too short",
+    ),
+    (
+        Fault::FormulaHeaderFirst,
+        "formula-header-first",
+        "header written before the output's length is tested",
+    ),
+    (
+        Fault::FormulaRestCleared,
+        "formula-rest-cleared",
+        "output past the module is cleared",
+    ),
+    (
+        Fault::FormulaLengthOfOutput,
+        "formula-length-of-output",
+        "the output's length is given",
+    ),
+];
+
 /// Which rules hold: the paper's, or the paper's with one fault.
 #[derive(Clone, Copy, Debug, PartialEq, Eq)]
 pub struct Rules {
@@ -501,6 +679,7 @@ impl Rules {
         FAULTS
             .iter()
             .chain(&WRITER_FAULTS)
+            .chain(&FORMULA_FAULTS)
             .find(|(_, n, _)| *n == name)
             .map(|&(fault, _, _)| Rules::with(fault))
     }

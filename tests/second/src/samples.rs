@@ -625,3 +625,150 @@ pub fn all() -> impl Iterator<Item = &'static Sample> {
         .chain(&LIMITS)
         .chain(&REFUSED)
 }
+
+/// A formula line, and the parameters of runs of its module.
+pub struct LineSample {
+    pub name: &'static str,
+    /// What it shows, one line.
+    pub shows: &'static str,
+    pub line: &'static str,
+    pub runs: &'static [[u32; 3]],
+}
+
+const fn line(
+    name: &'static str,
+    shows: &'static str,
+    line: &'static str,
+    runs: &'static [[u32; 3]],
+) -> LineSample {
+    LineSample {
+        name,
+        shows,
+        line,
+        runs,
+    }
+}
+
+/// Formula lines that are written as a module.
+pub const LINES: [LineSample; 15] = [
+    line(
+        "formula-paper",
+        "the paper's line; sums wrap before the quotient is taken",
+        "(r*3+g)/4",
+        &[[10, 20, 30], [255, 255, 255], [4294967295, 4, 0]],
+    ),
+    line(
+        "formula-left",
+        "equal ranks group from the left",
+        "r-g-b",
+        &[[100, 20, 5], [5, 5, 1]],
+    ),
+    line(
+        "formula-quotients",
+        "quotients group from the left, and are unsigned",
+        "r/g/b",
+        &[[100, 5, 2], [4294967295, 2, 1], [1, 0, 1]],
+    ),
+    line(
+        "formula-products",
+        "products bind tighter than sums",
+        "r+g*b-1",
+        &[[1, 2, 3], [0, 0, 0]],
+    ),
+    line(
+        "formula-minus",
+        "unary minus binds tightest: (-r)*3",
+        "-r*3",
+        &[[1, 0, 0], [4294967295, 0, 0]],
+    ),
+    line(
+        "formula-minus-quotient",
+        "(-6)/2 in unsigned ints",
+        "-6/2",
+        &[[0, 0, 0]],
+    ),
+    line(
+        "formula-minus-twice",
+        "a difference, then a unary minus that repeats",
+        "r- --g",
+        &[[3, 4, 0], [0, 1, 0]],
+    ),
+    line(
+        "formula-spaces",
+        "spaces, and leading zeros",
+        " ( r + 007 ) * 2 ",
+        &[[1, 0, 0]],
+    ),
+    line(
+        "formula-largest",
+        "the largest number, one more wraps to 0",
+        "r+4294967295",
+        &[[0, 0, 0], [1, 0, 0]],
+    ),
+    line(
+        "formula-constants",
+        "a constant for each number, equal ones too",
+        "1+1*1",
+        &[[0, 0, 0]],
+    ),
+    line(
+        "formula-names",
+        "names are parameters 0 to 2: no constant",
+        "r*g-b",
+        &[[7, 6, 2]],
+    ),
+    line(
+        "formula-by-zero",
+        "a quotient by zero is exception 24, when run",
+        "r/(g-b)",
+        &[[9, 5, 2], [9, 5, 5]],
+    ),
+    line(
+        "formula-16-deep",
+        "brackets 16 deep",
+        "((((((((((((((((r))))))))))))))))",
+        &[[8, 0, 0]],
+    ),
+    line(
+        "formula-32-operands",
+        "32 operands at once: 35 slots with the parameters",
+        "r+r*(r+r*(r+r*(r+r*(r+r*(r+r*(r+r*(r+r*(r+r*(r+r*(r+r*(r+r*(r+r*(r+r*(r+r*(r+g)))))))))))))))",
+        &[[1, 1, 0], [2, 3, 0]],
+    ),
+    line(
+        "formula-256-bytes",
+        "256 bytes, 257 steps",
+        "---------------------------------------------------------------------------------------------------------------------------------------------------------------------------------------------------------------------------------------------------------------r",
+        &[[5, 0, 0]],
+    ),
+];
+
+/// Formula lines that are refused.
+pub const REFUSED_LINES: [LineSample; 11] = [
+    line("formula-refused-40", "257 bytes", "r+r+r+r+r+r+r+r+r+r+r+r+r+r+r+r+r+r+r+r+r+r+r+r+r+r+r+r+r+r+r+r+r+r+r+r+r+r+r+r+r+r+r+r+r+r+r+r+r+r+r+r+r+r+r+r+r+r+r+r+r+r+r+r+r+r+r+r+r+r+r+r+r+r+r+r+r+r+r+r+r+r+r+r+r+r+r+r+r+r+r+r+r+r+r+r+r+r+r+r+r+r+r+r+r+r+r+r+r+r+r+r+r+r+r+r+r+r+r+r+r+r+r+r+r+r+r+r+r", &[]),
+    line(
+        "formula-refused-41",
+        "x is no name: the first five bytes begin some line",
+        "(r*3+x)/4",
+        &[],
+    ),
+    line("formula-refused-41-early", "it ends too early", "(r+g", &[]),
+    line("formula-refused-41-empty", "there is no empty line", "", &[]),
+    line("formula-refused-41-large", "a number too large", "r+4294967296", &[]),
+    line("formula-refused-41-space", "a space inside a number", "1 2", &[]),
+    line("formula-refused-41-plus", "there is no unary plus", "r*+g", &[]),
+    line("formula-refused-41-product", "a product has a sign", "2r", &[]),
+    line(
+        "formula-refused-41-first",
+        "17 deep, and a bracket too many: 41 before 42",
+        "(((((((((((((((((r))))))))))))))))))",
+        &[],
+    ),
+    line("formula-refused-42", "brackets 17 deep", "(((((((((((((((((r)))))))))))))))))", &[]),
+    line(
+        "formula-refused-43",
+        "33 operands at once, 15 deep",
+        "r+r*(r+r*(r+r*(r+r*(r+r*(r+r*(r+r*(r+r*(r+r*(r+r*(r+r*(r+r*(r+r*(r+r*(r+r*(r+g*b)))))))))))))))",
+        &[],
+    ),
+];

@@ -17,18 +17,25 @@ pub fn small(rules: Rules, input: &[u8]) -> String {
     let file = &input[..input.len().min(MOST_READ)];
     let mut room = vec![0; RECORD * MAX_LABELS as usize];
     match check(rules, file, &mut room) {
-        Checked::Accepted => entry(rules, file),
+        Checked::Accepted => ran(rules, file, ENTRY, &[], &[]),
         Checked::Refused(number) => format!("{number}\n"),
         Checked::NoTyping { .. } => "11\n".to_string(),
     }
 }
 
-fn entry(rules: Rules, file: &[u8]) -> String {
+/// What is printed of a run of an accepted module.
+pub fn ran(
+    rules: Rules,
+    file: &[u8],
+    function: u32,
+    arg_types: &[u8],
+    arg_payloads: &[u8],
+) -> String {
     let (mut payloads, mut types) = (vec![0; 8 * 4096], vec![0; 4096]);
     let call = Call {
-        function: ENTRY,
-        arg_types: &[],
-        arg_payloads: &[],
+        function,
+        arg_types,
+        arg_payloads,
         allowance: 1_000_000,
     };
     let stack = LentStack {

@@ -1,8 +1,9 @@
-//! What is compared: something that answers the three calls of the C interface.
+//! What is compared: something that answers the four calls of the C interface.
 
 use crate::check::{check, Checked};
+use crate::formula::formula;
 use crate::machine::{Unwatched, Watch};
-use crate::memory::{CheckMemory, RunMemory, WriteMemory};
+use crate::memory::{CheckMemory, FormulaMemory, RunMemory, WriteMemory};
 use crate::rules::Rules;
 use crate::run::{run_watched, Call, LentStack, Ran};
 use crate::writer::{write, Tables};
@@ -16,6 +17,9 @@ pub trait Subject {
 
     /// The paper's number; `written` is written with 0 only.
     fn write(&mut self, memory: &mut WriteMemory) -> u32;
+
+    /// The paper's number; `written` is written with 0 only.
+    fn formula(&mut self, memory: &mut FormulaMemory) -> u32;
 }
 
 /// The second program with these rules.
@@ -39,6 +43,11 @@ impl Subject for Second {
             entry_length: memory.entry_length,
         };
         let answer = write(self.0, tables, memory.out.slice_mut());
+        wrote_number(answer, &mut memory.written)
+    }
+
+    fn formula(&mut self, memory: &mut FormulaMemory) -> u32 {
+        let answer = formula(self.0, memory.line.slice(), memory.out.slice_mut());
         wrote_number(answer, &mut memory.written)
     }
 }
@@ -99,7 +108,7 @@ pub fn ran_number(answer: Ran, steps_out: &mut u64, height_out: &mut u64) -> u32
     }
 }
 
-/// The number of a write's answer; the length is given with 0 only.
+/// The number of a write's or a formula's answer; the length is given with 0 only.
 pub fn wrote_number(answer: Result<usize, u32>, out: &mut u64) -> u32 {
     match answer {
         Err(number) => number,

@@ -1,25 +1,31 @@
 //! The second program behind the C interface: a stand-in for the library, to try the
-//! differential test with. Built with `STANDIN_FAULT` set to a wrong variant's name, it is
+//! differential test with. Called with `STANDIN_FAULT` set to a wrong variant's name, it is
 //! that wrong variant; set to a name in `misuse`, it misuses the interface.
 
 mod misuse;
 
 use second::check::check;
+use second::formula::formula;
 use second::rules::Rules;
 use second::run::{run, Call, LentStack};
 use second::subject::{checked_number, ran_number, wrote_number};
 use second::writer::{write, Tables};
+use std::sync::OnceLock;
 
-const FAULT: &str = match option_env!("STANDIN_FAULT") {
-    Some(name) => name,
-    None => "",
-};
+/// What `STANDIN_FAULT` names at the first call.
+fn fault() -> &'static str {
+    static FAULT: OnceLock<String> = OnceLock::new();
+    FAULT.get_or_init(|| std::env::var("STANDIN_FAULT").unwrap_or_default())
+}
 
 fn rules() -> Rules {
-    if FAULT.is_empty() || misuse::NAMES.contains(&FAULT) {
-        return Rules::PLAIN;
-    }
-    Rules::named(FAULT).expect("the name of a wrong variant")
+    static RULES: OnceLock<Rules> = OnceLock::new();
+    *RULES.get_or_init(|| {
+        if fault().is_empty() || misuse::NAMES.contains(&fault()) {
+            return Rules::PLAIN;
+        }
+        Rules::named(fault()).expect("the name of a wrong variant")
+    })
 }
 
 /// # Safety
@@ -52,7 +58,7 @@ pub unsafe extern "C" fn limpetskein_check(
 ) -> u32 {
     let answer = check(rules(), lent(module, module_len), lent_mut(room, room_len));
     let number = checked_number(answer, &mut *body);
-    misuse::after_check(FAULT, module.cast_mut(), room, room_len, body);
+    misuse::after_check(fault(), module.cast_mut(), room, room_len, body);
     number
 }
 
@@ -88,7 +94,7 @@ pub unsafe extern "C" fn limpetskein_run(
     };
     let answer = run(rules(), lent(module, module_len), call, stack);
     let number = ran_number(answer, &mut *steps, &mut *height);
-    misuse::after_run(FAULT, types, types_len, steps);
+    misuse::after_run(fault(), types, types_len, steps);
     number
 }
 
@@ -119,6 +125,31 @@ pub unsafe extern "C" fn limpetskein_write(
     };
     let answer = write(rules(), tables, lent_mut(out, out_len));
     let number = wrote_number(answer, &mut *written);
-    misuse::after_write(FAULT, code.cast_mut(), code_len, out, out_len, written);
+    misuse::after_write(fault(), code.cast_mut(), code_len, out, out_len, written);
+    number
+}
+
+/// # Safety
+/// As the C interface says: slices that don't overlap, a valid out-parameter.
+#[no_mangle]
+pub unsafe extern "C" fn limpetskein_formula(
+    line: *const u8,
+    line_len: usize,
+    out: *mut u8,
+    out_len: usize,
+    written: *mut u64,
+) -> u32 {
+    let answer = formula(rules(), lent(line, line_len), lent_mut(out, out_len));
+    let length = answer.unwrap_or(0);
+    let number = wrote_number(answer, &mut *written);
+    misuse::after_formula(
+        fault(),
+        line.cast_mut(),
+        line_len,
+        out,
+        out_len,
+        length,
+        written,
+    );
     number
 }

@@ -2,7 +2,7 @@
 //! past a lent slice, an out-parameter written that must stay, an input changed, a crash.
 
 /// The names that `STANDIN_FAULT` knows besides those of the wrong variants.
-pub const NAMES: [&str; 9] = [
+pub const NAMES: [&str; 11] = [
     "misuse-past-room",
     "misuse-before-types",
     "misuse-body-written",
@@ -12,6 +12,8 @@ pub const NAMES: [&str; 9] = [
     "misuse-past-output",
     "misuse-length-written",
     "misuse-code-changed",
+    "misuse-past-module",
+    "misuse-line-changed",
 ];
 
 /// # Safety
@@ -57,6 +59,29 @@ pub unsafe fn after_write(
         "misuse-length-written" => *written = out_len as u64,
         "misuse-code-changed" if code_len > 0 && out_len > 0 => *code ^= 1,
         "misuse-crash" if out_len > 200 => std::process::abort(),
+        _ => {}
+    }
+}
+
+/// `length`: the module's, or 0 where there is none.
+///
+/// # Safety
+/// As for the formula; and there are bytes around the slices.
+pub unsafe fn after_formula(
+    fault: &str,
+    line: *mut u8,
+    line_len: usize,
+    out: *mut u8,
+    out_len: usize,
+    length: usize,
+    written: *mut u64,
+) {
+    match fault {
+        "misuse-past-output" if out_len > 0 => *out.add(out_len) = 0,
+        "misuse-past-module" if length > 0 && length < out_len => *out.add(length) ^= 1,
+        "misuse-length-written" => *written = out_len as u64,
+        "misuse-line-changed" if line_len > 1 && out_len > 0 => *line ^= 1,
+        "misuse-crash" if (200..=256).contains(&line_len) => std::process::abort(),
         _ => {}
     }
 }

@@ -5,10 +5,12 @@
 use second::args;
 use second::coverage::Coverage;
 use second::gen::case::Case;
+use second::gen::lines::LineCase;
 use second::gen::tables::WriteCase;
 use second::opcode::ALL;
 use second::possible::{
-    exceptions, executions, reasons, CHECK_ANSWERS, RUN_ANSWERS, WRITE_ANSWERS,
+    exceptions, executions, reasons, CHECK_ANSWERS, FORMULA_ANSWERS, LINE_EDGES, RUN_ANSWERS,
+    WRITE_ANSWERS,
 };
 
 fn main() {
@@ -19,10 +21,12 @@ fn main() {
     for number in 0..cases {
         coverage.add(&Case::new(seed, number));
         coverage.add_write(&WriteCase::new(seed, number));
+        coverage.add_line(&LineCase::new(seed, number));
     }
     println!("coverage of {cases} cases from seed {seed}");
     let full = args::has("--full");
     let missing = kinds(&coverage)
+        + lines(&coverage)
         + answers(&coverage)
         + executed(&coverage, full)
         + raised(&coverage, full)
@@ -31,8 +35,12 @@ fn main() {
         "runs of accepted modules that break demand 3: {}",
         coverage.broken
     );
+    println!(
+        "formula lines that come out otherwise: {}",
+        coverage.misread
+    );
     println!("possible but not reached: {missing}");
-    if missing > 0 || coverage.broken > 0 {
+    if missing > 0 || coverage.broken > 0 || coverage.misread > 0 {
         std::process::exit(1);
     }
 }
@@ -45,6 +53,20 @@ fn kinds(coverage: &Coverage) -> u64 {
         let accepted = coverage.accepted.get(kind).copied().unwrap_or(0);
         println!("  {kind}: {accepted} of {all}");
         if ["typed", "expression"].contains(kind) {
+            missing += all - accepted;
+        }
+    }
+    missing
+}
+
+/// Lines made to be in the grammar and in the limits must all be accepted.
+fn lines(coverage: &Coverage) -> u64 {
+    let mut missing = 0;
+    println!("formula lines by generator (accepted of all):");
+    for (kind, all) in &coverage.lines {
+        let accepted = coverage.accepted_lines.get(kind).copied().unwrap_or(0);
+        println!("  {kind}: {accepted} of {all}");
+        if *kind == "expression" {
             missing += all - accepted;
         }
     }
@@ -75,10 +97,17 @@ fn answers(coverage: &Coverage) -> u64 {
     let checks = CHECK_ANSWERS.iter().map(|&n| of(&coverage.checks, n));
     let runs = RUN_ANSWERS.iter().map(|&n| of(&coverage.runs, n));
     let writes = WRITE_ANSWERS.iter().map(|&n| of(&coverage.writes, n));
+    let formulas = FORMULA_ANSWERS.iter().map(|&n| of(&coverage.formulas, n));
+    let edges = LINE_EDGES.iter().map(|&edge| {
+        let count = coverage.line_edges.get(edge).copied();
+        (edge.to_string(), count.unwrap_or(0))
+    });
     let misfit = std::iter::once(("20".to_string(), coverage.misfits));
     row("answers of checks:", checks)
         + row("answers of runs:", runs)
         + row("answers of writes:", writes)
+        + row("answers of formulas:", formulas)
+        + row("edges of formula lines:", edges)
         + row("arguments that don't fit:", misfit)
 }
 

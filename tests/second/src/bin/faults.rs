@@ -1,14 +1,15 @@
 //! Tests the tests: every deliberately wrong variant of the second program must be found by
 //! comparing it with the plain one, on generated cases, or on generated tables for those of the
-//! writer.
+//! writer, and lines for those of the formula.
 //!
 //! `faults [--seed N] [--cases N] [--show]`: at most N cases for each variant.
 
 use second::args;
-use second::compare::{compare, compare_writes};
+use second::compare::{compare, compare_formulas, compare_writes};
 use second::gen::case::Case;
+use second::gen::lines::LineCase;
 use second::gen::tables::WriteCase;
-use second::rules::{Fault, Rules, FAULTS, WRITER_FAULTS};
+use second::rules::{Fault, Rules, FAULTS, FORMULA_FAULTS, WRITER_FAULTS};
 use second::subject::Second;
 
 /// A wrong variant, its name, and what is wrong.
@@ -36,7 +37,15 @@ fn main() {
             difference.map(|text| (number + 1, case.kind, text))
         }
     });
-    let (all, missed) = (FAULTS.len() + WRITER_FAULTS.len(), missed + missed_writers);
+    let missed_formulas = search(&FORMULA_FAULTS, limit, |number| {
+        let case = LineCase::new(seed, number);
+        move |wrong: &mut Second| {
+            let difference = compare_formulas(&case, &mut Second(Rules::PLAIN), wrong);
+            difference.map(|text| (number + 1, case.kind, text))
+        }
+    });
+    let all = FAULTS.len() + WRITER_FAULTS.len() + FORMULA_FAULTS.len();
+    let missed = missed + missed_writers + missed_formulas;
     println!("{all} wrong variants, {missed} missed");
     if missed > 0 {
         std::process::exit(1);

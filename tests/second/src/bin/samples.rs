@@ -2,8 +2,12 @@
 //!
 //! `samples write <directory>`, `samples check <directory>`
 
+use second::desk::{self, Left};
+use second::formula;
 use second::rules::Rules;
-use second::samples::{all, Sample, LIMITS, NUMBERS, PROGRAMS, REFUSED, W_SAMPLES};
+use second::samples::{
+    all, LineSample, Sample, LIMITS, LINES, NUMBERS, PROGRAMS, REFUSED, REFUSED_LINES, W_SAMPLES,
+};
 use second::show::small;
 use std::collections::BTreeMap;
 use std::path::Path;
@@ -49,8 +53,33 @@ fn wanted() -> BTreeMap<String, Vec<u8>> {
         files.insert(format!("{}.{MODULE}", sample.name), file);
         files.insert(format!("{}.txt", sample.name), output);
     }
+    for sample in LINES.iter().chain(&REFUSED_LINES) {
+        let mut put = |extension: &str, content: Vec<u8>| {
+            files.insert(format!("{}.{extension}", sample.name), content);
+        };
+        put("line", format!("{}\n", sample.line).into_bytes());
+        match desk::formula(Rules::PLAIN, sample.line.as_bytes()) {
+            Left::Printed(file) => {
+                put("txt", small(Rules::PLAIN, &file).into_bytes());
+                put("runs", runs(sample, &file).into_bytes());
+                put(MODULE, file);
+            }
+            Left::Refused(line) => put("refused", line.into_bytes()),
+            Left::Usage => {}
+        }
+    }
     files.insert("README.md".to_string(), readme().into_bytes());
     files
+}
+
+/// A line for each run of a formula's function: its parameters, and what is printed.
+fn runs(sample: &LineSample, file: &[u8]) -> String {
+    let run = |&[r, g, b]: &[u32; 3]| {
+        let printed = desk::run(Rules::PLAIN, file, 0, &[r, g, b]);
+        let lines: Vec<&str> = printed.lines().collect();
+        format!("{r} {g} {b}: {}\n", lines.join(", "))
+    };
+    sample.runs.iter().map(run).collect()
 }
 
 /// Files that are missing, different, or not wanted.
@@ -76,6 +105,7 @@ fn readme() -> String {
     let mut text = String::from(
         "# Samples\n\n\
          Small modules, each with the small program's output for it beside it (`.txt`).\n\
+         Formula lines (`.line`) stand beside their modules, at the end of this list.\n\
          All files of this directory are made by `target/tests/release/samples write samples`,\n\
          which `tests/run` builds; it looks whether they are up to date. Their sources are in\n\
          `tests/second/src/samples.rs`.\n\n\
@@ -91,7 +121,56 @@ fn readme() -> String {
     ] {
         text += &table(title, samples);
     }
+    text + &lines()
+}
+
+/// The formula lines.
+fn lines() -> String {
+    let mut text = String::from(
+        "\n## Formula lines\n\n\
+         `NAME.line` has the line and a line end, `NAME.lsk` the module that\n\
+         `./limpet formula LINE` writes, `NAME.txt` what the small program prints for it (the\n\
+         entry is empty), and `NAME.runs` for some r, g, b what\n\
+         `./limpet run NAME.lsk 0 R G B` prints, its lines joined by commas.\n\n\
+         | sample | line | first run | shows |\n|--|--|--|--|\n",
+    );
+    for sample in &LINES {
+        let file = formula::module(Rules::PLAIN, sample.line.as_bytes()).unwrap_or_default();
+        let runs = runs(sample, &file);
+        let first = runs.lines().next().unwrap_or("");
+        text += &format!(
+            "| `{}.line` | {} | `{first}` | {} |\n",
+            sample.name,
+            short(sample.line),
+            sample.shows
+        );
+    }
+    text += "\n## Formula lines that are refused\n\n\
+         `NAME.refused` is what `./limpet formula LINE` prints on standard error: the number and,\n\
+         for 41, how many bytes some line of the grammar begins with.\n\n\
+         | sample | line | refused | shows |\n|--|--|--|--|\n";
+    for sample in &REFUSED_LINES {
+        let Left::Refused(refusal) = desk::formula(Rules::PLAIN, sample.line.as_bytes()) else {
+            continue;
+        };
+        text += &format!(
+            "| `{}.line` | {} | `{}` | {} |\n",
+            sample.name,
+            short(sample.line),
+            refusal.trim_end(),
+            sample.shows
+        );
+    }
     text
+}
+
+/// A long line is shown by its beginning.
+fn short(line: &str) -> String {
+    match line.char_indices().nth(40) {
+        Some((end, _)) => format!("`{}...`", &line[..end]),
+        None if line.is_empty() => String::new(),
+        None => format!("`{line}`"),
+    }
 }
 
 fn table(title: &str, samples: &[Sample]) -> String {

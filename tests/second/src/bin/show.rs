@@ -1,12 +1,15 @@
-//! Shows a generated case, generated tables, or a module given in hex, and the second program's
-//! answers.
+//! Shows a generated case, generated tables, a generated formula line, or a module or a line
+//! that is given, and the second program's answers.
 //!
-//! `show [--seed N] --case N`, `show [--seed N] --write N`, `show --module HEX`
+//! `show [--seed N] --case N`, `--write N` or `--formula N`, `show --module HEX`, `show --line LINE`
 
 use second::args;
 use second::check::{check, Checked};
 use second::compare::describe;
+use second::formula;
+use second::formula::split;
 use second::gen::case::Case;
+use second::gen::lines::LineCase;
 use second::gen::tables::WriteCase;
 use second::hex;
 use second::reader::{read, Module};
@@ -15,7 +18,17 @@ use second::show::small;
 use second::subject::{Second, Subject};
 
 fn main() {
-    args::expect(&["--seed", "--case", "--write", "--module"]);
+    args::expect(&[
+        "--seed",
+        "--case",
+        "--write",
+        "--formula",
+        "--module",
+        "--line",
+    ]);
+    if let Some(line) = args::value("--line") {
+        return show_line(line.as_bytes(), [2, 3, 5]);
+    }
     if let Some(digits) = args::value("--module") {
         let Some(file) = hex::decode(&digits) else {
             eprintln!("--module needs hex digits");
@@ -28,6 +41,9 @@ fn main() {
     let seed = args::number("--seed", 1);
     if args::value("--write").is_some() {
         return show_write(seed, args::number("--write", 0));
+    }
+    if args::value("--formula").is_some() {
+        return show_formula(seed, args::number("--formula", 0));
     }
     let number = args::number("--case", 0);
     let case = Case::new(seed, number);
@@ -54,6 +70,38 @@ fn show_write(seed: u64, number: u64) {
     let answer = Second(Rules::PLAIN).write(&mut memory);
     println!("write: {answer}, length {}", memory.written);
     println!("output {}", hex::encode(memory.out.slice()));
+}
+
+fn show_formula(seed: u64, number: u64) {
+    let case = LineCase::new(seed, number);
+    println!("formula {number} of seed {seed} ({})", case.kind);
+    println!("{}", case.describe());
+    let mut memory = case.memory();
+    let answer = Second(Rules::PLAIN).formula(&mut memory);
+    println!("formula: {answer}, length {}", memory.written);
+    show_line(&case.line, case.names[0]);
+}
+
+fn show_line(line: &[u8], names: [u32; 3]) {
+    match split::reading(line) {
+        None => println!(
+            "not in the grammar from byte {}",
+            formula::place::place(line)
+        ),
+        Some(reading) => println!(
+            "depth {}, operands {}, value on {names:?}: {:?}",
+            reading.depth(),
+            reading.operands(),
+            reading.value(names)
+        ),
+    }
+    match formula::module(Rules::PLAIN, line) {
+        Err(number) => println!("refused: {number}"),
+        Ok(file) => {
+            println!("module: {}", hex::encode(&file));
+            show_module(&file);
+        }
+    }
 }
 
 fn show_module(file: &[u8]) {

@@ -1,19 +1,73 @@
 //! The small program, of the second program: a module on standard input, its output on
-//! standard output.
+//! standard output. And the desk's commands: `small formula LINE`,
+//! `small run FILE FUNCTION [INT...]`.
+//!
+//! `--fault NAME` first: a wrong variant.
 
+use second::desk::{self, Left};
 use second::rules::Rules;
 use second::show::{small, MOST_READ};
-use std::io::Read;
+use std::ffi::OsString;
+use std::io::{Read, Write};
+use std::os::unix::ffi::OsStrExt;
 
 fn main() {
+    let mut words: Vec<OsString> = std::env::args_os().skip(1).collect();
+    let mut rules = Rules::PLAIN;
+    if words.first().is_some_and(|word| word == "--fault") {
+        let name = words.get(1).and_then(|name| name.to_str());
+        rules = name
+            .and_then(Rules::named)
+            .expect("the name of a wrong variant");
+        words.drain(..2);
+    }
+    let left = match words.first().and_then(|word| word.to_str()) {
+        None => Left::Printed(from_input(rules).into_bytes()),
+        Some("formula") => match &words[1..] {
+            [line] => desk::formula(rules, line.as_bytes()),
+            _ => Left::Usage,
+        },
+        Some("run") => run(rules, &words[1..]).unwrap_or(Left::Usage),
+        _ => Left::Usage,
+    };
+    match left {
+        Left::Printed(bytes) => {
+            let mut output = std::io::stdout();
+            output
+                .write_all(&bytes)
+                .expect("standard output can be written");
+        }
+        Left::Refused(line) => {
+            eprint!("{line}");
+            std::process::exit(1);
+        }
+        Left::Usage => {
+            eprintln!("usage: small [formula LINE | run FILE FUNCTION [INT...]]");
+            std::process::exit(2);
+        }
+    }
+}
+
+fn from_input(rules: Rules) -> String {
     let mut input = Vec::new();
     let mut limited = std::io::stdin().take(MOST_READ as u64);
     limited
         .read_to_end(&mut input)
         .expect("standard input can be read");
-    let rules = match second::args::value("--fault") {
-        None => Rules::PLAIN,
-        Some(name) => Rules::named(&name).expect("the name of a wrong variant"),
+    small(rules, &input)
+}
+
+fn run(rules: Rules, words: &[OsString]) -> Option<Left> {
+    let [file, numbers @ ..] = words else {
+        return None;
     };
-    print!("{}", small(rules, &input));
+    let numbers: Option<Vec<u32>> = numbers
+        .iter()
+        .map(|word| word.to_str().and_then(desk::decimal))
+        .collect();
+    let numbers = numbers?;
+    let (&function, ints) = numbers.split_first()?;
+    let input = std::fs::read(file).ok()?;
+    let printed = desk::run(rules, &input, function, ints);
+    Some(Left::Printed(printed.into_bytes()))
 }

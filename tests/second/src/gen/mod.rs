@@ -1,4 +1,4 @@
-//! Seeded generators of modules, calls and tables.
+//! Seeded generators of modules, calls, tables and formula lines.
 
 pub mod body;
 pub mod calls;
@@ -8,6 +8,7 @@ pub mod damage;
 pub mod expression;
 pub mod flow;
 pub mod limits;
+pub mod lines;
 pub mod loose;
 pub mod mixed;
 pub mod near;

@@ -1,10 +1,11 @@
 //! Checks with their answers stated: module, room before, and what the paper says of number,
 //! body and the whole room afterwards. They are written out from the paper, not computed.
-//! `writes` has the same for writes.
+//! `writes` and `formulas` have the same for writes and formula lines.
 
 mod bodies;
 mod calls;
 mod ends;
+pub mod formulas;
 mod instructions;
 mod joins;
 mod labels;
