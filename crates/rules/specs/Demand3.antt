@@ -1,4 +1,5 @@
--- 01, Demand 3, its words. The statement alone; its proof is `demand3` of the crate soundness.
+-- 01, Demand 3, its words. The statement alone; its proof is `demand3` of the crate soundness. Every s is a file of any edition, and
+-- `read s` has the rules of its own (02, A5).
 use mathlib.Core.Path.{_≡_, refl}
 use mathlib.Core.Logic.{_⊎_, inl, inr}
 use Prim.Native.Nat.{ℕ, zero, suc, _+_, _-_, _*_, _≤_, _<_}

@@ -29,6 +29,7 @@ pub mod Samples
 pub mod Exceptions
 pub mod HostCalls
 pub mod Refusals
+pub mod Editions
 pub mod Writings
 pub mod Formulas
 pub mod Typings

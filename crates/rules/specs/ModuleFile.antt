@@ -5,9 +5,9 @@ use mathlib.Core.List.{List, _∷_}
 use lib.ListN.{length}
 use lib.Dec.{ltb}
 use Rattle.rules.specs.Bytes.{word, cut}
-use Rattle.rules.specs.Tables.{Bodies, Tables, bodies, tables, differs, overLimits, firstOf, contentTests, Module, moduleOf}
+use Rattle.rules.specs.Tables.{Bodies, Tables, bodies, tables, differs, unknownEdition, overLimits, firstOf, contentTests, Module, moduleOf}
 
--- ---- header: "| 0, 4 | edition, 3; total length |" and so on
+-- ---- header: "| 0, 4 | edition, 3; total length |" and so on, the same in edition 1 (02, A5)
 
 abbrev pub edition : List ℕ → ℕ
 edition s = word 4 s 0
@@ -61,10 +61,10 @@ tablesIn s = tables (edition s) (constantsIn s) (functionsIn s) (labelsIn s) (co
 abbrev pub short : List ℕ → Bool
 short s = ltb (length s) 48
 
--- ---- 2: "edition is not 3"
+-- ---- 2: "neither 1 nor 3" (02, A5)
 
 abbrev pub otherEdition : List ℕ → Bool
-otherEdition s = differs (edition s) 3
+otherEdition s = unknownEdition (edition s)
 
 -- ---- 3: "total length word differs from the lent length"; so does every length of 2 ^ 32 or more
 
@@ -89,7 +89,8 @@ notPacked s =
 unfoldable pub refusal : List ℕ → ℕ
 refusal s = firstOf 1 (short s ∷ otherEdition s ∷ otherTotal s ∷ overLimit s ∷ notPacked s ∷ contentTests (tablesIn s))
 
--- ---- what reading gives
+-- ---- what reading gives. Its code are the instructions that its edition's table gives, so all that follows is by "the rules of the
+-- module's edition" (02, A5)
 
 abbrev pub read : List ℕ → Module
 read s = moduleOf (tablesIn s)

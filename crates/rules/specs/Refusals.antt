@@ -4,7 +4,7 @@ use Prim.Native.Nat.{ℕ, zero, suc}
 use mathlib.Core.List.{List, [], _∷_, _++_}
 use lib.ListN.{take, set}
 use Rattle.rules.specs.Bytes.{words}
-use Rattle.rules.specs.Files.{PUSH, POP, LOAD, RET, function, file}
+use Rattle.rules.specs.Files.{PUSH, POP, LOAD, RET, function, fileIn, file}
 use Rattle.rules.specs.Samples.{w1}
 use Rattle.rules.specs.Evaluate.{refusalNow}
 
@@ -19,6 +19,10 @@ one = file [] (function (3 ∷ []) 3 (LOAD 0 ++ RET) ∷ []) [] []
 abbrev eight : List ℕ
 eight = file [] (function (3 ∷ 4 ∷ 6 ∷ 131 ∷ 132 ∷ 134 ∷ 3 ∷ 3 ∷ []) 3 (LOAD 0 ++ RET) ∷ []) [] []
 
+-- one function of edition 1, with this parameter type byte and this return type: `load` 0, `ret`
+abbrev old : ℕ → ℕ → List ℕ
+old p r = fileIn 1 [] (function (p ∷ []) r (LOAD 0 ++ (0x22 ∷ [])) ∷ []) [] []
+
 -- an entry of 5 bytes; function 0 from 5 on, of 2 ^ 32 - 3 bytes; function 1 from 2 on, of 3 bytes: up to 5, the code's length
 abbrev wrapping : List ℕ
 wrapping =
@@ -32,8 +36,8 @@ labelled ls = file ((3, 5) ∷ []) (function [] 3 (PUSH 0 ++ RET) ∷ function [
 pub rows : List (List ℕ × ℕ)
 rows =
     (w1, 0) ∷ ([], 1) ∷ (take 47 w1, 1) ∷ (take 48 w1, 3)
-    -- 2 before 3, 3 before the rest
-    ∷ (set w1 0 1, 2) ∷ (set w1 3 1, 2) ∷ (set (set w1 0 4) 4 0, 2) ∷ (w1 ++ (0 ∷ []), 3) ∷ (set w1 4 0x54, 3) ∷ (set (set w1 4 0x54) 44 1, 3)
+    -- 2: neither 1 nor 3; 2 before 3, 3 before the rest
+    ∷ (set w1 0 0, 2) ∷ (set w1 0 1, 0) ∷ (set w1 0 2, 2) ∷ (set w1 0 4, 2) ∷ (set w1 3 1, 2) ∷ (set (set w1 0 1) 3 1, 2) ∷ (set (set w1 0 4) 4 0, 2) ∷ (w1 ++ (0 ∷ []), 3) ∷ (set w1 4 0x54, 3) ∷ (set (set w1 4 0x54) 44 1, 3)
     -- the empty module; 4, each limit, and word 44; 4 before 5
     ∷ (bare 48 0 0 0 0 0 0, 0) ∷ (bare 48 1025 0 0 0 0 0, 4) ∷ (bare 48 1024 0 0 0 0 0, 5) ∷ (bare 48 0 129 0 0 0 0, 4) ∷ (bare 48 0 128 0 0 0 0, 5)
     ∷ (bare 48 0 0 257 0 0 0, 4) ∷ (bare 48 0 0 256 0 0 0, 5) ∷ (bare 48 0 0 0 16385 0 0, 4) ∷ (bare 48 0 0 0 16384 0 0, 5) ∷ (bare 48 0 0 0 0 0 1, 4) ∷ (bare 48 0 0 0 0 99999 0, 5)
@@ -48,6 +52,8 @@ rows =
     ∷ (set one 57 0, 0) ∷ (set one 57 4, 0) ∷ (set one 57 6, 0) ∷ (set one 57 5, 7) ∷ (set one 57 7, 7) ∷ (set one 57 131, 7) ∷ (set one 58 4, 0) ∷ (set one 58 6, 0) ∷ (set one 58 131, 0) ∷ (set one 58 132, 0)
     ∷ (set one 58 134, 0) ∷ (set one 58 5, 7) ∷ (set one 58 133, 7) ∷ (set one 58 0, 7) ∷ (set one 59 3, 7) ∷ (set one 65 1, 7) ∷ (set one 66 1, 7) ∷ (set one 67 1, 7)
     ∷ (file [] (function [] 0 [] ∷ []) [] RET, 7)
+    -- in edition 1 no pointer parameter; 28 hex is none of its opcodes
+    ∷ (set one 0 1, 8) ∷ (old 3 6, 0) ∷ (old 4 6, 0) ∷ (old 6 6, 0) ∷ (old 131 6, 7) ∷ (old 132 6, 7) ∷ (old 134 6, 7) ∷ (old 3 131, 7) ∷ (old 3 5, 7) ∷ (old 3 0, 0)
     -- lengths that fill the code only if their sum wraps at 32 bits
     ∷ (wrapping, 7)
     -- 8: unknown opcodes, also in code that is never reached; an instruction that crosses the code's or its body's end
@@ -75,16 +81,22 @@ pub table : computed rows ≡ expected rows
 unfolding computed expected rows
 table = refl
 
--- ---- "opcodes 01 to 05, 07 to 28, 2B, 2C, 2E (hex), 42 in all": the bytes below n with which an entry can begin, four more after them
+-- ---- the opcodes of edition e: the bytes below n with which an entry can begin, four more after them
 
-pub before : ℕ → List ℕ → List ℕ
-before zero bs = bs
-before (suc b) bs = elim (refusalNow (file [] [] [] (b ∷ 2 ∷ 2 ∷ 2 ∷ 2 ∷ []))) [ zero ↦ before b (b ∷ bs) | suc e ↦ before b bs ]
+pub before : ℕ → ℕ → List ℕ → List ℕ
+before e zero bs = bs
+before e (suc b) bs = elim (refusalNow (fileIn e [] [] [] (b ∷ 2 ∷ 2 ∷ 2 ∷ 2 ∷ []))) [ zero ↦ before e b (b ∷ bs) | suc r ↦ before e b bs ]
 
 abbrev from-to : ℕ → ℕ → List ℕ
 from-to b zero = []
 from-to b (suc n) = b ∷ from-to (suc b) n
 
-pub opcodes-table : before 256 [] ≡ from-to 0x01 5 ++ (from-to 0x07 34 ++ (0x2b ∷ 0x2c ∷ 0x2e ∷ []))
+-- "opcodes 01 to 05, 07 to 28, 2B, 2C, 2E (hex), 42 in all"
+pub opcodes-table : before 3 256 [] ≡ from-to 0x01 5 ++ (from-to 0x07 34 ++ (0x2b ∷ 0x2c ∷ 0x2e ∷ []))
 unfolding refusalNow before
 opcodes-table = refl
+
+-- 02, A5: "01 to 25 (hex)"
+pub old-opcodes-table : before 1 256 [] ≡ from-to 0x01 37
+unfolding refusalNow before
+old-opcodes-table = refl

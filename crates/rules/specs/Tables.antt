@@ -1,4 +1,4 @@
--- 01, Module file; Answers by number, 6 to 9; 02, A1: "constant, function and label tables, code and entry length". The rows of
+-- 01, Module file; Answers by number, 2, 4 and 6 to 9; 02, A1: "constant, function and label tables, code and entry length". The rows of
 -- the table of refusals that look into the sections, and the module that these are. Reader and writer share all of it.
 use Prim.Native.Nat.{ℕ, zero, suc, _+_, _*_, _/_}
 use mathlib.Core.Bool.{Bool, true, false, not, _&&_, _||_, cond}
@@ -52,6 +52,11 @@ labelAt i = 8 * i
 abbrev pub differs : ℕ → ℕ → Bool
 differs a b = not (eqb a b)
 
+-- ---- 2: "neither 1 nor 3" (02, A5)
+
+abbrev pub unknownEdition : ℕ → Bool
+unknownEdition e = differs e 1 && differs e 3
+
 -- ---- 4: "a count or the code length is over its limit"
 
 abbrev pub overLimits : ℕ → ℕ → ℕ → ℕ → Bool
@@ -78,13 +83,17 @@ numberType t = eqb t 3 || eqb t 4 || eqb t 6
 abbrev pub oddReturn : ℕ → Bool
 oddReturn t = differs t 0 && not (numberType t)
 
--- "eight parameter type bytes (3, 4, 6, or 83, 84, 86 hex for pointer to one; unused are 0)"
-abbrev pub oddParam : Bool → ℕ → Bool
-oddParam used t = (used && not (numberType t || eqb t 131 || eqb t 132 || eqb t 134)) || (not used && differs t 0)
+-- "83, 84, 86 hex for pointer to one"; in edition 1 "No pointer types in signatures (7)" (02, A5)
+abbrev pub pointerType : ℕ → ℕ → Bool
+pointerType e t = differs e 1 && (eqb t 131 || eqb t 132 || eqb t 134)
+
+-- "eight parameter type bytes (3, 4, 6, or 83, 84, 86 hex for pointer to one; unused are 0)", in edition e
+abbrev pub oddParam : ℕ → Bool → ℕ → Bool
+oddParam e used t = (used && not (numberType t || pointerType e t)) || (not used && differs t 0)
 
 -- parameter byte j of the record at byte a
-unfoldable pub badParam : List ℕ → ℕ → ℕ → Bool
-badParam s a j = oddParam (ltb j (byte s (a + 8))) (byte s (a + 10 + j))
+unfoldable pub badParam : ℕ → List ℕ → ℕ → ℕ → Bool
+badParam e s a j = oddParam e (ltb j (byte s (a + 8))) (byte s (a + 10 + j))
 
 -- "Code begins with the entry's body; function bodies follow in number order without gaps": the place where the body
 -- before function i ends, the lengths summed without wrapping
@@ -94,13 +103,13 @@ endBefore b (suc i) = endBefore b i + word 4 (b .functions) (functionAt i + 4)
 
 -- the record at byte a, of a body that must start at the place `from`: "start, length (≥ 1), parameter count (0 to 8,
 -- one byte), return type, .., two zero bytes"
-unfoldable pub badRecord : List ℕ → ℕ → ℕ → Bool
-badRecord s a from =
+unfoldable pub badRecord : ℕ → List ℕ → ℕ → ℕ → Bool
+badRecord e s a from =
     differs (word 4 s a) from || eqb (word 4 s (a + 4)) 0 || ltb 8 (byte s (a + 8)) || oddReturn (byte s (a + 9))
-    || some-below 8 (badParam s a) || differs (byte s (a + 18)) 0 || differs (byte s (a + 19)) 0
+    || some-below 8 (badParam e s a) || differs (byte s (a + 18)) 0 || differs (byte s (a + 19)) 0
 
 unfoldable pub badFunction : Bodies → ℕ → Bool
-badFunction b i = badRecord (b .functions) (functionAt i) (endBefore b i)
+badFunction b i = badRecord (b .edition) (b .functions) (functionAt i) (endBefore b i)
 
 -- "and fill the section"
 unfoldable pub badFunctions : Bodies → Bool

@@ -1,6 +1,6 @@
--- 02, A1: the module writer, from tables to an answer and to the lent output after.
+-- 02, A1: the module writer, from tables to an answer and to the lent output after. A5: "A1, told which, writes either".
 use Prim.Native.Nat.{ℕ, zero, suc, _+_, _/_, _%_}
-use mathlib.Core.Bool.{Bool, _||_, cond}
+use mathlib.Core.Bool.{Bool, false, _||_, cond}
 use mathlib.Core.Option.{Option, none, some}
 use mathlib.Core.List.{List, [], _∷_, _++_}
 use lib.ListN.{length, drop}
@@ -9,7 +9,7 @@ pub use Rattle.rules.specs.declared.WriteAnswer.{WriteAnswer}
 pub use Rattle.rules.specs.declared.WriteAnswer.the-variants.{Unwritten, Written}
 use Rattle.rules.specs.Bytes.{words}
 use Rattle.rules.specs.Numbers.{done, output-too-short}
-use Rattle.rules.specs.Tables.{Tables, constantCount, functionCount, labelCount, differs, overLimits, firstOf, contentTests}
+use Rattle.rules.specs.Tables.{Tables, constantCount, functionCount, labelCount, differs, unknownEdition, overLimits, firstOf, contentTests}
 
 -- ---- the file of these tables: "A header of counts and offsets, then four sections without gaps."
 
@@ -33,7 +33,8 @@ fileLength t = 48 + length (t .constants) + length (t .bodies .functions) + leng
 unfoldable pub fileOf : Tables → List ℕ
 fileOf t = headerOf t ++ (t .constants ++ (t .bodies .functions ++ (t .labels ++ t .bodies .code)))
 
--- ---- "Refusals: the reader's 4 to 9 (part of a record at a table's end is 5); then 16, output too short."
+-- ---- "Refusals: the reader's 4 to 9 (part of a record at a table's end is 5); then 16, output too short." 02, A5: "Refusals: 2, now
+-- A1's too"
 
 -- 4: "a count or the code length is over its limit". A count is that of whole records.
 unfoldable pub tooMany : Tables → Bool
@@ -45,9 +46,9 @@ broken t =
     differs (length (t .constants) % 12) 0 || differs (length (t .bodies .functions) % 20) 0 || differs (length (t .labels) % 8) 0
     || ltb (length (t .bodies .code)) (t .bodies .entry)
 
--- 4 to 9; 0 where none holds
+-- 2, 4 to 9; 0 where none holds. 3 cannot: the total length is the writer's own
 unfoldable pub tableRefusal : Tables → ℕ
-tableRefusal t = firstOf 4 (tooMany t ∷ broken t ∷ contentTests t)
+tableRefusal t = firstOf 2 (unknownEdition (t .bodies .edition) ∷ false ∷ tooMany t ∷ broken t ∷ contentTests t)
 
 -- ---- what a writer answers: "0 with the length", or a refusal by its number alone
 

@@ -1,6 +1,6 @@
--- A table that is not of the paper: the module writer on W1's tables, refusals 4 to 9 and 16, and which of two comes first.
+-- A table that is not of the paper: the module writer on W1's tables, refusals 2, 4 to 9 and 16, and which of two comes first.
 use mathlib.Core.Path.{_≡_, refl}
-use Prim.Native.Nat.{ℕ}
+use Prim.Native.Nat.{ℕ, _+_, _^_}
 use mathlib.Core.List.{List, [], _∷_, _++_}
 use lib.ListN.{take, set}
 use Rattle.rules.specs.Bytes.{zeros}
@@ -31,6 +31,10 @@ rows =
     -- 6 to 9
     ∷ (tables 3 (set numbers 0 5) [] [] sum 11, (0, 6)) ∷ (tables 3 numbers [] [] sum 10, (0, 7)) ∷ (tables 3 [] one [] (LOAD 0 ++ RET) 0, (74, 0)) ∷ (tables 3 [] (set one 4 5) [] (LOAD 0 ++ RET) 0, (0, 7))
     ∷ (tables 3 numbers [] [] (set sum 10 6) 11, (0, 8)) ∷ (tables 3 numbers [] (labelBytes ((0xffffffff, 1) ∷ [])) sum 11, (0, 9)) ∷ (tables 3 numbers [] (labelBytes ((0xffffffff, 5) ∷ [])) sum 11, (91, 0))
+    -- A5: either edition; 2, and 2 before 4 and 5; in edition 1 a pointer parameter is 7, 28 hex is 8
+    ∷ (tables 1 numbers [] [] sum 11, (83, 0)) ∷ (tables 1 numbers [] [] sum 11, (82, 16)) ∷ (tables 0 numbers [] [] sum 11, (200, 2)) ∷ (tables 2 numbers [] [] sum 11, (200, 2)) ∷ (tables 4 numbers [] [] sum 11, (0, 2))
+    ∷ (tables 2 [] (zeros 2580) [] [] 0, (0, 2)) ∷ (tables 2 numbers [] [] sum 12, (200, 2)) ∷ (tables (1 + 2 ^ 32) numbers [] [] sum 11, (200, 2)) ∷ (tables 1 [] one [] (LOAD 0 ++ (0x22 ∷ [])) 0, (74, 0))
+    ∷ (tables 1 [] (set one 10 131) [] (LOAD 0 ++ (0x22 ∷ [])) 0, (74, 7)) ∷ (tables 3 [] (set one 10 131) [] (LOAD 0 ++ RET) 0, (74, 0)) ∷ (tables 1 [] one [] (LOAD 0 ++ RET) 0, (74, 8))
     ∷ []
 
 pub computed : List (Tables × (ℕ × ℕ)) → List ℕ
@@ -50,6 +54,11 @@ table = refl
 pub w1-written : writeNow (tables 3 numbers [] [] sum 11) (nines 85) ≡ wrote (Written 83) (w1 ++ nines 2)
 unfolding writeNow
 w1-written = refl
+
+-- told edition 1, the same bytes but for the edition's word
+pub w1-written-old : writeNow (tables 1 numbers [] [] sum 11) (nines 85) ≡ wrote (Written 83) (set w1 0 1 ++ nines 2)
+unfolding writeNow
+w1-written-old = refl
 
 pub w1-refused : writeNow (tables 3 numbers [] [] sum 11) (nines 82) ≡ wrote (Unwritten 16) (nines 82)
 unfolding writeNow
