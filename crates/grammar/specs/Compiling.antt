@@ -60,7 +60,7 @@ fileFor t = fileOf (formulaTables t)
 
 module _ (t : Tree) (w : Proper t) (few : count t ≤ 256) where
   readable : (refusal (fileFor t) ≡ 0) × (tablesIn (fileFor t) ≡ formulaTables t)
-  readable = file-readable (formulaTables t) refl (tables-good t w few)
+  readable = file-readable (formulaTables t) (tables-good t w few)
 
   file-holds : Holds (read (fileFor t)) t
   file-holds = subst (λ x. Holds (moduleOf x) t) (sym (readable .1)) (holds t w few)

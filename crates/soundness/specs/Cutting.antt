@@ -9,7 +9,7 @@ use lib.Seq.{length-take-le, getD-drop}
 use lib.Dec.{ltb}
 use Rattle.rules.specs.Bytes.{word, cut}
 use Rattle.rules.specs.Tables.{differs, overLimits, firstOf, contentTests, constantCount, functionCount, labelCount, badConstants, badFunctions}
-use Rattle.rules.specs.ModuleFile.{edition, constants, functions, labels, codeLength, entryLength, functionsAt, labelsAt, codeAt, constantsIn, functionsIn, labelsIn, codeIn, bodiesIn, tablesIn, short, otherEdition, otherTotal, overLimit, notPacked, refusal}
+use Rattle.rules.specs.ModuleFile.{constants, functions, labels, codeLength, entryLength, functionsAt, labelsAt, codeAt, constantsIn, functionsIn, labelsIn, codeIn, bodiesIn, tablesIn, short, otherEdition, otherTotal, overLimit, notPacked, refusal}
 use Rattle.rules.specs.Writing.{tooMany, broken, tableRefusal}
 use Rattle.rules.specs.Claims.{AreBytes}
 use Rattle.soundness.specs.Tests.{ltb-isnt, ltb-no, or-neither}
@@ -48,7 +48,6 @@ label-count-le s = let h : length (labelsIn s) ≤ 8 * labels s = length-cut-le 
 -- ---- rows 1 to 5
 
 pub record Packed (s : List ℕ) : Type 0 where
-  pub third : edition s ≡ 3
   pub total : word 4 s 4 ≡ length s
   pub limits : overLimits (constants s) (functions s) (labels s) (codeLength s) ≡ false
   pub zero-word : word 4 s 44 ≡ 0
@@ -77,7 +76,6 @@ module _ (s : List ℕ) (e : refusal s ≡ 0) where
       or-neither (differs (word 4 s 12) 48) (differs (word 4 s 20) (functionsAt s)) (p3 .0) in
       let t : word 4 s 4 ≡ length s = same-numbers (word 4 s 4) (length s) (rows .1 .1 .0) in
       record {
-        third = same-numbers (edition s) 3 (rows .1 .0);
         total = t;
         limits = l .0;
         zero-word = same-numbers (word 4 s 44) 0 (l .1);
@@ -127,7 +125,7 @@ module _ (s : List ℕ) (e : refusal s ≡ 0) where
 
   pub good-file : tableRefusal (tablesIn s) ≡ 0
   unfolding tableRefusal firstOf
-  good-file = rw (not-many, not-broken, rows .1 .1 .1 .1 .1 .0, rows .1 .1 .1 .1 .1 .1 .0, rows .1 .1 .1 .1 .1 .1 .1 .0, rows .1 .1 .1 .1 .1 .1 .1 .1 .0)
+  good-file = rw (rows .1 .0, not-many, not-broken, rows .1 .1 .1 .1 .1 .0, rows .1 .1 .1 .1 .1 .1 .0, rows .1 .1 .1 .1 .1 .1 .1 .0, rows .1 .1 .1 .1 .1 .1 .1 .1 .0)
 
   -- what the rows leave of it
 

@@ -8,7 +8,7 @@ use mathlib.Core.Option.{some}
 use mathlib.Core.List.{List, [], _∷_}
 use lib.ListN.{length}
 use lib.Dec.{eqb, ltb}
-use Rattle.soundness.specs.Names.{Num, int, long, double, Slot, Unary, pop, copy, neg, complement, convert, Binary, swap, arith as arithmetic, cmp}
+use Rattle.soundness.specs.Names.{Num, int, long, double, Slot, Unary, pop, copy, neg, complement, convert, count, Binary, swap, arith as arithmetic, cmp}
 use Rattle.rules.specs.Bytes.{byte}
 use Rattle.rules.specs.Instructions.{Ty, num, ptr, numKind}
 use Rattle.rules.specs.Tables.{constantCount, constantAt, constantOf, bodyOf, moduleOf}
@@ -56,6 +56,7 @@ ones copy v p = (p, (p, tt))
 ones neg v p = (p, tt)
 ones complement v p = (p, tt)
 ones (convert τ) v p = (num-kind τ, tt)
+ones (count u) v p = (p, tt)
 
 twos : (o : Binary) (v w : Slot) → OfKind v → OfKind w → Yielded OfKind (eval2 o v w)
 twos swap v w p q = (p, (q, tt))

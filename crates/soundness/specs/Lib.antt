@@ -9,7 +9,9 @@ pub mod Exact
 pub mod Forced
 pub mod Walks
 pub mod Records
+pub mod Numbering
 pub mod Readable
+pub mod Translated
 pub mod Cutting
 pub mod Saves
 pub mod Whole

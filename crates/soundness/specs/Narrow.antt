@@ -13,7 +13,7 @@ use lib.Bits.{bitAnd, bitOr, bitXor, and-lt, or-lt, xor-lt}
 use lib.IntN.{ℤ, pos, negsuc, negℤ}
 use lib.Signed.{quotZ, remZ, shrZ}
 use lib.Ieee.{Float, nan, inf, fin, up, down}
-use Rattle.soundness.specs.Names.{Num, int, long, double, Slot, Operator, add, sub, mul, imul, div, idiv, rem, irem, and, or, xor, shl, sal, shr, sar, Unary, pop, copy, neg, complement, convert, Binary, swap, arith as arithmetic, cmp}
+use Rattle.soundness.specs.Names.{Num, int, long, double, Slot, Operator, add, sub, mul, imul, div, idiv, rem, irem, and, or, xor, shl, sal, shr, sar, Unary, pop, copy, neg, complement, convert, count, Binary, swap, arith as arithmetic, cmp}
 use Rattle.rules.specs.Bytes.{byte, number, word, maybe}
 use Rattle.rules.specs.Words.{signedOf, patternOf, idivOf, imodOf, shlOf, shrOf, sarOf, notOf, orderOf, cmpOf, icmpOf}
 use Rattle.rules.specs.Doubles.{decodeOf, wordOf, cutOf}
@@ -142,6 +142,7 @@ module _ (B : Type 0) where
   ones (convert int) v p = ((λ b e. converted-narrow (v .kind) (v .payload) (p b)), tt)
   ones (convert long) v p = ((λ b e. absurd (omega arith)), tt)
   ones (convert double) v p = ((λ b e. absurd (omega arith)), tt)
+  ones (count u) v p = ((λ b e. bumped-narrow u (v .kind) (v .payload) e), tt)
 
   twos : (o : Binary) (v w : Slot) → Narrow B v → Narrow B w → Yielded (Narrow B) (eval2 o v w)
   twos swap v w p q = (p, (q, tt))

@@ -8,11 +8,11 @@ use mathlib.Core.List.{List}
 use lib.Dec.{leb}
 use Rattle.soundness.specs.Names.{Slot, Instruction}
 use Rattle.rules.specs.Instructions.{size}
-use Rattle.rules.specs.Tables.{Body, bodyEnd}
-use Rattle.rules.specs.ModuleFile.{bodiesIn, codeLength, read, refusal, tablesIn}
+use Rattle.rules.specs.Tables.{Body, bodyEnd, due, moduleOf}
+use Rattle.rules.specs.ModuleFile.{edition, codeIn, bodiesIn, codeLength, read, refusal, tablesIn}
 use Rattle.rules.specs.Machine.{State, Next, advance, step}
 use Rattle.soundness.specs.Tests.{decide, leb-is}
-use Rattle.soundness.specs.Readable.{Has, end-is, place-inside, orderly}
+use Rattle.soundness.specs.Readable.{Has, end-is, place-is, place-inside, orderly}
 use Rattle.soundness.specs.Cutting.{code-length, good-file}
 use Rattle.soundness.specs.Started.{Closed, Fit, NextFit, advance-fit, has-instruction}
 
@@ -35,6 +35,11 @@ module _ (s : List ℕ) (e : refusal s ≡ 0) (P : Slot → Type 0) (C : Closed 
       let y = end-is (tablesIn s) (good-file s e) (st .top .body) (st .top .stop) (I .frames .0 .ends) in
       let w = place-inside (tablesIn s) (good-file s e) (st .top .body) (st .top .place + size (x .0)) (y .0) (x .2) in
       (x .0, x .1, subst (λ z. st .top .place + size (x .0) ≤ z) (y .1) (w .1))
+
+  -- an instruction begins there, so code in keys has its key there (`in-keys` of `Translated`)
+  pub place-cut : due (edition s) (codeIn s) (st .top .place) ≡ 0
+  unfolding moduleOf
+  place-cut = place-is (tablesIn s) (good-file s e) (st .top .body) (st .top .place) (I .frames .0 .placed) .2
 
   pub step-fit : st .top .place < st .top .stop → NextFit (read s) P cap (step (read s) cap st)
   unfolding advance

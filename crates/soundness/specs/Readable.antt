@@ -11,12 +11,13 @@ use lib.Seq.{getD-drop}
 use lib.Dec.{ltb, leb, eqb}
 use Rattle.soundness.specs.Names.{Instruction}
 use Rattle.rules.specs.Bytes.{byte, word, number, some-below}
-use Rattle.rules.specs.Instructions.{Ty, typeByte, tyOf, Opcode, absent, bare, wide, edition3, opcodes, opcodeOf, isAbsent, operandBytes, instructionOf, size}
-use Rattle.rules.specs.Tables.{Bodies, Tables, constantCount, functionCount, labelCount, constantAt, functionAt, labelAt, differs, oddConstant, badConstant, badConstants, oddReturn, oddParam, badParam, badRecord, badFunction, badFunctions, endBefore, opcodeAt, dueAfter, due, dueIn, unknownAt, crossed, badCode, owns, badLabel, badLabels, firstOf, contentTests, Body, entry, fn, bodyOf, Function, Module, paramsFrom, functionOf, labelOf, codeOf, bodyStart, bodyEnd, placeIn, moduleOf}
+use Rattle.rules.specs.Instructions.{Ty, typeByte, tyOf, Opcode, absent, bare, wide, opcodes, opcodeOf, isAbsent, operandBytes, instructionOf, size}
+use Rattle.rules.specs.Tables.{Bodies, Tables, constantCount, functionCount, labelCount, constantAt, functionAt, labelAt, differs, unknownEdition, oddConstant, badConstant, badConstants, oddReturn, oddParam, badParam, badRecord, badFunction, badFunctions, endBefore, opcodeAt, dueAfter, due, dueIn, unknownAt, crossed, badCode, owns, badLabel, badLabels, firstOf, contentTests, Body, entry, fn, bodyOf, Function, Module, paramsFrom, functionOf, labelOf, codeOf, bodyStart, bodyEnd, placeIn, moduleOf}
 use Rattle.rules.specs.Writing.{tooMany, broken, tableRefusal}
 use Rattle.rules.specs.Typing.{startOf, endOf}
 use Rattle.rules.specs.Claims.{dueFrom}
 use Rattle.soundness.specs.Tests.{decide, none-some, some-inj, eqb-is, eqb-isnt, eqb-other, leb-is, leb-isnt, leb-yes, ltb-is, ltb-isnt, ltb-yes, ltb-no, false-true, and-both, and-intro, or-neither, not-false}
+use Rattle.soundness.specs.Numbering.{keyTable, keyOf, keyed}
 
 -- ---- rows
 
@@ -70,15 +71,23 @@ return-type t e =
     (λ a. decide (eqb t 4) (λ b. inr (inr (inl (eqb-is t 4 b))))
     (λ b. decide (eqb t 6) (λ c. inr (inr (inr (eqb-is t 6 c)))) (λ c. false-true (sym (rw (z, a, b, c) at e))))))
 
-param-type : (used : Bool) (t : ℕ) → used ≡ true → oddParam used t ≡ false → typeByte (tyOf t) ≡ t
-param-type used t u h =
-    let e : oddParam true t ≡ false = rw u at h in
+param-type : (ed : ℕ) (used : Bool) (t : ℕ) → used ≡ true → oddParam ed used t ≡ false → typeByte (tyOf t) ≡ t
+param-type ed used t u h =
+    let e : oddParam ed true t ≡ false = rw u at h in
     decide (eqb t 3) (λ a. let q : t ≡ 3 = eqb-is t 3 a in rw q refl)
     (λ a. decide (eqb t 4) (λ b. let q : t ≡ 4 = eqb-is t 4 b in rw q refl)
     (λ b. decide (eqb t 6) (λ c. let q : t ≡ 6 = eqb-is t 6 c in rw q refl)
     (λ c. decide (eqb t 131) (λ d. let q : t ≡ 131 = eqb-is t 131 d in rw q refl)
     (λ d. decide (eqb t 132) (λ f. let q : t ≡ 132 = eqb-is t 132 f in rw q refl)
-    (λ f. decide (eqb t 134) (λ g. let q : t ≡ 134 = eqb-is t 134 g in rw q refl) (λ g. false-true (sym (rw (a, b, c, d, f, g) at e))))))))
+    (λ f. decide (eqb t 134) (λ g. let q : t ≡ 134 = eqb-is t 134 g in rw q refl)
+    (λ g. decide (eqb ed 1) (λ o. false-true (sym (rw (o, a, b, c) at e))) (λ o. false-true (sym (rw (o, a, b, c, d, f, g) at e)))))))))
+
+-- the editions that there are
+abbrev pub KnownEdition : ℕ → Type 0
+KnownEdition e = (e ≡ 1) ⊎ (e ≡ 3)
+
+known-edition : (e : ℕ) → unknownEdition e ≡ false → KnownEdition e
+known-edition e h = decide (eqb e 1) (λ y. inl (eqb-is e 1 y)) (λ y. inr (same-numbers e 3 (rw y at h)))
 
 -- a body that exists
 abbrev pub Has : Bodies → Body → Type 0
@@ -93,8 +102,9 @@ pub record Good (B : Bodies) : Type 0 where
   pub seventh : badFunctions B ≡ false
   pub eighth : badCode B ≡ false
 
--- what rows 4 to 9 leave of tables
+-- what rows 2 and 4 to 9 leave of tables
 pub record GoodTables (t : Tables) : Type 0 where
+  pub known : KnownEdition (t .bodies .edition)
   pub few-constants : constantCount (t .constants) ≤ 1024
   pub few-labels : labelCount (t .labels) ≤ 256
   pub whole-constants : length (t .constants) % 12 ≡ 0
@@ -111,7 +121,9 @@ good-tables t e =
     let F : ℕ = length (t .bodies .functions) in
     let L : ℕ = length (t .labels) in
     let N : ℕ = length (t .bodies .code) in
-    let r : AllFalse (tooMany t ∷ broken t ∷ contentTests t) = none-first 3 (tooMany t ∷ broken t ∷ contentTests t) e in
+    let tests : List Bool = unknownEdition (t .bodies .edition) ∷ false ∷ tooMany t ∷ broken t ∷ contentTests t in
+    let f : AllFalse tests = none-first 1 tests e in
+    let r : AllFalse (tooMany t ∷ broken t ∷ contentTests t) = f .1 .1 in
     let x : _ × (ltb 16384 N ≡ false) = or-neither _ (ltb 16384 N) (r .0) in
     let y : _ × (ltb 256 (L / 8) ≡ false) = or-neither _ (ltb 256 (L / 8)) (x .0) in
     let z : (ltb 1024 (C / 12) ≡ false) × (ltb 128 (F / 20) ≡ false) = or-neither (ltb 1024 (C / 12)) (ltb 128 (F / 20)) (y .0) in
@@ -119,6 +131,7 @@ good-tables t e =
     let v : _ × (differs (L % 8) 0 ≡ false) = or-neither _ (differs (L % 8) 0) (u .0) in
     let w : (differs (C % 12) 0 ≡ false) × (differs (F % 20) 0 ≡ false) = or-neither (differs (C % 12) 0) (differs (F % 20) 0) (v .0) in
     record {
+      known = known-edition (t .bodies .edition) (f .0);
       few-constants = ltb-isnt 1024 (C / 12) (z .0);
       few-labels = ltb-isnt 256 (L / 8) (y .1);
       whole-constants = same-numbers (C % 12) 0 (w .0);
@@ -177,13 +190,13 @@ module _ (B : Bodies) (g : badFunctions B ≡ false) where
 
   record-parts : (k : ℕ) → k < functionCount (B .functions)
       → (differs (word 4 (B .functions) (functionAt k)) (endBefore B k) ≡ false) × (ltb 8 (byte (B .functions) (functionAt k + 8)) ≡ false) × (oddReturn (byte (B .functions) (functionAt k + 9)) ≡ false)
-      × (some-below 8 (badParam (B .functions) (functionAt k)) ≡ false)
+      × (some-below 8 (badParam (B .edition) (B .functions) (functionAt k)) ≡ false)
   unfolding badFunction badRecord
   record-parts k h =
       let a : ℕ = functionAt k in
       let f : badFunction B k ≡ false = none-below (functionCount (B .functions)) (badFunction B) (good-functions .0) k h in
-      let x : _ × (some-below 8 (badParam (B .functions) a) ≡ false) =
-      or-neither _ (some-below 8 (badParam (B .functions) a)) (or-neither _ (differs (byte (B .functions) (a + 18)) 0) (or-neither _ (differs (byte (B .functions) (a + 19)) 0) f .0) .0) in
+      let x : _ × (some-below 8 (badParam (B .edition) (B .functions) a) ≡ false) =
+      or-neither _ (some-below 8 (badParam (B .edition) (B .functions) a)) (or-neither _ (differs (byte (B .functions) (a + 18)) 0) (or-neither _ (differs (byte (B .functions) (a + 19)) 0) f .0) .0) in
       let y : _ × (oddReturn (byte (B .functions) (a + 9)) ≡ false) = or-neither _ (oddReturn (byte (B .functions) (a + 9))) (x .0) in
       let z : _ × (ltb 8 (byte (B .functions) (a + 8)) ≡ false) = or-neither _ (ltb 8 (byte (B .functions) (a + 8))) (y .0) in
       (or-neither (differs (word 4 (B .functions) a) (endBefore B k)) (eqb (word 4 (B .functions) (a + 4)) 0) (z .0) .0, z .1, y .1, x .1)
@@ -202,13 +215,13 @@ module _ (B : Bodies) (g : badFunctions B ≡ false) where
   unfolding badParam
   parameter-type k j h l =
       let few : byte (B .functions) (functionAt k + 8) ≤ 8 = few-parameters k h in
-      param-type (ltb j (byte (B .functions) (functionAt k + 8))) (byte (B .functions) (functionAt k + 10 + j)) (ltb-yes j (byte (B .functions) (functionAt k + 8)) l)
-      (none-below 8 (badParam (B .functions) (functionAt k)) (record-parts k h .3) j (omega arith))
+      param-type (B .edition) (ltb j (byte (B .functions) (functionAt k + 8))) (byte (B .functions) (functionAt k + 10 + j)) (ltb-yes j (byte (B .functions) (functionAt k + 8)) l)
+      (none-below 8 (badParam (B .edition) (B .functions) (functionAt k)) (record-parts k h .3) j (omega arith))
 
   pub unused-parameter : (k j : ℕ) → k < functionCount (B .functions) → byte (B .functions) (functionAt k + 8) ≤ j → j < 8 → byte (B .functions) (functionAt k + 10 + j) ≡ 0
   unfolding badParam
   unused-parameter k j h l m =
-      let x : oddParam (ltb j (byte (B .functions) (functionAt k + 8))) (byte (B .functions) (functionAt k + 10 + j)) ≡ false = none-below 8 (badParam (B .functions) (functionAt k)) (record-parts k h .3) j m in
+      let x : oddParam (B .edition) (ltb j (byte (B .functions) (functionAt k + 8))) (byte (B .functions) (functionAt k + 10 + j)) ≡ false = none-below 8 (badParam (B .edition) (B .functions) (functionAt k)) (record-parts k h .3) j m in
       same-numbers (byte (B .functions) (functionAt k + 10 + j)) 0 (rw (ltb-no j (byte (B .functions) (functionAt k + 8)) l) at x)
 
 -- ---- code
@@ -281,7 +294,7 @@ module _ (B : Bodies) (g : Good B) where
 -- ---- instructions
 
 -- the bytes of what a table row makes
-abbrev Sized : Opcode → Type 0
+abbrev pub Sized : Opcode → Type 0
 Sized absent = Unit {0}
 Sized (bare i) = size i ≡ 1
 Sized (wide i) = (w : ℕ) → size (i w) ≡ 5
@@ -290,9 +303,9 @@ abbrev AllSized : List Opcode → Type 0
 AllSized [] = Unit {0}
 AllSized (h ∷ hs) = Sized h × AllSized hs
 
-all-sized : AllSized edition3
+all-sized : AllSized keyTable
 all-sized =
-    (tt, ((λ w. refl), (refl, ((λ w. refl), ((λ w. refl), ((λ w. refl), (tt, (refl, (refl, (refl, (refl, (refl, (refl, (refl, (refl, (refl, (refl, (refl, (refl, (refl, (refl, (refl, (refl, (refl, (refl, (refl, (refl, (refl, (refl, (refl, (refl, (refl, ((λ w. refl), ((λ w. refl), ((λ w. refl), ((λ w. refl), ((λ w. refl), ((λ w. refl), ((λ w. refl), ((λ w. refl), (refl, (tt, (tt, (refl, (refl, (tt, (refl, tt)))))))))))))))))))))))))))))))))))))))))))))))
+    (tt, ((λ w. refl), (refl, ((λ w. refl), ((λ w. refl), ((λ w. refl), (tt, (refl, (refl, (refl, (refl, (refl, (refl, (refl, (refl, (refl, (refl, (refl, (refl, (refl, (refl, (refl, (refl, (refl, (refl, (refl, (refl, (refl, (refl, (refl, (refl, (refl, ((λ w. refl), ((λ w. refl), ((λ w. refl), ((λ w. refl), ((λ w. refl), ((λ w. refl), ((λ w. refl), ((λ w. refl), (refl, (tt, (tt, (refl, (refl, (tt, (refl, (tt, (refl, (refl, tt))))))))))))))))))))))))))))))))))))))))))))))))))
 
 sized-at : (t : List Opcode) → AllSized t → (b : ℕ) → Sized (opcodeOf t b)
 sized-at [] a b = tt
@@ -300,10 +313,15 @@ sized-at (h ∷ t) a zero = a .0
 sized-at (h ∷ t) a (suc b) = sized-at t (a .1) b
 
 pub sized : (e b : ℕ) → Sized (opcodeOf (opcodes e) b)
-sized e b = decide (eqb e 3) (λ y. rw y (sized-at edition3 all-sized b)) (λ y. rw y tt)
+sized e b = go (opcodeOf (opcodes e) b) (λ h. keyed e b h)
+  where
+    go : (o : Opcode) → (isAbsent o ≡ false → opcodeOf keyTable (keyOf e b) ≡ o) → Sized o
+    go absent k = tt
+    go (bare i) k = subst Sized (k refl) (sized-at keyTable all-sized (keyOf e b))
+    go (wide i) k = subst Sized (k refl) (sized-at keyTable all-sized (keyOf e b))
 
 module _ (ed : ℕ) (s : List ℕ) where
-  due-suc : (p : ℕ) → due ed s (suc p) ≡ dueAfter (due ed s p) (opcodeAt ed s p)
+  pub due-suc : (p : ℕ) → due ed s (suc p) ≡ dueAfter (due ed s p) (opcodeAt ed s p)
   unfolding due
   due-suc p = refl
 
@@ -311,7 +329,7 @@ module _ (ed : ℕ) (s : List ℕ) where
   due-less p d e = due-suc p ∙ ap (λ z. dueAfter z (opcodeAt ed s p)) e
 
   -- the bytes behind an opcode that a word follows
-  due-inside : (p : ℕ) → due ed s (suc p) ≡ 4 → (j : ℕ) → j ≤ 4 → due ed s (suc p + j) ≡ 4 - j
+  pub due-inside : (p : ℕ) → due ed s (suc p) ≡ 4 → (j : ℕ) → j ≤ 4 → due ed s (suc p + j) ≡ 4 - j
   due-inside p e zero h = let q : suc p + 0 ≡ suc p = omega arith in rw q e
   due-inside p e (suc j) h =
       let q : suc p + suc j ≡ suc (suc p + j) = omega arith in
@@ -377,7 +395,7 @@ module _ (t : Tables) (e : tableRefusal t ≡ 0) where
       and-intro (leb (bodyStart (t .bodies) b) p && leb p (bodyEnd (t .bodies) b)) (eqb (dueIn (t .bodies) p) 0)
       (and-intro (leb (bodyStart (t .bodies) b) p) (leb p (bodyEnd (t .bodies) b)) (leb-yes (bodyStart (t .bodies) b) p h) (leb-yes p (bodyEnd (t .bodies) b) k)) (rw d refl)
 
-  place-is : (b : Body) (p : ℕ) → placeIn (t .bodies) b p ≡ true → (bodyStart (t .bodies) b ≤ p) × (p ≤ bodyEnd (t .bodies) b) × (dueIn (t .bodies) p ≡ 0)
+  pub place-is : (b : Body) (p : ℕ) → placeIn (t .bodies) b p ≡ true → (bodyStart (t .bodies) b ≤ p) × (p ≤ bodyEnd (t .bodies) b) × (dueIn (t .bodies) p ≡ 0)
   unfolding placeIn
   place-is b p h =
       let x : ((leb (bodyStart (t .bodies) b) p && leb p (bodyEnd (t .bodies) b)) ≡ true) × (eqb (dueIn (t .bodies) p) 0 ≡ true) = and-both (leb (bodyStart (t .bodies) b) p && leb p (bodyEnd (t .bodies) b)) (eqb (dueIn (t .bodies) p) 0) h in

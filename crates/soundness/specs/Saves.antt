@@ -1,6 +1,6 @@
 -- 02, A1: what is written can be read and gives the tables back, and what was read is written as it was.
 use mathlib.Core.Path.{_≡_, refl, sym, ap, _∙_}
-use mathlib.Core.Logic.{_≢_}
+use mathlib.Core.Logic.{_≢_, inl, inr}
 use Prim.Native.Nat.{ℕ, zero, suc, _+_, _*_, _/_, _%_, _^_, _≤_, _<_}
 use native.Mathlib.Omega.{arith}
 use mathlib.Core.Bool.{Bool, true, false, not, _||_, or-false}
@@ -9,7 +9,7 @@ use lib.ListN.{length, getD, take, drop, length-append, length-drop, take-append
 use lib.Seq.{take-at, drop-at, take-all, take-add, drop-drop}
 use lib.Dec.{ltb, eqb}
 use Rattle.rules.specs.Bytes.{words, word, cut}
-use Rattle.rules.specs.Tables.{Tables, differs, firstOf, contentTests, constantCount, functionCount, labelCount}
+use Rattle.rules.specs.Tables.{Tables, differs, unknownEdition, firstOf, contentTests, constantCount, functionCount, labelCount}
 use Rattle.rules.specs.ModuleFile.{edition, constants, functions, labels, codeLength, entryLength, functionsAt, labelsAt, codeAt, constantsIn, functionsIn, labelsIn, codeIn, tablesIn, short, otherEdition, otherTotal, overLimit, notPacked, refusal}
 use Rattle.rules.specs.Writing.{fileLength, headerWords, fileOf, tooMany, broken, tableRefusal, writeNumber, wrote, writeWith, write}
 use Rattle.rules.specs.Numbers.{done, output-too-short}
@@ -19,7 +19,7 @@ use Rattle.memory.proofs.Words.{number-bytes}
 use Rattle.memory.proofs.Copies.{word-bytes}
 use Rattle.soundness.specs.Names.{Unwritten, Written}
 use Rattle.soundness.specs.Tests.{decide, eqb-is, eqb-same, eqb-other, ltb-no, or-neither}
-use Rattle.soundness.specs.Readable.{same-numbers, Good, GoodTables, good-tables}
+use Rattle.soundness.specs.Readable.{same-numbers, KnownEdition, Good, GoodTables, good-tables}
 use Rattle.soundness.specs.Cutting.{Packed, packed, constants-length, functions-length, labels-length, code-length, constant-count, function-count, label-count, good-file}
 
 -- ---- tests
@@ -111,13 +111,13 @@ module _ (t : Tables) where
       let h : length (words (numbers t)) ≡ 48 = length-words (numbers t) in
       simp length-append (omega arith)
 
-module _ (t : Tables) (third : t .bodies .edition ≡ 3) (small : fileLength t < 2 ^ 32) (low : t .bodies .entry < 2 ^ 32) where
+module _ (t : Tables) (short-edition : t .bodies .edition < 2 ^ 32) (small : fileLength t < 2 ^ 32) (low : t .bodies .entry < 2 ^ 32) where
   header-word : (i : ℕ) → i < 12 → getD (numbers t) i 0 < 2 ^ 32 → word 4 (fileOf t) (4 * i) ≡ getD (numbers t) i 0
   unfolding fileOf
   header-word i l h = word-words (numbers t) (t .constants ++ (t .bodies .functions ++ (t .labels ++ t .bodies .code))) i h l
 
   edition-back : edition (fileOf t) ≡ t .bodies .edition
-  edition-back = header-word 0 (omega arith) (omega arith)
+  edition-back = header-word 0 (omega arith) short-edition
 
   total-back : word 4 (fileOf t) 4 ≡ fileLength t
   total-back = header-word 1 (omega arith) small
@@ -157,8 +157,8 @@ module _ (t : Tables) (third : t .bodies .edition ≡ 3) (small : fileLength t <
   long-enough : short (fileOf t) ≡ false
   long-enough = let l : length (fileOf t) ≡ fileLength t = length-file t in ltb-no (length (fileOf t)) 48 (omega arith)
 
-  its-edition : otherEdition (fileOf t) ≡ false
-  its-edition = differs-same (edition (fileOf t)) 3 (edition-back ∙ third)
+  its-edition : otherEdition (fileOf t) ≡ unknownEdition (t .bodies .edition)
+  its-edition = ap unknownEdition edition-back
 
   its-total : otherTotal (fileOf t) ≡ false
   its-total = differs-same (word 4 (fileOf t) 4) (length (fileOf t)) (total-back ∙ sym (length-file t))
@@ -255,17 +255,18 @@ module _ (t : Tables) (third : t .bodies .edition ≡ 3) (small : fileLength t <
   unfolding refusal tableRefusal firstOf
   same-refusal =
       rw (long-enough, its-edition, its-total, fourth, fifth)
-      (go (tooMany t) (broken t) refl)
+      (go (unknownEdition (t .bodies .edition)) (tooMany t) (broken t) refl)
     where
-      go : (x y : Bool) → broken t ≡ y → firstOf 1 (false ∷ false ∷ false ∷ x ∷ y ∷ contentTests (tablesIn (fileOf t))) ≡ firstOf 4 (x ∷ y ∷ contentTests t)
-      go true y e = refl
-      go false true e = refl
-      go false false e = ap (λ u. firstOf 6 (contentTests u)) (unbroken e)
+      go : (w x y : Bool) → broken t ≡ y → firstOf 1 (false ∷ w ∷ false ∷ x ∷ y ∷ contentTests (tablesIn (fileOf t))) ≡ firstOf 2 (w ∷ false ∷ x ∷ y ∷ contentTests t)
+      go true x y e = refl
+      go false true y e = refl
+      go false false true e = refl
+      go false false false e = ap (λ u. firstOf 6 (contentTests u)) (unbroken e)
 
 -- ---- what is written is read back
 
 -- tables that are not refused fit the header's words
-pub fits : (t : Tables) → tableRefusal t ≡ 0 → (fileLength t < 2 ^ 32) × (t .bodies .entry < 2 ^ 32)
+pub fits : (t : Tables) → tableRefusal t ≡ 0 → (t .bodies .edition < 2 ^ 32) × (fileLength t < 2 ^ 32) × (t .bodies .entry < 2 ^ 32)
 fits t e =
     let g : GoodTables t = good-tables t e in
     let h : Good (t .bodies) = g .good in
@@ -274,13 +275,17 @@ fits t e =
     let fl : labelCount (t .labels) ≤ 256 = g .few-labels in
     let fn : length (t .bodies .code) ≤ 16384 = h .little-code in
     let fe : t .bodies .entry ≤ length (t .bodies .code) = h .inside in
-    (omega arith, omega arith)
+    (small-edition (t .bodies .edition) (g .known), omega arith, omega arith)
+  where
+    small-edition : (n : ℕ) → KnownEdition n → n < 2 ^ 32
+    small-edition n (inl q) = omega arith
+    small-edition n (inr q) = omega arith
 
-pub file-readable : (t : Tables) → t .bodies .edition ≡ 3 → tableRefusal t ≡ 0 → (refusal (fileOf t) ≡ 0) × (tablesIn (fileOf t) ≡ t)
-file-readable t third e =
-    let s : (fileLength t < 2 ^ 32) × (t .bodies .entry < 2 ^ 32) = fits t e in
+pub file-readable : (t : Tables) → tableRefusal t ≡ 0 → (refusal (fileOf t) ≡ 0) × (tablesIn (fileOf t) ≡ t)
+file-readable t e =
+    let s : (t .bodies .edition < 2 ^ 32) × (fileLength t < 2 ^ 32) × (t .bodies .entry < 2 ^ 32) = fits t e in
     let g : GoodTables t = good-tables t e in
-    (same-refusal t third (s .0) (s .1) ∙ e, tables-back t third (s .0) (s .1) (g .whole-constants) (g .whole-functions) (g .whole-labels))
+    (same-refusal t (s .0) (s .1) (s .2) ∙ e, tables-back t (s .0) (s .1) (s .2) (g .whole-constants) (g .whole-functions) (g .whole-labels))
 
 module _ (t : Tables) (out : List ℕ) (n : ℕ) where
   -- a writer that answers 0 has written the file
@@ -357,9 +362,9 @@ pub saves : Saves
 saves =
     record {
       exactly = same-refusal;
-      read-back = λ t out n third h.
+      read-back = λ t out n h.
           let w : (tableRefusal t ≡ 0) × (take n (write t out .output) ≡ fileOf t) = written-is t out n h in
-          let r : (refusal (fileOf t) ≡ 0) × (tablesIn (fileOf t) ≡ t) = file-readable t third (w .0) in
+          let r : (refusal (fileOf t) ≡ 0) × (tablesIn (fileOf t) ≡ t) = file-readable t (w .0) in
           (ap refusal (w .1) ∙ r .0, ap tablesIn (w .1) ∙ r .1);
       write-back = λ s out b e l. written-back s b e out l;
     }
