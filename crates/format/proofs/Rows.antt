@@ -35,7 +35,7 @@ first-none n (false ∷ hs) ts h = first-none (suc n) hs ts h
 
 pub record Header (s : List ℕ) : Type 0 where
   pub long : short s ≡ false
-  pub third : otherEdition s ≡ false
+  pub known : otherEdition s ≡ false
   pub total : otherTotal s ≡ false
   pub limits : overLimit s ≡ false
   pub packed : notPacked s ≡ false
@@ -47,7 +47,7 @@ header-of s h =
     let r = first-miss 2 _ _ (q .1) in
     let t = first-miss 3 _ _ (r .1) in
     let u = first-miss 4 _ _ (t .1) in
-    record { long = p .0; third = q .0; total = r .0; limits = t .0; packed = u .0 }
+    record { long = p .0; known = q .0; total = r .0; limits = t .0; packed = u .0 }
 
 pub packed-of : (s : List ℕ) → Header s → Packed s (sectionsOf s)
 unfolding overLimit notPacked
@@ -59,7 +59,7 @@ packed-of s h =
     let p5 = or-neither _ _ (h .packed) in
     let p4 = or-neither (differs (word 4 s 12) 48 || differs (word 4 s 20) (functionsAt s) || differs (word 4 s 28) (labelsAt s) || differs (word 4 s 36) (codeAt s)) _ (p5 .0) in
     record {
-      third = same-numbers _ _ (h .third);
+      known = h .known;
       constants-is = refl;
       functions-is = refl;
       labels-is = refl;

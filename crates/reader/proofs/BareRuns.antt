@@ -8,8 +8,7 @@ use mathlib.Core.Bool.{Bool, true, _&&_, true≢false}
 use mathlib.Core.List.{List}
 use lib.ListN.{length, set, length-set}
 use lib.Seq.{set-out}
-use Rattle.rules.specs.Bytes.{byte}
-use Rattle.rules.specs.Instructions.{Opcode, absent, bare, wide, edition3, opcodeOf}
+use Rattle.rules.specs.Instructions.{Opcode, absent, bare, wide}
 use Rattle.rules.specs.Tables.{opcodeAt}
 use Rattle.format.proofs.Tests.{and-left, and-right}
 use Rattle.reader.specs.Cut.{sizeIn, Cut, isBare, allBare, marks}
@@ -17,13 +16,14 @@ use Rattle.reader.proofs.Cuts.{cut-step}
 
 -- ---- tests
 
-pub bare-none : (s : List ℕ) (at : ℕ) → true ≡ allBare s at 0
-unfolding allBare
-bare-none s at = refl
+module _ (e : ℕ) (s : List ℕ) (at : ℕ) where
+  pub bare-none : true ≡ allBare e s at 0
+  unfolding allBare
+  bare-none = refl
 
-pub bare-next : (s : List ℕ) (at i : ℕ) (good g : Bool) → good ≡ allBare s at i → g ≡ isBare (opcodeOf edition3 (byte s (at + i))) → (good && g) ≡ allBare s at (i + 1)
-unfolding allBare
-bare-next s at i good g e h = rw (add-one, e, h)
+  pub bare-next : (i : ℕ) (good g : Bool) → good ≡ allBare e s at i → g ≡ isBare (opcodeAt e s (at + i)) → (good && g) ≡ allBare e s at (i + 1)
+  unfolding allBare
+  bare-next i good g q h = rw (add-one, q, h)
 
 -- ---- marks
 
@@ -53,12 +53,12 @@ one-byte absent h = absurd (true≢false (sym h))
 one-byte (bare i) h = refl
 one-byte (wide i) h = absurd (true≢false (sym h))
 
-module _ (s : List ℕ) (p : ℕ) (t : List ℕ) (cut : Cut 3 s p t) where
-  pub cut-run : (n : ℕ) → allBare s p n ≡ true → Cut 3 s (p + n) (marks t p n)
+module _ (ed : ℕ) (s : List ℕ) (p : ℕ) (t : List ℕ) (cut : Cut ed s p t) where
+  pub cut-run : (n : ℕ) → allBare ed s p n ≡ true → Cut ed s (p + n) (marks t p n)
   unfolding marks allBare
   cut-run zero a = rw add-zero cut
   cut-run (suc n) a =
-      let u = cut-run n (and-left (allBare s p n) _ a) in
-      let e : 1 ≡ sizeIn (opcodeAt 3 s (p + n)) = one-byte (opcodeAt 3 s (p + n)) (and-right (allBare s p n) _ a) in
+      let u = cut-run n (and-left (allBare ed s p n) _ a) in
+      let e : 1 ≡ sizeIn (opcodeAt ed s (p + n)) = one-byte (opcodeAt ed s (p + n)) (and-right (allBare ed s p n) _ a) in
       let z : p + n + 1 ≡ p + suc n = omega arith in
-      subst (λ (x : ℕ). Cut 3 s x (set (marks t p n) (p + n) 1)) z (cut-step 3 s (p + n) 1 (marks t p n) u e (omega arith))
+      subst (λ (x : ℕ). Cut ed s x (set (marks t p n) (p + n) 1)) z (cut-step ed s (p + n) 1 (marks t p n) u e (omega arith))

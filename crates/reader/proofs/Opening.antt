@@ -11,7 +11,7 @@ use Rattle.format.specs.declared.Sections.{Sections}
 use Rattle.format.specs.Layout.{sectionsOf, headerTests, Packed}
 use Rattle.format.proofs.Rows.{Header, header-of, packed-of, first-hit, first-miss, first-none}
 use Rattle.reader.specs.declared.Opened.the-variants.{Refused, Module}
-use Rattle.reader.specs.Answers.{codeTests, answer, openedOf}
+use Rattle.reader.specs.Answers.{codeTests, bodiesTests, answer, openedOf}
 
 refused : (n : ℕ) (c : Sections) → (n ≡ 0 → ⊥) → Refused n ≡ answer n c
 refused zero c h = absurd (h refl)
@@ -20,7 +20,7 @@ refused (suc n) c h = refl
 -- rows 6 to 9 decide where rows 1 to 5 don't hold
 later : (s : List ℕ) → Header s → firstOf 6 (contentTests (tablesIn s)) ≡ refusal s
 unfolding refusal firstOf
-later s h = simp (h .long, h .third, h .total, h .limits, h .packed)
+later s h = simp (h .long, h .known, h .total, h .limits, h .packed)
 
 module _ (s : List ℕ) (n : ℕ) where
   pub refused-first : n ≡ firstOf 1 (headerTests s) → (n ≡ 0 → ⊥) → Refused n ≡ openedOf s
@@ -74,7 +74,7 @@ module _ (s : List ℕ) (c : Sections) (opened : Module c ≡ openedOf s) where
       let d = first-miss 7 _ _ (b .1) in
       (a .0, b .0, d .0, first-miss 8 _ _ (d .1) .0)
 
--- ---- rows 6 to 9, one after the other, of tables t that are u
+-- ---- rows 6 to 9, one after the other
 
 -- no label, no row 9
 no-labels : (B : Bodies) (ls : List ℕ) → labelCount ls ≡ 0 → badLabels B ls ≡ false
@@ -89,6 +89,21 @@ no-ninth B ls h = rw (no-labels B ls h) (go (badCode B))
     go true = refl
     go false = refl
 
+-- rows 7 to 9
+module _ (B : Bodies) (ls : List ℕ) (b₇ : Bool) (e₇ : b₇ ≡ badFunctions B) where
+  pub seventh : b₇ ≡ true → 7 ≡ firstOf 7 (bodiesTests B ls)
+  unfolding firstOf
+  seventh h = simp (← e₇, h)
+
+  module _ (good₇ : b₇ ≡ false) (n : ℕ) where
+    pub from-code : n ≡ firstOf 8 (codeTests B ls) → n ≡ firstOf 7 (bodiesTests B ls)
+    unfolding firstOf
+    from-code h = simp (← e₇, good₇) h
+
+    pub from-code-alone : labelCount ls ≡ 0 → n ≡ firstOf 8 (badCode B ∷ []) → n ≡ firstOf 7 (bodiesTests B ls)
+    from-code-alone l h = from-code (h ∙ no-ninth B ls l)
+
+-- rows 6 to 9, of tables t that are u
 module _ (t u : Tables) (same : t ≡ u) (b₆ : Bool) (e₆ : b₆ ≡ badConstants (t .constants)) where
   first-is : (n : ℕ) → n ≡ firstOf 6 (contentTests t) → n ≡ firstOf 6 (contentTests u)
   first-is n h = h ∙ ap (λ (x : Tables). firstOf 6 (contentTests x)) same
@@ -97,15 +112,6 @@ module _ (t u : Tables) (same : t ≡ u) (b₆ : Bool) (e₆ : b₆ ≡ badConst
   unfolding firstOf
   sixth h = first-is 6 (simp (← e₆, h))
 
-  module _ (good₆ : b₆ ≡ false) (b₇ : Bool) (e₇ : b₇ ≡ badFunctions (t .bodies)) where
-    pub seventh : b₇ ≡ true → 7 ≡ firstOf 6 (contentTests u)
-    unfolding firstOf
-    seventh h = first-is 7 (simp (← e₆, good₆, ← e₇, h))
-
-    module _ (good₇ : b₇ ≡ false) (n : ℕ) where
-      pub from-code : n ≡ firstOf 8 (codeTests (t .bodies) (t .labels)) → n ≡ firstOf 6 (contentTests u)
-      unfolding firstOf
-      from-code h = first-is n (simp (← e₆, good₆, ← e₇, good₇) h)
-
-      pub from-code-alone : labelCount (u .labels) ≡ 0 → n ≡ firstOf 8 (badCode (t .bodies) ∷ []) → n ≡ firstOf 6 (contentTests u)
-      from-code-alone l h = from-code (h ∙ no-ninth (t .bodies) (t .labels) (subst (λ (x : Tables). labelCount (x .labels) ≡ 0) (sym same) l))
+  pub from-bodies : b₆ ≡ false → (n : ℕ) → n ≡ firstOf 7 (bodiesTests (t .bodies) (t .labels)) → n ≡ firstOf 6 (contentTests u)
+  unfolding firstOf
+  from-bodies good₆ n h = first-is n (simp (← e₆, good₆) h)

@@ -78,15 +78,14 @@ module _ (s : List ℕ) (c : Sections) (k : Packed s c) where
       word-cut 4 s (labelsAt s) (8 * labels s) (8 * i + j) (omega arith) ∙ ap (word 4 s) q
 
   -- the parts of the file that are lent are its tables
-  pub lent-tables : tables 3 (take (c .records - 48) (drop 48 s)) (take (c .targets - c .records) (drop (c .records) s)) (take (c .code - c .targets) (drop (c .targets) s))
+  pub lent-tables : (e : ℕ) → e ≡ edition s → tables e (take (c .records - 48) (drop 48 s)) (take (c .targets - c .records) (drop (c .records) s)) (take (c .code - c .targets) (drop (c .targets) s))
       (take (c .code + c .extent - c .code) (drop (c .code) s)) (c .entry) ≡ tablesIn s
-  lent-tables =
-      let e : 3 ≡ edition s = sym (k .third) in
+  lent-tables e q =
       let a : c .records - 48 ≡ 12 * constants s = omega arith in
       let b : c .targets - c .records ≡ 20 * functions s = omega arith in
       let d : c .code - c .targets ≡ 8 * labels s = omega arith in
       let f : c .code + c .extent - c .code ≡ codeLength s = omega arith in
-      rw (a, b, d, f, k .records-is, k .targets-is, k .code-is, k .entry-is) (ap (λ (n : ℕ). tables n (constantsIn s) (functionsIn s) (labelsIn s) (codeIn s) (entryLength s)) e)
+      rw (a, b, d, f, k .records-is, k .targets-is, k .code-is, k .entry-is) (ap (λ (n : ℕ). tables n (constantsIn s) (functionsIn s) (labelsIn s) (codeIn s) (entryLength s)) q)
 
   -- ---- the records by number
 

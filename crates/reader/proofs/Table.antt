@@ -1,4 +1,4 @@
--- The opcode table of edition 3 against what the code tests, by computing all 256 bytes.
+-- The opcode tables against what the code tests, by computing all 256 bytes.
 use Prim.Native.Nat.{ℕ, zero, suc, _+_, _/_, _%_, _^_, _<_}
 use native.Mathlib.Nat.{eq-or-lt-of-le, le-of-suc-le-suc}
 use native.Mathlib.Omega.{arith}
@@ -9,16 +9,18 @@ use mathlib.Core.List.{List}
 use lib.Dec.{ltb, leb, eqb}
 use lib.ListN.{take, drop}
 use lib.Seq.{getD-drop, drop-drop}
-use borrow.Author.Tests.{eqb-true, eq-eqb}
-use Rattle.rules.specs.Instructions.{edition3, opcodeOf, instructionOf}
-use Rattle.rules.specs.Tables.{codeOf}
+use borrow.Author.Tests.{eqb-true, eqb-false}
+use Rattle.rules.specs.Instructions.{opcodes, opcodeOf, instructionOf}
+use Rattle.rules.specs.Tables.{unknownEdition, codeOf}
+use Rattle.soundness.specs.Tests.{decide}
 use Rattle.rules.specs.ModuleFile.{edition, codeIn}
 use Rattle.rules.specs.Bytes.{byte, number, word}
 use Rattle.format.specs.declared.Sections.{Sections}
 use Rattle.format.proofs.Tests.{and-left, and-right}
+use Rattle.format.proofs.Editions.{third-edition}
 use Rattle.format.specs.Layout.{Packed}
 use Rattle.reader.proofs.Records.{code-rest}
-use Rattle.reader.specs.Cut.{sizeIn, isBare}
+use Rattle.reader.specs.Cut.{sizeIn, isBare, isWide, bitsOf}
 
 allBelow : ℕ → (ℕ → Bool) → Bool
 allBelow zero f = true
@@ -33,25 +35,35 @@ all-at (suc n) f e i h =
 
 -- ---- sizes, by a bit for each opcode
 
-abbrev pub sizeByBits : ℕ → ℕ
-sizeByBits b =
-    cond (ltb 46 b) 0 (cond (eqb (0xff0000003a / 2 ^ b % 2) 1) 5 (cond (eqb (0x5900ffffff84 / 2 ^ b % 2) 1) 1 0))
+abbrev pub sizeByBits : ℕ → ℕ → ℕ
+sizeByBits e b = cond (ltb 46 b) 0 (cond (eqb (bitsOf isWide (opcodes e) / 2 ^ b % 2) 1) 5 (cond (eqb (bitsOf isBare (opcodes e) / 2 ^ b % 2) 1) 1 0))
 
-sizes : allBelow 256 (λ b. eqb (sizeByBits b) (sizeIn (opcodeOf edition3 b))) ≡ true
+abbrev sizedIn : ℕ → ℕ → Bool
+sizedIn e b = eqb (sizeByBits e b) (sizeIn (opcodeOf (opcodes e) b))
+
+first-sizes : allBelow 256 (sizedIn 1) ≡ true
 unfolding allBelow
-sizes = refl
+first-sizes = refl
 
-pub size-by-bits : (b : ℕ) → b < 256 → sizeByBits b ≡ sizeIn (opcodeOf edition3 b)
-size-by-bits b h = eqb-true _ _ (all-at 256 (λ b. eqb (sizeByBits b) (sizeIn (opcodeOf edition3 b))) sizes b h)
+third-sizes : allBelow 256 (sizedIn 3) ≡ true
+unfolding allBelow
+third-sizes = refl
+
+sizes : (e : ℕ) → unknownEdition e ≡ false → allBelow 256 (sizedIn e) ≡ true
+sizes e known =
+    decide (eqb e 1) (λ y. let q : e ≡ 1 = eqb-true e 1 y in rw q first-sizes)
+    (λ y. let q : e ≡ 3 = third-edition e known (eqb-false e 1 y) in rw q third-sizes)
+
+pub size-by-bits : (e b : ℕ) → unknownEdition e ≡ false → b < 256 → sizeByBits e b ≡ sizeIn (opcodeOf (opcodes e) b)
+size-by-bits e b known h = eqb-true _ _ (all-at 256 (sizedIn e) (sizes e known) b h)
 
 -- ---- opcodes that stand alone, by comparisons
 
-abbrev pub bareByRange : ℕ → Bool
-bareByRange b = eqb b 2 || (leb 7 b && leb b 31) || eqb b 40 || eqb b 43 || eqb b 44 || eqb b 46
+abbrev firstBare : ℕ → Bool
+firstBare b = eqb b 2 || (leb 5 b && leb b 25) || (leb 34 b && leb b 37)
 
-bares : allBelow 256 (λ b. not (xor (bareByRange b) (isBare (opcodeOf edition3 b)))) ≡ true
-unfolding allBelow xor
-bares = refl
+abbrev thirdBare : ℕ → Bool
+thirdBare b = eqb b 2 || (leb 7 b && leb b 31) || eqb b 40 || eqb b 43 || eqb b 44 || eqb b 46
 
 like : (x y : Bool) → not (xor x y) ≡ true → x ≡ y
 unfolding xor
@@ -60,8 +72,13 @@ like true false h = absurd (true≢false (sym h))
 like false true h = absurd (true≢false (sym h))
 like false false h = refl
 
-pub bare-by-range : (b : ℕ) → b < 256 → bareByRange b ≡ isBare (opcodeOf edition3 b)
-bare-by-range b h = like _ _ (all-at 256 (λ b. not (xor (bareByRange b) (isBare (opcodeOf edition3 b)))) bares b h)
+pub first-bare : (b : ℕ) → b < 256 → firstBare b ≡ isBare (opcodeOf (opcodes 1) b)
+unfolding allBelow xor
+first-bare b h = like _ _ (all-at 256 (λ b. not (xor (firstBare b) (isBare (opcodeOf (opcodes 1) b)))) refl b h)
+
+pub third-bare : (b : ℕ) → b < 256 → thirdBare b ≡ isBare (opcodeOf (opcodes 3) b)
+unfolding allBelow xor
+third-bare b h = like _ _ (all-at 256 (λ b. not (xor (thirdBare b) (isBare (opcodeOf (opcodes 3) b)))) refl b h)
 
 -- ---- the opcode at a place of an opened module
 
@@ -76,6 +93,6 @@ module _ (s : List ℕ) (c : Sections) (k : Packed s c) (p : ℕ) where
       ap (λ (a : ℕ). number (take 4 (drop a s))) q ∙ ap (λ (l : List ℕ). number (take 4 l)) (sym (drop-drop (p + 1) (c .code) s))
       ∙ ap (λ (l : List ℕ). number (take 4 (drop (p + 1) l))) (sym (code-rest s c k))
 
-  pub code-at : instructionOf (opcodeOf edition3 (byte s (c .code + p))) (word 4 s (c .code + p + 1)) ≡ codeOf (edition s) (codeIn s) p
+  pub code-at : instructionOf (opcodeOf (opcodes (edition s)) (byte s (c .code + p))) (word 4 s (c .code + p + 1)) ≡ codeOf (edition s) (codeIn s) p
   unfolding codeOf
-  code-at = rw (code-byte, code-word) (simp (eq-eqb _ _ (k .third)))
+  code-at = rw (code-byte, code-word) refl

@@ -7,7 +7,7 @@ use mathlib.Core.Option.{Option, none, some}
 use Rattle.rules.specs.Bytes.{byte}
 use Rattle.rules.specs.declared.Slot.{Slot}
 use Rattle.rules.specs.Instructions.{numOf, tyOf}
-use Rattle.rules.specs.Tables.{Bodies, badCode, badLabels, Function, Body, bodyOf, paramsFrom, functionAt, functionOf}
+use Rattle.rules.specs.Tables.{Bodies, badFunctions, badCode, badLabels, Function, Body, bodyOf, paramsFrom, functionAt, functionOf}
 use Rattle.rules.specs.ModuleFile.{refusal}
 use Rattle.rules.specs.Stack.{at}
 use Rattle.format.specs.declared.Sections.{Sections}
@@ -24,6 +24,10 @@ use Rattle.reader.specs.declared.entries.FoundLabel.the-variants as Foun
 -- rows 8 and 9
 abbrev pub codeTests : Bodies → List ℕ → List Bool
 codeTests b ls = badCode b ∷ badLabels b ls ∷ []
+
+-- rows 7 to 9
+abbrev pub bodiesTests : Bodies → List ℕ → List Bool
+bodiesTests b ls = badFunctions b ∷ codeTests b ls
 
 -- a refusal by its number; the sections where there is none
 abbrev pub answer : ℕ → Sections → Opened

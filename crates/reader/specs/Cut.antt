@@ -1,15 +1,15 @@
 -- The code s of edition e cut into instructions, and a table of places that marks where one begins.
-use Prim.Native.Nat.{ℕ, zero, suc, _+_, _≤_, _<_}
+use Prim.Native.Nat.{ℕ, zero, suc, _+_, _*_, _≤_, _<_}
 use mathlib.Core.Path.{_≡_}
 use mathlib.Core.Bool.{Bool, true, false, cond, _&&_, _||_}
-use mathlib.Core.List.{List}
+use mathlib.Core.List.{List, [], _∷_}
 use mathlib.Core.Option.{some}
 use lib.ListN.{length, getD, set}
 use lib.Dec.{eqb}
-use Rattle.rules.specs.Bytes.{byte, some-below}
+use Rattle.rules.specs.Bytes.{some-below}
 use Rattle.rules.specs.declared.Instruction.{Instruction}
-use Rattle.rules.specs.Instructions.{Opcode, absent, bare, wide, edition3, opcodeOf}
-use Rattle.rules.specs.Tables.{due, unknownAt, differs, codeOf}
+use Rattle.rules.specs.Instructions.{Opcode, absent, bare, wide}
+use Rattle.rules.specs.Tables.{opcodeAt, due, unknownAt, differs, codeOf}
 
 -- the bytes of an opcode's instruction; 0 for none
 abbrev pub sizeIn : Opcode → ℕ
@@ -17,16 +17,26 @@ sizeIn absent = 0
 sizeIn (bare i) = 1
 sizeIn (wide i) = 5
 
--- whether no word follows an opcode
+-- whether an opcode stands alone; whether a word follows it
 abbrev pub isBare : Opcode → Bool
 isBare absent = false
 isBare (bare i) = true
 isBare (wide i) = false
 
--- whether the n bytes from `at` on are such opcodes
-unfoldable pub allBare : List ℕ → ℕ → ℕ → Bool
-allBare s at zero = true
-allBare s at (suc n) = allBare s at n && isBare (opcodeOf edition3 (byte s (at + n)))
+abbrev pub isWide : Opcode → Bool
+isWide absent = false
+isWide (bare i) = false
+isWide (wide i) = true
+
+-- a number with a bit for each opcode of a table: 1 where the test holds
+abbrev pub bitsOf : (Opcode → Bool) → List Opcode → ℕ
+bitsOf test [] = 0
+bitsOf test (o ∷ os) = cond (test o) 1 0 + 2 * bitsOf test os
+
+-- whether the n bytes from `at` on are opcodes of edition e that stand alone
+unfoldable pub allBare : ℕ → List ℕ → ℕ → ℕ → Bool
+allBare e s at zero = true
+allBare e s at (suc n) = allBare e s at n && isBare (opcodeAt e s (at + n))
 
 -- a table with n places more marked, from p on, as far as it goes
 unfoldable pub marks : List ℕ → ℕ → ℕ → List ℕ

@@ -3,25 +3,30 @@ ghost use mathlib.Core.Path.{_≡_};
 ghost use mathlib.Core.Bool.{true, false};
 ghost use Prim.Native.Nat.{_+_, _≤_};
 ghost use lib.ListN.{length};
-ghost use Rattle.rules.specs.Instructions.{edition3, opcodeOf};
+ghost use Rattle.rules.specs.Instructions.{opcodes, opcodeOf};
+ghost use Rattle.rules.specs.Tables.{unknownEdition};
 ghost use Rattle.reader.specs.Cut.{Cut, isBare, allBare, marks};
 
-// Whether an opcode stands alone: 02, 07 to 1F, 28, 2B, 2C, 2E hex.
-fn bare(b: u8) -> bool
-    ensures { λ r. ⌜ r ≡ isBare (opcodeOf edition3 b) ⌝ }
+// Whether an opcode stands alone: 02, 05 to 19, 22 to 25 hex in edition 1; 02, 07 to 1F, 28, 2B, 2C, 2E hex in edition 3.
+fn bare(edition: usize, b: u8) -> bool
+    requires { ⌜ unknownEdition edition ≡ false ⌝ }
+    ensures { λ r. ⌜ r ≡ isBare (opcodeOf (opcodes edition) b) ⌝ }
 {
+    if edition == 1 {
+        return (b == 2) | ((5 <= b) & (b <= 25)) | ((34 <= b) & (b <= 37));
+    }
     (b == 2) | ((7 <= b) & (b <= 31)) | (b == 40) | (b == 43) | (b == 44) | (b == 46)
 }
 
 // Whether sixteen bytes are opcodes that stand alone.
-fn all_bare(code: &[u8], p: usize) -> bool
-    requires { ⌜ p + 16 ≤ length (now code) ⌝ }
-    ensures { λ r. ⌜ r ≡ allBare (now (code .entry)) p 16 ⌝ }
+fn all_bare(edition: usize, code: &[u8], p: usize) -> bool
+    requires { ⌜ (p + 16 ≤ length (now code)) × (unknownEdition edition ≡ false) ⌝ }
+    ensures { λ r. ⌜ r ≡ allBare edition (now (code .entry)) p 16 ⌝ }
 {
     let mut good = true;
     let mut i = 0;
     while i < 16 {
-        let g = bare(code[p + i]);
+        let g = bare(edition, code[p + i]);
         good = good & g;
         i += 1;
     }
@@ -49,16 +54,16 @@ fn mark_block(starts: &mut [u8], p: usize) -> bool
 }
 
 // Passes blocks of one-byte instructions and marks them, as many as follow one another; the place where it stops.
-pub(crate) fn skip(code: &[u8], from: usize, to: usize, starts: &mut [u8]) -> usize
-    requires { ⌜ (from ≤ to) × (to ≤ length (now code)) × (length (now code) ≤ 16384) ⌝ }
-    requires { ⌜ Cut 3 (now code) from (now starts) ⌝ }
+pub(crate) fn skip(edition: usize, code: &[u8], from: usize, to: usize, starts: &mut [u8]) -> usize
+    requires { ⌜ (from ≤ to) × (to ≤ length (now code)) × (length (now code) ≤ 16384) × (unknownEdition edition ≡ false) ⌝ }
+    requires { ⌜ Cut edition (now code) from (now starts) ⌝ }
     ensures { λ r. ⌜ (from ≤ r) × (r ≤ to) ⌝ }
     ensures { λ r. ⌜ length (now (starts .exit)) ≡ length (now (starts .entry)) ⌝ }
-    ensures { λ r. ⌜ Cut 3 (now (code .entry)) r (now (starts .exit)) ⌝ }
+    ensures { λ r. ⌜ Cut edition (now (code .entry)) r (now (starts .exit)) ⌝ }
 {
     let mut p = from;
     while p + 16 <= to {
-        let good = all_bare(code, p);
+        let good = all_bare(edition, code, p);
         if !good {
             return p;
         }

@@ -3,30 +3,59 @@ ghost use mathlib.Core.Path.{_≡_};
 ghost use mathlib.Core.Bool.{false};
 ghost use Prim.Native.Nat.{_≤_};
 ghost use lib.ListN.{length, set};
-ghost use Rattle.rules.specs.Instructions.{edition3, opcodeOf};
-ghost use Rattle.rules.specs.Tables.{bodies, badFunctions, badCode};
+ghost use Rattle.rules.specs.Instructions.{opcodes, opcodeOf};
+ghost use Rattle.rules.specs.Tables.{bodies, unknownEdition, badFunctions, badCode};
 ghost use Rattle.format.specs.Layout.{Fits};
-ghost use Rattle.reader.specs.Cut.{sizeIn, Blank, Cut, Walked, StartsExactly};
+ghost use Rattle.reader.specs.Cut.{sizeIn, isBare, isWide, bitsOf, Blank, Cut, Walked, StartsExactly};
 use crate::blocks;
 
-// A bit for each opcode that a word follows: 01, 03 to 05, 20 to 27 hex.
+// A bit for each opcode of edition 3 that a word follows: 01, 03 to 05, 20 to 27 hex.
 const WIDE: u64 = 0x00ff_0000_003a;
 
-// A bit for each opcode that stands alone: 02, 07 to 1F, 28, 2B, 2C, 2E hex.
+// A bit for each that stands alone: 02, 07 to 1F, 28, 2B, 2C, 2E hex.
 const BARE: u64 = 0x5900_ffff_ff84;
 
-// The bytes of an opcode's instruction; 0 for no opcode.
-fn opcode_size(b: u8) -> usize
-    ensures { λ r. ⌜ (r ≡ sizeIn (opcodeOf edition3 b)) × (r ≤ 5) ⌝ }
+// The same of edition 1: 01, 03, 04, 1A to 21 hex.
+const OLD_WIDE: u64 = 0x0003_fc00_001a;
+
+// 02, 05 to 19, 22 to 25 hex.
+const OLD_BARE: u64 = 0x003c_03ff_ffe4;
+
+fn wide_opcodes(edition: usize) -> u64
+    requires { ⌜ unknownEdition edition ≡ false ⌝ }
+    ensures { λ r. ⌜ r ≡ bitsOf isWide (opcodes edition) ⌝ }
 {
+    if edition == 1 {
+        return OLD_WIDE;
+    }
+    WIDE
+}
+
+fn bare_opcodes(edition: usize) -> u64
+    requires { ⌜ unknownEdition edition ≡ false ⌝ }
+    ensures { λ r. ⌜ r ≡ bitsOf isBare (opcodes edition) ⌝ }
+{
+    if edition == 1 {
+        return OLD_BARE;
+    }
+    BARE
+}
+
+// The bytes of an opcode's instruction; 0 for no opcode.
+fn opcode_size(edition: usize, b: u8) -> usize
+    requires { ⌜ unknownEdition edition ≡ false ⌝ }
+    ensures { λ r. ⌜ (r ≡ sizeIn (opcodeOf (opcodes edition) b)) × (r ≤ 5) ⌝ }
+{
+    let wide = wide_opcodes(edition);
+    let bare = bare_opcodes(edition);
     if 46 < b {
         return 0;
     }
     let k = b as u64;
-    if (WIDE >> k) % 2 == 1 {
+    if (wide >> k) % 2 == 1 {
         return 5;
     }
-    if (BARE >> k) % 2 == 1 {
+    if (bare >> k) % 2 == 1 {
         return 1;
     }
     0
@@ -44,17 +73,17 @@ fn mark(starts: &mut [u8], p: usize)
 
 // Walks a body; false where an instruction is unknown or crosses the body's end. A place is marked before its byte is
 // looked at: no one reads a table of code that fails. After eight one-byte instructions in a row it goes on by blocks.
-fn walk_body(code: &[u8], from: usize, to: usize, starts: &mut [u8]) -> bool
-    requires { ⌜ (from ≤ to) × (to ≤ length (now code)) × (length (now code) ≤ 16384) ⌝ }
-    requires { ⌜ Cut 3 (now code) from (now starts) ⌝ }
+fn walk_body(edition: usize, code: &[u8], from: usize, to: usize, starts: &mut [u8]) -> bool
+    requires { ⌜ (from ≤ to) × (to ≤ length (now code)) × (length (now code) ≤ 16384) × (unknownEdition edition ≡ false) ⌝ }
+    requires { ⌜ Cut edition (now code) from (now starts) ⌝ }
     ensures { λ r. ⌜ length (now (starts .exit)) ≡ length (now (starts .entry)) ⌝ }
-    ensures { λ r. ⌜ Walked r 3 (now (code .entry)) to (now (starts .exit)) ⌝ }
+    ensures { λ r. ⌜ Walked r edition (now (code .entry)) to (now (starts .exit)) ⌝ }
 {
     let mut p = from;
     let mut wait: u32 = 8;
     while p < to {
         mark(starts, p);
-        let size = opcode_size(code[p]);
+        let size = opcode_size(edition, code[p]);
         if size == 0 {
             break;
         }
@@ -65,7 +94,7 @@ fn walk_body(code: &[u8], from: usize, to: usize, starts: &mut [u8]) -> bool
             wait = 8;
         }
         if wait == 0 {
-            p = blocks::skip(code, p, to, starts);
+            p = blocks::skip(edition, code, p, to, starts);
             wait = 8;
         }
     }
@@ -73,19 +102,25 @@ fn walk_body(code: &[u8], from: usize, to: usize, starts: &mut [u8]) -> bool
 }
 
 // Row 8. A blank table gets a mark at each place that begins an instruction, and at no other.
-pub(crate) fn bad_code(functions: &[u8], code: &[u8], entry: usize, starts: &mut [u8]) -> bool
-    requires { ⌜ Fits (now functions) (now code) entry × (badFunctions (bodies 3 (now functions) (now code) entry) ≡ false) ⌝ }
+pub(crate) fn bad_code(
+    edition: usize,
+    functions: &[u8],
+    code: &[u8],
+    entry: usize,
+    starts: &mut [u8],
+) -> bool
+    requires { ⌜ Fits (now functions) (now code) entry × (badFunctions (bodies edition (now functions) (now code) entry) ≡ false) × (unknownEdition edition ≡ false) ⌝ }
     requires { ⌜ Blank (now starts) ⌝ }
     ensures { λ r. ⌜ length (now (starts .exit)) ≡ length (now (starts .entry)) ⌝ }
-    ensures { λ r. ⌜ r ≡ badCode (bodies 3 (now (functions .entry)) (now (code .entry)) entry) ⌝ }
-    ensures { λ r. ⌜ (r ≡ false → StartsExactly 3 (now (code .entry)) (now (starts .exit))) ⌝ }
+    ensures { λ r. ⌜ r ≡ badCode (bodies edition (now (functions .entry)) (now (code .entry)) entry) ⌝ }
+    ensures { λ r. ⌜ (r ≡ false → StartsExactly edition (now (code .entry)) (now (starts .exit))) ⌝ }
 {
     let n = functions.len() / 20;
     let mut from = 0;
     let mut end = entry;
     let mut i = 0;
     loop {
-        let whole = walk_body(code, from, end, starts);
+        let whole = walk_body(edition, code, from, end, starts);
         if !whole {
             return true;
         }

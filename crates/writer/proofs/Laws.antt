@@ -149,7 +149,7 @@ module _ (t : Tables) (n : ℕ) (is : n ≡ tableRefusal t) (none : n ≡ 0) whe
   good = sym is ∙ none
 
   pub small : fileLength t < 2 ^ 32
-  small = fits t good .0
+  small = fits t good .1
 
   module _ (out : List ℕ) where
     pub short-is : length out < fileLength t → wrote (Unwritten 16) out ≡ write t out
@@ -157,7 +157,7 @@ module _ (t : Tables) (n : ℕ) (is : n ≡ tableRefusal t) (none : n ≡ 0) whe
     short-is h = let l : length out < length (fileOf t) = omega (arith, length-file t) in rw good (simp (lt-ltb _ _ l))
 
     pub takes : fileLength t ≤ length out → Takes out t
-    takes h = record { long = h; small = small; entry-small = fits t good .1 }
+    takes h = record { long = h; edition-small = fits t good .0; small = small; entry-small = fits t good .2 }
 
     pub written-is : fileLength t ≤ length out → (k : ℕ) → k ≡ fileLength t → (out′ : List ℕ) → out′ ≡ filledWith t out → wrote (Written k) out′ ≡ write t out
     unfolding write

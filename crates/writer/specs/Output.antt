@@ -8,6 +8,7 @@ use Rattle.rules.specs.Writing.{fileLength, fileOf}
 -- the output has room for the file of these tables, and the header's words for its numbers
 pub record Takes (out : List ℕ) (t : Tables) : Type 0 where
   pub long : fileLength t ≤ length out
+  pub edition-small : t .bodies .edition < 2 ^ 32
   pub small : fileLength t < 2 ^ 32
   pub entry-small : t .bodies .entry < 2 ^ 32
 

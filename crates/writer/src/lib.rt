@@ -31,22 +31,23 @@ fn put_pair(out: &mut [u8], at: usize, count: usize, offset: usize)
     memory::store32(out, at + 4, offset as u32);
 }
 
-// The header, from the lengths in bytes of constants, functions, labels and code.
+// The header, from the edition and the lengths in bytes of constants, functions, labels and code.
 fn put_header(
     out: &mut [u8],
+    edition: usize,
     constants: usize,
     functions: usize,
     labels: usize,
     code: usize,
     entry: usize,
 )
-    requires { ⌜ (length (now out) ≡ 48) × (48 + constants + functions + labels + code < 2 ^ 32) × (entry < 2 ^ 32) ⌝ }
-    ensures { λ r. ⌜ now (out .exit) ≡ words (headerWords 3 constants functions labels code entry) ⌝ }
+    requires { ⌜ (length (now out) ≡ 48) × (edition < 2 ^ 32) × (48 + constants + functions + labels + code < 2 ^ 32) × (entry < 2 ^ 32) ⌝ }
+    ensures { λ r. ⌜ now (out .exit) ≡ words (headerWords edition constants functions labels code entry) ⌝ }
 {
     let functions_at = 48 + constants;
     let labels_at = functions_at + functions;
     let code_at = labels_at + labels;
-    put_pair(out, 0, 3, code_at + code);
+    put_pair(out, 0, edition, code_at + code);
     put_pair(out, 8, constants / 12, 48);
     put_pair(out, 16, functions / 20, functions_at);
     put_pair(out, 24, labels / 8, labels_at);
@@ -56,6 +57,7 @@ fn put_header(
 
 // Writes the file of these tables, without tests: the header, then each section into its own part of the output.
 pub fn put(
+    edition: usize,
     constants: &[u8],
     functions: &[u8],
     labels: &[u8],
@@ -63,8 +65,8 @@ pub fn put(
     entry: usize,
     out: &mut [u8],
 )
-    requires { ⌜ Takes (now out) (tables 3 (now constants) (now functions) (now labels) (now code) entry) ⌝ }
-    ensures { λ r. ⌜ now (out .exit) ≡ filledWith (tables 3 (now (constants .entry)) (now (functions .entry)) (now (labels .entry)) (now (code .entry)) entry) (now (out .entry)) ⌝ }
+    requires { ⌜ Takes (now out) (tables edition (now constants) (now functions) (now labels) (now code) entry) ⌝ }
+    ensures { λ r. ⌜ now (out .exit) ≡ filledWith (tables edition (now (constants .entry)) (now (functions .entry)) (now (labels .entry)) (now (code .entry)) entry) (now (out .entry)) ⌝ }
 {
     let functions_at = 48 + constants.len();
     let labels_at = functions_at + functions.len();
@@ -72,6 +74,7 @@ pub fn put(
     let end = code_at + code.len();
     put_header(
         &mut out[0..48],
+        edition,
         constants.len(),
         functions.len(),
         labels.len(),
@@ -84,16 +87,20 @@ pub fn put(
     put_section(&mut out[code_at..end], code);
 }
 
-// Rows 4 to 9 of tables; 0 where none holds.
+// Rows 2 and 4 to 9 of tables; 0 where none holds.
 fn table_refusal(
+    edition: usize,
     constants: &[u8],
     functions: &[u8],
     labels: &[u8],
     code: &[u8],
     entry: usize,
 ) -> u32
-    ensures { λ r. ⌜ r ≡ tableRefusal (tables 3 (now (constants .entry)) (now (functions .entry)) (now (labels .entry)) (now (code .entry)) entry) ⌝ }
+    ensures { λ r. ⌜ r ≡ tableRefusal (tables edition (now (constants .entry)) (now (functions .entry)) (now (labels .entry)) (now (code .entry)) entry) ⌝ }
 {
+    if (edition != 1) & (edition != 3) {
+        return 2;
+    }
     let n = code.len();
     let over = format::over_limits(
         constants.len() / 12,
@@ -111,11 +118,12 @@ fn table_refusal(
     if broken {
         return 5;
     }
-    reader::content_refusal(constants, functions, labels, code, entry)
+    reader::content_refusal(edition, constants, functions, labels, code, entry)
 }
 
-// Writes a module, or refuses and changes nothing.
+// Writes a module of an edition, or refuses and changes nothing.
 pub fn write(
+    edition: usize,
     constants: &[u8],
     functions: &[u8],
     labels: &[u8],
@@ -123,9 +131,9 @@ pub fn write(
     entry: usize,
     out: &mut [u8],
 ) -> WriteAnswer
-    ensures { λ r. ⌜ wrote r (now (out .exit)) ≡ Writing.write (tables 3 (now (constants .entry)) (now (functions .entry)) (now (labels .entry)) (now (code .entry)) entry) (now (out .entry)) ⌝ }
+    ensures { λ r. ⌜ wrote r (now (out .exit)) ≡ Writing.write (tables edition (now (constants .entry)) (now (functions .entry)) (now (labels .entry)) (now (code .entry)) entry) (now (out .entry)) ⌝ }
 {
-    let refusal = table_refusal(constants, functions, labels, code, entry);
+    let refusal = table_refusal(edition, constants, functions, labels, code, entry);
     if refusal != 0 {
         return WriteAnswer::Unwritten(refusal);
     }
@@ -133,6 +141,6 @@ pub fn write(
     if out.len() < length {
         return WriteAnswer::Unwritten(16);
     }
-    put(constants, functions, labels, code, entry, out);
+    put(edition, constants, functions, labels, code, entry, out);
     WriteAnswer::Written(length as u64)
 }

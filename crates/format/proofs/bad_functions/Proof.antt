@@ -1,68 +1,21 @@
 -- The proof of `format::bad_functions`.
-use Prim.Native.Nat.{_≤_, _-_, _+_, _*_, _/_}
-use native.Mathlib.Numerals.{add-one}
-use native.Mathlib.Omega.{arith}
-use mathlib.Core.Path.{_≡_, refl}
-use lib.ListN.{length}
-use Rattle.format.proofs.Gathered.{some-none, some-more}
-use Rattle.rules.specs.Bytes.{some-below}
-use Rattle.rules.specs.Tables.{bodies, badFunction, badFunctions, endBefore}
+use borrow.Author.Needs.{needs}
+use Rattle.format.proofs.Editions.{functions-old, functions-third}
 use Rattle.format.proofs.bad_functions.Statement.{statement}
 use Rattle.format.proofs.bad_functions.Tie as tie
 
-abbrev Inv-loop : tie.InvT-loop
-Inv-loop table code entry n end₀ bad₀ i₀ end bad i = (i ≤ n) × (bad ≡ some-below i (badFunction (bodies 3 table code entry))) × (end ≡ endBefore (bodies 3 table code entry) i) × (end ≤ 16384 + i * 4294967296)
+bad-records-requires : tie.Need-bad-records-requires
+bad-records-requires c κs = c .before .before .pre .0
 
-abbrev μ-loop : tie.MeasureT-loop
-μ-loop table code entry n end₀ bad₀ i₀ end bad i = n - i
+high-params-requires : tie.Need-high-params-requires
+high-params-requires c κs = search needs
 
-loop-holds : tie.Need-loop-holds Inv-loop μ-loop
-unfolding endBefore
-loop-holds c = (omega arith, some-none _, refl, omega arith)
+returns : tie.Need-returns
+returns c = functions-old _ _ _ _ (c .before .if1 .taken) _ _ (c .before .before .bad-records .ensures) (c .high-params .ensures)
 
-mul-at : tie.Need-mul-at Inv-loop μ-loop
-mul-at c = omega arith
-
-bad-record-requires : tie.Need-bad-record-requires Inv-loop μ-loop
-bad-record-requires c κs = omega arith
-
-add-word : tie.Need-add-word Inv-loop μ-loop
-add-word c = omega arith
-
-word-requires : tie.Need-word-requires Inv-loop μ-loop
-word-requires c κs = omega arith
-
-add-end : tie.Need-add-end Inv-loop μ-loop
-add-end c = omega arith
-
-add-i : tie.Need-add-i Inv-loop μ-loop
-add-i c = omega arith
-
-loop-less : tie.Need-loop-less Inv-loop μ-loop
-loop-less c = omega arith
-
-loop-again : tie.Need-loop-again Inv-loop μ-loop
-unfolding endBefore badFunction
-loop-again c = let at-loop = (c .before .before .before .loop) in
-    (omega arith, some-more _ _ _ _ (at-loop .inv .1) (cc), rw add-one (cc), omega arith)
-
-returns : tie.Need-returns Inv-loop μ-loop
-unfolding badFunctions
-returns c = let h : c .before .loop .i ≡ length (c .before .before .before .before .args .table .now) / 20 = omega arith in cc
+returns-2 : tie.Need-returns-2
+returns-2 c = functions-third _ _ _ _ (c .before .before .before .before .pre .1) (c .if1 .left) _ (c .before .bad-records .ensures)
 
 pub bad-functions-spec : {M : Type 1} → statement M
 bad-functions-spec =
-    tie.close
-    (tie.spec
-    Inv-loop
-    μ-loop
-    loop-holds
-    mul-at
-    bad-record-requires
-    add-word
-    word-requires
-    add-end
-    add-i
-    loop-less
-    loop-again
-    returns)
+    tie.close (tie.spec bad-records-requires high-params-requires returns returns-2)

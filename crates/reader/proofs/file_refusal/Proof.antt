@@ -1,9 +1,11 @@
 -- The proof of `reader::file_refusal`.
 use native.Mathlib.Omega.{arith}
-use mathlib.Core.Path.{sym, _∙_}
+use mathlib.Core.Path.{_≡_, refl, sym, _∙_, ap}
 use borrow.Author.Needs.{needs}
-use Rattle.reader.proofs.Opening.{sixth, seventh, from-code, from-code-alone}
+use Rattle.reader.proofs.Opening.{sixth, from-bodies, seventh, from-code, from-code-alone}
 use Rattle.reader.proofs.Records.{lent-tables, labels-length}
+use Rattle.rules.specs.ModuleFile.{labelsIn}
+use Rattle.rules.specs.Tables.{Tables, labelCount}
 use Rattle.reader.proofs.file_refusal.Statement.{statement}
 use Rattle.reader.proofs.file_refusal.Tie as tie
 
@@ -23,33 +25,68 @@ bad-constants-requires : tie.Need-bad-constants-requires
 bad-constants-requires c κs = search needs
 
 returns : tie.Need-returns
-returns c = let at-start = c .before .before .before .before .before in
-    sixth _ _ (lent-tables (at-start .args .file .now) (at-start .args .c) (at-start .pre)) _ (c .before .bad-constants .ensures) (c .if1 .taken)
+returns c = let s = c .before .before .before .before .before .args .file .now in
+    sixth _ _ (lent-tables s (c .before .before .before .before .before .args .c) (c .before .before .before .before .before .pre) _ refl) _ (c .before .bad-constants .ensures) (c .if1 .taken)
 
-sub-bad-functions : tie.Need-sub-bad-functions
-sub-bad-functions c = search needs
+word-requires : tie.Need-word-requires
+word-requires c κs = search needs
 
-part-bad-functions-start : tie.Need-part-bad-functions-start
-part-bad-functions-start c = search needs
+sub-bodies-refusal : tie.Need-sub-bodies-refusal
+sub-bodies-refusal c = search needs
 
-part-bad-functions-end : tie.Need-part-bad-functions-end
-part-bad-functions-end c = search needs
+part-bodies-refusal-start : tie.Need-part-bodies-refusal-start
+part-bodies-refusal-start c = search needs
 
-sub-bad-functions-2 : tie.Need-sub-bad-functions-2
-sub-bad-functions-2 c = search needs
+part-bodies-refusal-end : tie.Need-part-bodies-refusal-end
+part-bodies-refusal-end c = search needs
 
-part-bad-functions-start-2 : tie.Need-part-bad-functions-start-2
-part-bad-functions-start-2 c = search needs
+sub-bodies-refusal-2 : tie.Need-sub-bodies-refusal-2
+sub-bodies-refusal-2 c = search needs
 
-part-bad-functions-end-2 : tie.Need-part-bad-functions-end-2
-part-bad-functions-end-2 c = search needs
+part-bodies-refusal-start-2 : tie.Need-part-bodies-refusal-start-2
+part-bodies-refusal-start-2 c = search needs
 
-bad-functions-requires : tie.Need-bad-functions-requires
-bad-functions-requires c κs = search needs
+part-bodies-refusal-end-2 : tie.Need-part-bodies-refusal-end-2
+part-bodies-refusal-end-2 c = search needs
+
+sub-bodies-refusal-3 : tie.Need-sub-bodies-refusal-3
+sub-bodies-refusal-3 c = search needs
+
+part-bodies-refusal-start-3 : tie.Need-part-bodies-refusal-start-3
+part-bodies-refusal-start-3 c = search needs
+
+part-bodies-refusal-end-3 : tie.Need-part-bodies-refusal-end-3
+part-bodies-refusal-end-3 c = search needs
+
+bodies-refusal-requires : tie.Need-bodies-refusal-requires
+bodies-refusal-requires c κs = (search needs, rw (c .before .before .before .before .word .ensures .0) (c .before .before .before .before .before .before .before .before .before .before .pre .known))
 
 returns-2 : tie.Need-returns-2
-returns-2 c = let at-start = c .before .before .before .before .before .before .before .before .before in
-    seventh _ _ (lent-tables (at-start .args .file .now) (at-start .args .c) (at-start .pre)) _ (c .before .before .before .before .before .bad-constants .ensures) (c .before .before .before .before .if1 .left) _ (c .before .bad-functions .ensures) (c .if2 .taken)
+returns-2 c = from-bodies _ _ (lent-tables (c .before .before .before .before .before .before .before .before .before .before .before .args .file .now) (c .before .before .before .before .before .before .before .before .before .before .before .args .c) (c .before .before .before .before .before .before .before .before .before .before .before .pre) _ (c .before .before .before .before .before .word .ensures .0)) _ (c .before .before .before .before .before .before .before .bad-constants .ensures) (c .before .before .before .before .before .before .if1 .left) _ (c .bodies-refusal .ensures)
+
+sub-bad-records : tie.Need-sub-bad-records
+sub-bad-records c = search needs
+
+part-bad-records-start : tie.Need-part-bad-records-start
+part-bad-records-start c = search needs
+
+part-bad-records-end : tie.Need-part-bad-records-end
+part-bad-records-end c = search needs
+
+sub-bad-records-2 : tie.Need-sub-bad-records-2
+sub-bad-records-2 c = search needs
+
+part-bad-records-start-2 : tie.Need-part-bad-records-start-2
+part-bad-records-start-2 c = search needs
+
+part-bad-records-end-2 : tie.Need-part-bad-records-end-2
+part-bad-records-end-2 c = search needs
+
+bad-records-requires : tie.Need-bad-records-requires
+bad-records-requires c κs = search needs
+
+returns-3 : tie.Need-returns-3
+returns-3 c = from-bodies _ _ (lent-tables (c .before .before .before .before .before .before .before .before .before .before .before .args .file .now) (c .before .before .before .before .before .before .before .before .before .before .before .args .c) (c .before .before .before .before .before .before .before .before .before .before .before .pre) 3 (sym (c .before .before .before .before .if2 .left) ∙ c .before .before .before .before .before .word .ensures .0)) _ (c .before .before .before .before .before .before .before .bad-constants .ensures) (c .before .before .before .before .before .before .if1 .left) _ (seventh _ _ _ (c .before .bad-records .ensures) (c .if3 .taken))
 
 sub-without-table : tie.Need-sub-without-table
 sub-without-table c = search needs
@@ -70,11 +107,14 @@ part-without-table-end-2 : tie.Need-part-without-table-end-2
 part-without-table-end-2 c = search needs
 
 without-table-requires : tie.Need-without-table-requires
-without-table-requires c κs = (search needs, sym (c .before .before .before .before .before .bad-functions .ensures) ∙ c .before .before .before .before .if2 .left)
+without-table-requires c κs = (search needs, sym (c .before .before .before .before .before .bad-records .ensures) ∙ c .before .before .before .before .if3 .left, refl)
 
-returns-3 : tie.Need-returns-3
-returns-3 c = let at-start = c .before .before .before .before .before .before .before .before .before .before .before .before .before .before in
-    from-code-alone _ _ (lent-tables (at-start .args .file .now) (at-start .args .c) (at-start .pre)) _ (c .before .before .before .before .before .before .before .before .before .before .bad-constants .ensures) (c .before .before .before .before .before .before .before .before .before .if1 .left) _ (c .before .before .before .before .before .before .bad-functions .ensures) (c .before .before .before .before .before .if2 .left) _ (omega (arith, labels-length (at-start .args .file .now) (at-start .args .c) (at-start .pre), c .before .before .before .if3 .taken)) (c .without-table .ensures)
+returns-4 : tie.Need-returns-4
+returns-4 c = let s = c .before .before .before .before .before .before .before .before .before .before .before .before .before .before .before .before .args .file .now in
+    let lent = lent-tables s (c .before .before .before .before .before .before .before .before .before .before .before .before .before .before .before .before .args .c) (c .before .before .before .before .before .before .before .before .before .before .before .before .before .before .before .before .pre) 3 (sym (c .before .before .before .before .before .before .before .before .before .if2 .left) ∙ c .before .before .before .before .before .before .before .before .before .before .word .ensures .0) in
+    let read : labelCount (labelsIn s) ≡ 0 = omega (arith, labels-length s (c .before .before .before .before .before .before .before .before .before .before .before .before .before .before .before .before .args .c) (c .before .before .before .before .before .before .before .before .before .before .before .before .before .before .before .before .pre), c .before .before .before .if4 .taken) in
+    let none = ap (λ (t : Tables). labelCount (t .labels)) lent ∙ read in
+    from-bodies _ _ lent _ (c .before .before .before .before .before .before .before .before .before .before .before .before .bad-constants .ensures) (c .before .before .before .before .before .before .before .before .before .before .before .if1 .left) _ (from-code-alone _ _ _ (c .before .before .before .before .before .before .bad-records .ensures) (c .before .before .before .before .before .if3 .left) _ none (c .without-table .ensures))
 
 sub-sized-refusal : tie.Need-sub-sized-refusal
 sub-sized-refusal c = search needs
@@ -104,11 +144,10 @@ part-sized-refusal-end-3 : tie.Need-part-sized-refusal-end-3
 part-sized-refusal-end-3 c = search needs
 
 sized-refusal-requires : tie.Need-sized-refusal-requires
-sized-refusal-requires c κs = (search needs, sym (c .before .before .before .before .before .before .bad-functions .ensures) ∙ c .before .before .before .before .before .if2 .left)
+sized-refusal-requires c κs = (search needs, sym (c .before .before .before .before .before .before .bad-records .ensures) ∙ c .before .before .before .before .before .if3 .left, refl)
 
-returns-4 : tie.Need-returns-4
-returns-4 c = let at-start = c .before .before .before .before .before .before .before .before .before .before .before .before .before .before .before in
-    from-code _ _ (lent-tables (at-start .args .file .now) (at-start .args .c) (at-start .pre)) _ (c .before .before .before .before .before .before .before .before .before .before .before .bad-constants .ensures) (c .before .before .before .before .before .before .before .before .before .before .if1 .left) _ (c .before .before .before .before .before .before .before .bad-functions .ensures) (c .before .before .before .before .before .before .if2 .left) _ (c .sized-refusal .ensures)
+returns-5 : tie.Need-returns-5
+returns-5 c = from-bodies _ _ (lent-tables (c .before .before .before .before .before .before .before .before .before .before .before .before .before .before .before .before .before .args .file .now) (c .before .before .before .before .before .before .before .before .before .before .before .before .before .before .before .before .before .args .c) (c .before .before .before .before .before .before .before .before .before .before .before .before .before .before .before .before .before .pre) 3 (sym (c .before .before .before .before .before .before .before .before .before .before .if2 .left) ∙ c .before .before .before .before .before .before .before .before .before .before .before .word .ensures .0)) _ (c .before .before .before .before .before .before .before .before .before .before .before .before .before .bad-constants .ensures) (c .before .before .before .before .before .before .before .before .before .before .before .before .if1 .left) _ (from-code _ _ _ (c .before .before .before .before .before .before .before .bad-records .ensures) (c .before .before .before .before .before .before .if3 .left) _ (c .sized-refusal .ensures))
 
 pub file-refusal-spec : {M : Type 1} → statement M
 file-refusal-spec =
@@ -120,14 +159,26 @@ file-refusal-spec =
     part-bad-constants-end
     bad-constants-requires
     returns
-    sub-bad-functions
-    part-bad-functions-start
-    part-bad-functions-end
-    sub-bad-functions-2
-    part-bad-functions-start-2
-    part-bad-functions-end-2
-    bad-functions-requires
+    word-requires
+    sub-bodies-refusal
+    part-bodies-refusal-start
+    part-bodies-refusal-end
+    sub-bodies-refusal-2
+    part-bodies-refusal-start-2
+    part-bodies-refusal-end-2
+    sub-bodies-refusal-3
+    part-bodies-refusal-start-3
+    part-bodies-refusal-end-3
+    bodies-refusal-requires
     returns-2
+    sub-bad-records
+    part-bad-records-start
+    part-bad-records-end
+    sub-bad-records-2
+    part-bad-records-start-2
+    part-bad-records-end-2
+    bad-records-requires
+    returns-3
     sub-without-table
     part-without-table-start
     part-without-table-end
@@ -135,7 +186,7 @@ file-refusal-spec =
     part-without-table-start-2
     part-without-table-end-2
     without-table-requires
-    returns-3
+    returns-4
     sub-sized-refusal
     part-sized-refusal-start
     part-sized-refusal-end
@@ -146,4 +197,4 @@ file-refusal-spec =
     part-sized-refusal-start-3
     part-sized-refusal-end-3
     sized-refusal-requires
-    returns-4)
+    returns-5)

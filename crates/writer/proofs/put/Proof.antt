@@ -87,7 +87,7 @@ same-length c = omega (arith, c .before .before .before .before .before .before 
 returns : tie.Need-returns
 unfolding fileOf
 returns c = let at-start = c .before .before .before .before .before .before .before .before .before .before .before .before .before .before .before .before .before .before .before .before .before .before .before .before .before in
-    sections (at-start .args .out .now) (words (headerWords 3 (length (at-start .args .constants .now)) (length (at-start .args .functions .now)) (length (at-start .args .labels .now)) (length (at-start .args .code .now)) (at-start .args .entry))) (at-start .args .constants .now) (at-start .args .functions .now) (at-start .args .labels .now) (at-start .args .code .now)
+    sections (at-start .args .out .now) (words (headerWords (at-start .args .edition) (length (at-start .args .constants .now)) (length (at-start .args .functions .now)) (length (at-start .args .labels .now)) (length (at-start .args .code .now)) (at-start .args .entry))) (at-start .args .constants .now) (at-start .args .functions .now) (at-start .args .labels .now) (at-start .args .code .now)
     _ _ _ _ _ refl (c .before .before .before .before .before .before .before .before .before .before .before .before .before .before .before .before .before .before .put-header .ensures) (c .before .before .before .before .before .before .before .before .before .before .before .before .before .before .put-section .ensures) (c .before .before .before .before .before .before .before .before .before .before .put-section2 .ensures) (c .before .before .before .before .before .before .put-section3 .ensures) (c .before .before .put-section4 .ensures)
 
 pub put-spec : {M : Type 1} → statement M

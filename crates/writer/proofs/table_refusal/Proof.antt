@@ -7,25 +7,29 @@ use Rattle.writer.proofs.Laws.{fits-of}
 use Rattle.writer.proofs.table_refusal.Statement.{statement}
 use Rattle.writer.proofs.table_refusal.Tie as tie
 
+returns : tie.Need-returns
+unfolding tableRefusal firstOf
+returns c = simp (c .if1 .taken)
+
 over-limits-requires : tie.Need-over-limits-requires
 over-limits-requires c κs = search needs
 
-returns : tie.Need-returns
-unfolding tableRefusal tooMany firstOf
-returns c = simp (← c .before .over-limits .ensures, c .if1 .taken)
-
 returns-2 : tie.Need-returns-2
-unfolding tableRefusal tooMany broken firstOf
-returns-2 c = simp (← c .before .before .over-limits .ensures, c .before .if1 .left, c .if2 .taken)
-
-content-refusal-requires : tie.Need-content-refusal-requires
-content-refusal-requires c κs = let at-start = c .before .before .before .before .before .before .before in
-    fits-of (at-start .args .constants .now) (at-start .args .functions .now) (at-start .args .labels .now) (at-start .args .code .now) (at-start .args .entry) (sym (c .before .before .over-limits .ensures) ∙ c .before .if1 .left) (c .if2 .left)
+unfolding tableRefusal tooMany firstOf
+returns-2 c = simp (c .before .before .if1 .left, ← c .before .over-limits .ensures, c .if2 .taken)
 
 returns-3 : tie.Need-returns-3
 unfolding tableRefusal tooMany broken firstOf
-returns-3 c = simp (← c .before .before .before .over-limits .ensures, c .before .before .if1 .left, c .before .if2 .left) (c .content-refusal .ensures)
+returns-3 c = simp (c .before .before .before .if1 .left, ← c .before .before .over-limits .ensures, c .before .if2 .left, c .if3 .taken)
+
+content-refusal-requires : tie.Need-content-refusal-requires
+content-refusal-requires c κs = let at-start = c .before .before .before .before .before .before .before .before in
+    (fits-of (at-start .args .constants .now) (at-start .args .functions .now) (at-start .args .labels .now) (at-start .args .code .now) (at-start .args .entry) (sym (c .before .before .over-limits .ensures) ∙ c .before .if2 .left) (c .if3 .left), c .before .before .before .if1 .left)
+
+returns-4 : tie.Need-returns-4
+unfolding tableRefusal tooMany broken firstOf
+returns-4 c = simp (c .before .before .before .before .if1 .left, ← c .before .before .before .over-limits .ensures, c .before .before .if2 .left, c .before .if3 .left) (c .content-refusal .ensures)
 
 pub table-refusal-spec : {M : Type 1} → statement M
 table-refusal-spec =
-    tie.close (tie.spec over-limits-requires returns returns-2 content-refusal-requires returns-3)
+    tie.close (tie.spec returns over-limits-requires returns-2 returns-3 content-refusal-requires returns-4)

@@ -9,13 +9,13 @@ use Rattle.reader.proofs.blocks.all_bare.Statement.{statement}
 use Rattle.reader.proofs.blocks.all_bare.Tie as tie
 
 abbrev Inv-loop : tie.InvT-loop
-Inv-loop code p good₀ i₀ good i = (good ≡ allBare code p i) × (i ≤ 16)
+Inv-loop edition code p good₀ i₀ good i = (good ≡ allBare edition code p i) × (i ≤ 16)
 
 abbrev μ-loop : tie.MeasureT-loop
-μ-loop code p good₀ i₀ good i = 16 - i
+μ-loop edition code p good₀ i₀ good i = 16 - i
 
 loop-holds : tie.Need-loop-holds Inv-loop μ-loop
-loop-holds c = (bare-none _ _, omega arith)
+loop-holds c = (bare-none _ _ _, omega arith)
 
 add-bare : tie.Need-add-bare Inv-loop μ-loop
 add-bare c = omega arith
@@ -35,12 +35,12 @@ loop-less c = omega arith
 loop-again : tie.Need-loop-again Inv-loop μ-loop
 loop-again c = let at-start = c .before .before .before .before .before in
     let at-loop = c .before .before .before .loop in
-    (bare-next (at-start .args .code .now) (at-start .args .p) (at-loop .i) _ _ (at-loop .inv .0) (c .bare .ensures), omega arith)
+    (bare-next (at-start .args .edition) (at-start .args .code .now) (at-start .args .p) (at-loop .i) _ _ (at-loop .inv .0) (c .bare .ensures), omega arith)
 
 returns : tie.Need-returns Inv-loop μ-loop
 returns c = let at-start = c .before .before .before .args in
     let n : c .before .loop .i ≡ 16 = omega arith in
-    c .before .loop .inv .0 ∙ ap (allBare (at-start .code .now) (at-start .p)) n
+    c .before .loop .inv .0 ∙ ap (allBare (at-start .edition) (at-start .code .now) (at-start .p)) n
 
 pub all-bare-spec : {M : Type 1} → statement M
 all-bare-spec =

@@ -11,10 +11,10 @@ use Rattle.reader.proofs.blocks.skip.Statement.{statement}
 use Rattle.reader.proofs.blocks.skip.Tie as tie
 
 abbrev Inv-loop : tie.InvT-loop
-Inv-loop code from to starts₀ p₀ starts p = (from ≤ p) × (p ≤ to) × (length starts ≡ length starts₀) × Cut 3 code p starts
+Inv-loop edition code from to starts₀ p₀ starts p = (from ≤ p) × (p ≤ to) × (length starts ≡ length starts₀) × Cut edition code p starts
 
 abbrev μ-loop : tie.MeasureT-loop
-μ-loop code from to starts₀ p₀ starts p = to - p
+μ-loop edition code from to starts₀ p₀ starts p = to - p
 
 loop-holds : tie.Need-loop-holds Inv-loop μ-loop
 loop-holds c = (omega arith, omega arith, refl, c .before .before .pre .1)
@@ -23,7 +23,7 @@ add-loop : tie.Need-add-loop Inv-loop μ-loop
 add-loop c = omega arith
 
 all-bare-requires : tie.Need-all-bare-requires Inv-loop μ-loop
-all-bare-requires c κs = omega arith
+all-bare-requires c κs = (omega arith, c .before .before .before .before .pre .0 .3)
 
 same-length : tie.Need-same-length Inv-loop μ-loop
 same-length c = c .before .before .before .loop .inv .2
@@ -44,7 +44,7 @@ returns-2 c = let at-start = c .before .before .before .before .before .before .
     let at-mark-block = c .before .before .before .mark-block in
     let at-loop = c .before .before .before .before .before .before .before .before .loop in
     let e = at-mark-block .ensures .1 (not-true (at-mark-block .result) (c .if2 .taken)) in
-    let cut = subst (λ (x : List ℕ). Cut 3 (at-start .args .code .now) (at-loop .p) x) (sym e) (at-loop .inv .3) in
+    let cut = subst (λ (x : List ℕ). Cut (at-start .args .edition) (at-start .args .code .now) (at-loop .p) x) (sym e) (at-loop .inv .3) in
     ((at-loop .inv .0, at-loop .inv .1), (ap length e ∙ at-loop .inv .2, cut))
 
 add-p : tie.Need-add-p Inv-loop μ-loop
@@ -64,7 +64,7 @@ loop-again c = let at-start = c .before .before .before .before .before .before 
       omega arith,
       omega arith,
       ap length e ∙ length-marks t p 16 ∙ at-loop .inv .2,
-      subst (λ (x : List ℕ). Cut 3 s (p + 16) x) (sym e) (cut-run s p t (at-loop .inv .3) 16 a),
+      subst (λ (x : List ℕ). Cut (at-start .args .edition) s (p + 16) x) (sym e) (cut-run (at-start .args .edition) s p t (at-loop .inv .3) 16 a),
     )
 
 same-length-3 : tie.Need-same-length-3 Inv-loop μ-loop

@@ -15,10 +15,10 @@ use Rattle.reader.proofs.code.walk_body.Statement.{statement}
 use Rattle.reader.proofs.code.walk_body.Tie as tie
 
 abbrev Inv-loop : tie.InvT-loop
-Inv-loop code from to starts₀ p₀ wait₀ starts p wait = Cut 3 code p starts × (length starts ≡ length starts₀) × (to < p → differs (due 3 code to) 0 ≡ true) × (1 ≤ wait) × (wait ≤ 8)
+Inv-loop edition code from to starts₀ p₀ wait₀ starts p wait = Cut edition code p starts × (length starts ≡ length starts₀) × (to < p → differs (due edition code to) 0 ≡ true) × (1 ≤ wait) × (wait ≤ 8)
 
 abbrev μ-loop : tie.MeasureT-loop
-μ-loop code from to starts₀ p₀ wait₀ starts p wait = to - p
+μ-loop edition code from to starts₀ p₀ wait₀ starts p wait = to - p
 
 loop-holds : tie.Need-loop-holds Inv-loop μ-loop
 loop-holds c = (c .before .before .pre .1, refl, λ h. absurd (omega arith), omega arith, omega arith)
@@ -43,11 +43,11 @@ skip-requires c κs = let at-start = c .before .before .before .before .before .
     let at-loop = c .before .before .before .before .before .before .before .before .before .before .before .loop in
     let at-opcode-size = c .before .before .before .before .opcode-size in
     let at-mark = c .before .before .before .before .before .before .before .before .mark in
-    let s = at-start .args .code .now in let p = at-loop .p in let z = at-opcode-size .result in let t = at-loop .starts in
+    let s = at-start .args .code .now in let ed = at-start .args .edition in let p = at-loop .p in let z = at-opcode-size .result in let t = at-loop .starts in
     let e = at-opcode-size .ensures .0 in
     let m : at-mark .last .0 ≡ set t p 1 = at-mark .ensures in
     let one : z ≡ 1 = ⊎-elim (λ w. w .0 .taken) (λ w. absurd (omega arith)) (c .before .before .if2 .came) in
-    ((omega arith, omega arith, at-start .pre .0 .2), subst (λ (x : List ℕ). Cut 3 s (p + z) x) (sym m) (cut-step 3 s p z t (at-loop .inv .0) e (omega arith)))
+    ((omega arith, omega arith, at-start .pre .0 .2, at-start .pre .0 .3), subst (λ (x : List ℕ). Cut ed s (p + z) x) (sym m) (cut-step ed s p z t (at-loop .inv .0) e (omega arith)))
 
 loop-less : tie.Need-loop-less Inv-loop μ-loop
 loop-less c = omega arith
@@ -68,13 +68,13 @@ loop-again-2 c = let at-start = c .before .before .before .before .before .befor
     let at-loop = c .before .before .before .before .before .before .before .before .before .before .loop in
     let at-opcode-size = c .before .before .before .opcode-size in
     let at-mark = c .before .before .before .before .before .before .before .mark in
-    let s = at-start .args .code .now in let p = at-loop .p in let z = at-opcode-size .result in let t = at-loop .starts in
+    let s = at-start .args .code .now in let ed = at-start .args .edition in let p = at-loop .p in let z = at-opcode-size .result in let t = at-loop .starts in
     let e = at-opcode-size .ensures .0 in
     let m : at-mark .last .0 ≡ set t p 1 = at-mark .ensures in
     let some : 0 < z = omega arith in (
-      subst (λ (x : List ℕ). Cut 3 s (p + z) x) (sym m) (cut-step 3 s p z t (at-loop .inv .0) e some),
+      subst (λ (x : List ℕ). Cut ed s (p + z) x) (sym m) (cut-step ed s p z t (at-loop .inv .0) e some),
       ap length m ∙ length-set t p 1 ∙ at-loop .inv .1,
-      λ h. crosses 3 s p z (at-start .args .to) (at-loop .inv .0 .begins) e some (c .before .before .before .before .before .before .before .before .before .loop-test .taken) h,
+      λ h. crosses ed s p z (at-start .args .to) (at-loop .inv .0 .begins) e some (c .before .before .before .before .before .before .before .before .before .loop-test .taken) h,
       omega arith,
       ⊎-elim (λ w. omega arith) (λ w. omega arith) (c .before .if2 .came),
     )
@@ -87,13 +87,13 @@ same-length c = let at-loop = c .before .loop in
 returns : tie.Need-returns Inv-loop μ-loop
 returns c = let at-start = c .before .before .before .before in
     let at-loop = c .before .loop in
-    let s = at-start .args .code .now in let p = at-loop .p in let to = at-start .args .to in let now = c .loop-test .starts in
+    let s = at-start .args .code .now in let ed = at-start .args .edition in let p = at-loop .p in let to = at-start .args .to in let now = c .loop-test .starts in
     let cut = at-loop .inv .0 in
     ⊎-elim
-    (λ w. (ap length (w .1) ∙ at-loop .inv .1, subst (λ (x : List ℕ). Walked (eqb p to) 3 s to x) (sym (w .1)) (walked 3 s p to (at-loop .starts) cut (w .0 .left) (at-loop .inv .2))))
+    (λ w. (ap length (w .1) ∙ at-loop .inv .1, subst (λ (x : List ℕ). Walked (eqb p to) ed s to x) (sym (w .1)) (walked ed s p to (at-loop .starts) cut (w .0 .left) (at-loop .inv .2))))
     (λ w. (
       ap length (w .8) ∙ ap length (w .2 .ensures) ∙ length-set (at-loop .starts) p 1 ∙ at-loop .inv .1,
-      stopped 3 s p (w .6 .result) to now (cut .begins) (w .6 .ensures .0) (w .7 .taken) (w .0 .taken),
+      stopped ed s p (w .6 .result) to now (cut .begins) (w .6 .ensures .0) (w .7 .taken) (w .0 .taken),
     ))
     (c .loop-test .came)
 

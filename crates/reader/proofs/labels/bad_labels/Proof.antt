@@ -9,10 +9,10 @@ use Rattle.reader.proofs.labels.bad_labels.Statement.{statement}
 use Rattle.reader.proofs.labels.bad_labels.Tie as tie
 
 abbrev Inv-loop : tie.InvT-loop
-Inv-loop functions labels code entry starts n bad₀ i₀ bad i = (i ≤ n) × (bad ≡ some-below i (badLabel (bodies 3 functions code entry) labels))
+Inv-loop edition functions labels code entry starts n bad₀ i₀ bad i = (i ≤ n) × (bad ≡ some-below i (badLabel (bodies edition functions code entry) labels))
 
 abbrev μ-loop : tie.MeasureT-loop
-μ-loop functions labels code entry starts n bad₀ i₀ bad i = n - i
+μ-loop edition functions labels code entry starts n bad₀ i₀ bad i = n - i
 
 loop-holds : tie.Need-loop-holds Inv-loop μ-loop
 loop-holds c = (omega arith, some-none _)
