@@ -8,7 +8,8 @@ use mathlib.Core.Bool.{Bool, true, false, _&&_, true≢false}
 use mathlib.Core.List.{List, [], _∷_, _++_}
 use borrow.Author.Tests.{ne-eqb}
 use types.Run.{OneOf}
-use Rattle.rules.specs.Instructions.{edition3, opcodeOf, isAbsent}
+use Rattle.rules.specs.Instructions.{opcodeOf, isAbsent}
+use Rattle.soundness.specs.Numbering.{keyTable}
 use Rattle.keys.specs.Keys.{Known, Outside, among, amongAny, complete, absents}
 
 and-left : (x y : Bool) → (x && y) ≡ true → x ≡ true
@@ -49,12 +50,12 @@ none-left n kss e b l o = absurd (true≢false (sym (complete-at n kss e b l) �
 
 -- ---- keys that are no instruction's
 
-absent-key : (b k : ℕ) (ks : List ℕ) → absents (k ∷ ks) ≡ true → OneOf (k ∷ ks) b → isAbsent (opcodeOf edition3 b) ≡ true
-absent-key b k [] e h = rw h (and-left (isAbsent (opcodeOf edition3 k)) true e)
-absent-key b k (j ∷ ks) e (inl h) = rw h (and-left (isAbsent (opcodeOf edition3 k)) (absents (j ∷ ks)) e)
-absent-key b k (j ∷ ks) e (inr h) = absent-key b j ks (and-right (isAbsent (opcodeOf edition3 k)) (absents (j ∷ ks)) e) h
+absent-key : (b k : ℕ) (ks : List ℕ) → absents (k ∷ ks) ≡ true → OneOf (k ∷ ks) b → isAbsent (opcodeOf keyTable b) ≡ true
+absent-key b k [] e h = rw h (and-left (isAbsent (opcodeOf keyTable k)) true e)
+absent-key b k (j ∷ ks) e (inl h) = rw h (and-left (isAbsent (opcodeOf keyTable k)) (absents (j ∷ ks)) e)
+absent-key b k (j ∷ ks) e (inr h) = absent-key b j ks (and-right (isAbsent (opcodeOf keyTable k)) (absents (j ∷ ks)) e) h
 
-absent-one : (b : ℕ) (ks : List ℕ) → absents ks ≡ true → OneOf ks b → isAbsent (opcodeOf edition3 b) ≡ true
+absent-one : (b : ℕ) (ks : List ℕ) → absents ks ≡ true → OneOf ks b → isAbsent (opcodeOf keyTable b) ≡ true
 absent-one b [] e h = absurd h
 absent-one b (k ∷ ks) e h = absent-key b k ks e h
 

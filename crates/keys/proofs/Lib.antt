@@ -1,3 +1,4 @@
 pub mod Places
 pub mod Chain
 pub mod Files
+pub mod Translation

@@ -10,7 +10,8 @@ use lib.Dec.{leb, ltb, ltb→lt, nltb→le}
 use borrow.Author.Tests.{le-leb, lt-leb, leb-true, leb-false}
 use Rattle.rules.specs.declared.Instruction.{Instruction}
 use Rattle.rules.specs.Bytes.{byte, word}
-use Rattle.rules.specs.Instructions.{Opcode, absent, bare, wide, edition3, opcodeOf, isAbsent, instructionOf}
+use Rattle.rules.specs.Instructions.{Opcode, absent, bare, wide, opcodeOf, isAbsent, instructionOf}
+use Rattle.soundness.specs.Numbering.{keyTable}
 use Rattle.keys.specs.declared.Fetched.the-variants.{Key, End}
 use Rattle.keys.specs.Keys.{fetched, Says, Known}
 
@@ -46,19 +47,19 @@ known-opcode (bare j) w i e = refl
 known-opcode (wide j) w i e = refl
 
 pub says-known : (code : List ℕ) (q : ℕ) (i : Instruction) → Says code q i → Known (byte code q)
-says-known code q i s = known-opcode (opcodeOf edition3 (byte code q)) (word 4 code (q + 1)) i (s .is)
+says-known code q i s = known-opcode (opcodeOf keyTable (byte code q)) (word 4 code (q + 1)) i (s .is)
 
--- the table ends at 2e
-pub known-low : (b : ℕ) → Known b → b < 47
-known-low b k = go (ltb b 47) refl
+-- the table ends at 31 hex
+pub known-low : (b : ℕ) → Known b → b < 50
+known-low b k = go (ltb b 50) refl
   where
-    go : (x : Bool) → ltb b 47 ≡ x → b < 47
-    go true e = ltb→lt b 47 (rw e tt)
+    go : (x : Bool) → ltb b 50 ≡ x → b < 50
+    go true e = ltb→lt b 50 (rw e tt)
     go false e =
-        let l : 47 ≤ b = nltb→le b 47 (rw e tt) in
-        let z : opcodeOf edition3 b ≡ absent = List·getD-eq-default edition3 absent {n = b} l in
+        let l : 50 ≤ b = nltb→le b 50 (rw e tt) in
+        let z : opcodeOf keyTable b ≡ absent = List·getD-eq-default keyTable absent {n = b} l in
         absurd (true≢false (sym (ap isAbsent z) ∙ k))
 
 -- so all of its bits are kept
 pub says-key : (code : List ℕ) (q : ℕ) (i : Instruction) → Says code q i → byte code q % 64 ≡ byte code q
-says-key code q i s = let l : byte code q < 47 = known-low (byte code q) (says-known code q i s) in omega arith
+says-key code q i s = let l : byte code q < 50 = known-low (byte code q) (says-known code q i s) in omega arith

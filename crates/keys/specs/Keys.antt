@@ -5,11 +5,14 @@ use mathlib.Core.Bool.{Bool, true, false, _&&_, _||_, cond}
 use mathlib.Core.Option.{some}
 use mathlib.Core.List.{List, [], _∷_}
 use types.Run.{OneOf}
-use lib.ListN.{length}
+use lib.ListN.{length, drop, set}
 use lib.Dec.{leb, eqb}
 use Rattle.rules.specs.declared.Instruction.{Instruction}
 use Rattle.rules.specs.Bytes.{byte, word}
-use Rattle.rules.specs.Instructions.{edition3, opcodeOf, isAbsent, instructionOf, size}
+use Rattle.rules.specs.Instructions.{opcodeOf, isAbsent, instructionOf, size}
+use Rattle.rules.specs.ModuleFile.{edition, codeIn}
+use Rattle.soundness.specs.Numbering.{keyTable}
+use Rattle.soundness.specs.Translated.{InKeys}
 use Rattle.keys.specs.declared.Fetched.{Fetched}
 use Rattle.keys.specs.declared.Fetched.the-variants.{Key, End}
 
@@ -21,14 +24,23 @@ fetched code q stop = cond (leb stop q) End (Key (byte code q % 64))
 
 -- the bytes at place q of the code are the key of the instruction i and its word, and all of them are there
 pub record Says (code : List ℕ) (q : ℕ) (i : Instruction) : Type 0 where
-  pub is : instructionOf (opcodeOf edition3 (byte code q)) (word 4 code (q + 1)) ≡ some i
+  pub is : instructionOf (opcodeOf keyTable (byte code q)) (word 4 code (q + 1)) ≡ some i
   pub whole : q + size i ≤ length code
+
+-- from `from` on the lent bytes are the code of the file's module in keys, and what follows it
+pub record Keyed (file source : List ℕ) (from : ℕ) : Type 0 where
+  pub inside : from ≤ length source
+  pub keys : InKeys (edition file) (codeIn file) (drop from source)
+
+-- `own` with the four bytes of the code from p on
+abbrev pub withWord : List ℕ → List ℕ → ℕ → List ℕ
+withWord code own p = set (set (set (set own p (byte code p)) (p + 1) (byte code (p + 1))) (p + 2) (byte code (p + 2))) (p + 3) (byte code (p + 3))
 
 -- ---- in matches
 
 -- b is the key of an instruction
 abbrev pub Known : ℕ → Type 0
-Known b = isAbsent (opcodeOf edition3 b) ≡ false
+Known b = isAbsent (opcodeOf keyTable b) ≡ false
 
 -- what a match knows of b in its last arm: it is none of each arm's keys, the last of the arms first
 abbrev pub Outside : ℕ → List (List ℕ) → Type 0
@@ -57,4 +69,4 @@ complete (suc n) kss = complete n kss && amongAny n kss
 -- none of these keys is an instruction's
 abbrev pub absents : List ℕ → Bool
 absents [] = true
-absents (k ∷ ks) = isAbsent (opcodeOf edition3 k) && absents ks
+absents (k ∷ ks) = isAbsent (opcodeOf keyTable k) && absents ks

@@ -1,4 +1,6 @@
 // What stands at a place of the code: the key of an instruction, and the word behind it.
+pub mod edition1;
+
 ghost use mathlib.Core.Path.{_≡_};
 ghost use Prim.Native.Nat.{_+_, _≤_};
 ghost use lib.ListN.{length};

@@ -8,28 +8,29 @@ use mathlib.Core.List.{List, _++_}
 use lib.ListN.{length}
 use Rattle.rules.specs.declared.Instruction.{Instruction}
 use Rattle.rules.specs.Bytes.{byte, word, maybe}
-use Rattle.rules.specs.Instructions.{edition3, opcodeOf, instructionOf, size}
+use Rattle.rules.specs.Instructions.{opcodeOf, instructionOf, size}
 use Rattle.rules.specs.Tables.{Module}
 use Rattle.rules.specs.Machine.{Next, stops, execIn, step}
 use Rattle.soundness.specs.Tests.{some-inj}
+use Rattle.soundness.specs.Numbering.{keyTable}
 use Rattle.keys.specs.Keys.{Says, Known, Outside}
 use Rattle.keys.proofs.Places.{says-known, known-low}
 use Rattle.keys.proofs.Chain.{outside-both, none-left}
 use Rattle.state.specs.State.{stateOf, Ready, Does, Acts, DoesOrLacks}
 use Rattle.state.specs.declared.Registers.{Registers}
 use Rattle.state.specs.declared.Progress.{Progress}
-use Rattle.machine.specs.Matches.{wides, numerics, singles, Keyed, Performs, Stands, Steps}
+use Rattle.machine.specs.Matches.{wides, numerics, singles, Performs, Stands, Steps}
 
 -- the instruction of key k is j, whatever word is behind it
 abbrev pub Alone : ℕ → Instruction → Type 0
-Alone k j = (w : ℕ) → instructionOf (opcodeOf edition3 k) w ≡ some j
+Alone k j = (w : ℕ) → instructionOf (opcodeOf keyTable k) w ≡ some j
 
 -- the instruction of key k is j of the word behind it
 abbrev pub Wide : ℕ → (ℕ → Instruction) → Type 0
-Wide k j = (w : ℕ) → instructionOf (opcodeOf edition3 k) w ≡ some (j w)
+Wide k j = (w : ℕ) → instructionOf (opcodeOf keyTable k) w ≡ some (j w)
 
-same-key : (b k w : ℕ) (j i : Instruction) → b ≡ k → instructionOf (opcodeOf edition3 k) w ≡ some j → instructionOf (opcodeOf edition3 b) w ≡ some i → j ≡ i
-same-key b k w j i e q x = some-inj j i (sym q ∙ ap (λ (n : ℕ). instructionOf (opcodeOf edition3 n) w) (sym e) ∙ x)
+same-key : (b k w : ℕ) (j i : Instruction) → b ≡ k → instructionOf (opcodeOf keyTable k) w ≡ some j → instructionOf (opcodeOf keyTable b) w ≡ some i → j ≡ i
+same-key b k w j i e q x = some-inj j i (sym q ∙ ap (λ (n : ℕ). instructionOf (opcodeOf keyTable n) w) (sym e) ∙ x)
 
 -- what an arm without a word did
 pub alone : (b k cap : ℕ) (r : Registers) (a : Progress) (p t p′ t′ : List ℕ) (j : Instruction) → b ≡ k → Alone k j
@@ -40,8 +41,8 @@ module _ (code : List ℕ) (q b : ℕ) (s : Stands code q b) where
   pub stands-known : Known b
   stands-known = subst Known (sym (s .key)) (says-known code q (s .instruction) (s .says))
 
-  says-keyed : (i : Instruction) → Says code q i → instructionOf (opcodeOf edition3 b) (word 4 code (q + 1)) ≡ some i
-  says-keyed i x = ap (λ (n : ℕ). instructionOf (opcodeOf edition3 n) (word 4 code (q + 1))) (s .key) ∙ x .is
+  says-keyed : (i : Instruction) → Says code q i → instructionOf (opcodeOf keyTable b) (word 4 code (q + 1)) ≡ some i
+  says-keyed i x = ap (λ (n : ℕ). instructionOf (opcodeOf keyTable n) (word 4 code (q + 1))) (s .key) ∙ x .is
 
   wide-is : (k : ℕ) (j : ℕ → Instruction) → b ≡ k → Wide k j → (i : Instruction) → Says code q i → j (word 4 code (q + 1)) ≡ i
   wide-is k j e w i x = same-key b k (word 4 code (q + 1)) (j (word 4 code (q + 1))) i e (w (word 4 code (q + 1))) (says-keyed i x)
@@ -77,5 +78,5 @@ step-is m cap r p t f i e = sym (ap (λ (o : Option Instruction). maybe o (stops
 -- no key is left
 pub no-other : {P : Type 0} (b : ℕ) → Known b × Outside b wides × Outside b numerics → Outside b singles → P
 no-other b k o =
-    none-left 64 (singles ++ (wides ++ numerics)) refl b (let l : b < 47 = known-low b (k .0) in omega arith)
+    none-left 64 (singles ++ (wides ++ numerics)) refl b (let l : b < 50 = known-low b (k .0) in omega arith)
     (outside-both b singles (wides ++ numerics) o (outside-both b wides numerics (k .1) (k .2)))

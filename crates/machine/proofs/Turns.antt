@@ -18,10 +18,10 @@ use Rattle.rules.specs.Machine.{State, Next, goes, stops, finishes, Outcome, ou
 use Rattle.rules.specs.Stack.{slotsOf}
 use Rattle.soundness.specs.Started.{Fit, NextFit}
 use Rattle.soundness.specs.Kinds.{OfKind, kinds-closed}
-use Rattle.soundness.specs.Placed.{stop-inside, whole-instruction, step-fit}
+use Rattle.soundness.specs.Placed.{stop-inside, whole-instruction, place-cut, step-fit}
 use Rattle.format.specs.declared.Sections.{Sections}
 use Rattle.format.specs.Layout.{Packed}
-use Rattle.keys.specs.Keys.{Says}
+use Rattle.keys.specs.Keys.{Says, Keyed}
 use Rattle.keys.proofs.Places.{says-key}
 use Rattle.keys.proofs.Files.{code-long, says-at}
 use Rattle.operands.specs.Operands.{Computable}
@@ -107,12 +107,15 @@ module _ (file : List ℕ) (c : Sections) (cap n : ℕ) (p₀ t₀ f₀ : List �
 
   -- ---- at the place
 
-  module _ (code : List ℕ) (is : code ≡ drop (c .code) file) where
+  stop-in-code : r .stop ≤ codeLength file
+  stop-in-code = stop-inside file (g .module-is .1) OfKind (kinds-closed file (g .module-is .1)) cap s (g .fits .fit)
+
+  module _ (source : List ℕ) (from : ℕ) (k : Keyed file source from) (code : List ℕ) (is : code ≡ drop from source) where
     pub stop-there : r .stop ≤ length code
     stop-there =
-        let l : r .stop ≤ codeLength file = stop-inside file (g .module-is .1) OfKind (kinds-closed file (g .module-is .1)) cap s (g .fits .fit) in
-        let x : length code ≡ c .extent = code-long file c (g .module-is .0) code is in
-        let y : c .extent ≡ codeLength file = g .module-is .0 .extent-is in omega arith
+        let l : r .stop ≤ codeLength file = stop-in-code in
+        let x : codeLength file ≤ length (drop from source) = code-long file source from k (g .module-is .1) in
+        let y : length code ≡ length (drop from source) = ap length is in omega arith
 
     module _ (h : r .place < r .stop) where
       here : (i : Instruction) × (m .code (r .place) ≡ some i) × (r .place + size i ≤ r .stop)
@@ -121,9 +124,9 @@ module _ (file : List ℕ) (c : Sections) (cap n : ℕ) (p₀ t₀ f₀ : List �
       said : Says code (r .place) (here .0)
       said =
           let l : r .place + size (here .0) ≤ r .stop = here .2 in
-          let x : length code ≡ c .extent = code-long file c (g .module-is .0) code is in
-          let y : r .stop ≤ length code = stop-there in
-          says-at file c (g .module-is .0) code is (r .place) (here .0) (here .1) (omega arith)
+          let x : r .stop ≤ codeLength file = stop-in-code in
+          let d = place-cut file (g .module-is .1) OfKind (kinds-closed file (g .module-is .1)) cap s (g .fits .fit) in
+          subst (λ z. Says z (r .place) (here .0)) (sym is) (says-at file source from k (g .module-is .1) (r .place) (here .0) d (here .1) (omega arith))
 
       pub stands : (b : ℕ) → b ≡ byte code (r .place) % 64 → Stands code (r .place) b
       stands b e = record { instruction = here .0; says = said; key = e ∙ says-key code (r .place) (here .0) said }

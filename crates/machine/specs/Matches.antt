@@ -5,9 +5,10 @@ use mathlib.Core.Option.{some}
 use mathlib.Core.List.{List, [], _∷_}
 use Rattle.rules.specs.declared.Instruction.{Instruction}
 use Rattle.rules.specs.Bytes.{byte}
-use Rattle.rules.specs.Instructions.{edition3, opcodeOf, instructionOf}
+use Rattle.rules.specs.Instructions.{opcodeOf, instructionOf}
 use Rattle.rules.specs.Tables.{Module}
 use Rattle.rules.specs.Machine.{execIn}
+use Rattle.soundness.specs.Numbering.{keyTable}
 use Rattle.keys.specs.Keys.{Says, Known, Outside, each}
 use Rattle.state.specs.State.{stateOf, Acts, DoesOrLacks}
 use Rattle.state.specs.declared.Registers.{Registers}
@@ -25,23 +26,23 @@ numerics = each (21 ∷ 20 ∷ 18 ∷ 17 ∷ 16 ∷ 15 ∷ 14 ∷ 13 ∷ 12 ∷ 
 
 -- of `single`; the first two arms here are no instruction's keys
 abbrev pub even : List ℕ
-even = 0 ∷ 6 ∷ 41 ∷ 45 ∷ 48 ∷ 50 ∷ 52 ∷ 54 ∷ 56 ∷ 58 ∷ 60 ∷ 62 ∷ []
+even = 0 ∷ 6 ∷ 41 ∷ 45 ∷ 50 ∷ 52 ∷ 54 ∷ 56 ∷ 58 ∷ 60 ∷ 62 ∷ []
 
 abbrev pub odd : List ℕ
-odd = 42 ∷ 47 ∷ 49 ∷ 51 ∷ 53 ∷ 55 ∷ 57 ∷ 59 ∷ 61 ∷ 63 ∷ []
+odd = 42 ∷ 47 ∷ 51 ∷ 53 ∷ 55 ∷ 57 ∷ 59 ∷ 61 ∷ 63 ∷ []
 
 abbrev pub singles : List (List ℕ)
-singles = odd ∷ even ∷ each (46 ∷ 44 ∷ 43 ∷ 31 ∷ 30 ∷ 29 ∷ 28 ∷ 27 ∷ 26 ∷ 25 ∷ 24 ∷ 23 ∷ 22 ∷ 19 ∷ 2 ∷ [])
+singles = odd ∷ even ∷ each (49 ∷ 48 ∷ 46 ∷ 44 ∷ 43 ∷ 31 ∷ 30 ∷ 29 ∷ 28 ∷ 27 ∷ 26 ∷ 25 ∷ 24 ∷ 23 ∷ 22 ∷ 19 ∷ 2 ∷ [])
 
 -- ---- promises
 
 -- i has the key b, with some word behind it
-abbrev pub Keyed : ℕ → Instruction → Type 0
-Keyed b i = (w : ℕ) × (instructionOf (opcodeOf edition3 b) w ≡ some i)
+abbrev pub HasKey : ℕ → Instruction → Type 0
+HasKey b i = (w : ℕ) × (instructionOf (opcodeOf keyTable b) w ≡ some i)
 
 -- the code did what the instruction with key b does, in any module; it has no word and does not touch the frames
 abbrev pub Performs : ℕ → ℕ → Registers → Progress → List ℕ → List ℕ → List ℕ → List ℕ → Type 0
-Performs b cap r a p t p′ t′ = (i : Instruction) → Keyed b i → (m : Module) → Acts cap r a p t p′ t′ (execIn m cap i)
+Performs b cap r a p t p′ t′ = (i : Instruction) → HasKey b i → (m : Module) → Acts cap r a p t p′ t′ (execIn m cap i)
 
 -- an instruction with key b stands at place q of the code, and all of it is there
 pub record Stands (code : List ℕ) (q b : ℕ) : Type 0 where

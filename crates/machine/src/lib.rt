@@ -4,6 +4,7 @@ ghost use Prim.Native.Nat.{_<_};
 ghost use lib.ListN.{length};
 ghost use Rattle.rules.specs.ModuleFile.{read, refusal};
 ghost use Rattle.format.specs.Layout.{Packed};
+ghost use Rattle.keys.specs.Keys.{Keyed};
 ghost use Rattle.state.specs.State.{stateOf};
 ghost use Rattle.machine.specs.Ends.{endWith, endAtStop, Fits, RunsTo};
 use format::Sections;
@@ -42,7 +43,7 @@ fn at_end(r: Registers, rest: u64, f: &[u16]) -> Ended
     ending(FUNCTION_NORETINSTRUCTION, rest, r)
 }
 
-// The run from a state: moment after moment, until it ends or the allowance is used up.
+// The run from a state: moment after moment, until it ends or the allowance is used up. The code is lent in keys.
 pub fn run_from(
     file: &[u8],
     c: Sections,
@@ -52,13 +53,14 @@ pub fn run_from(
     p: &mut [u8],
     t: &mut [u8],
     f: &mut [u16],
+    source: &[u8],
+    from: usize,
 ) -> Ended
     requires { ⌜ Packed (now file) c × (refusal (now file) ≡ 0) ⌝ }
-    requires { ⌜ Fits (read (now file)) cap first (now p) (now t) (now f) ⌝ }
+    requires { ⌜ Keyed (now file) (now source) from × Fits (read (now file)) cap first (now p) (now t) (now f) ⌝ }
     ensures { λ e. ⌜ RunsTo (read (now (file .entry))) cap allowance (stateOf first (now (p .entry)) (now (t .entry)) (now (f .entry))) e (now (p .entry)) (now (t .entry)) (now (f .entry)) (now (p .exit)) (now (t .exit)) (now (f .exit)) ⌝ }
 {
-    let from = c.code;
-    let code = &file[from..];
+    let code = &source[from..];
     let mut r = first;
     let mut rest = allowance;
     loop {

@@ -23,7 +23,7 @@ use Rattle.rules.specs.declared.Num.the-variants.{Int as int, Long as long, Dou
 use Rattle.rules.specs.declared.Operator.{Operator}
 use Rattle.rules.specs.declared.Slot.{Slot}
 use Rattle.rules.specs.declared.Unary.{Unary}
-use Rattle.rules.specs.declared.Unary.the-variants.{Neg, Not, Convert}
+use Rattle.rules.specs.declared.Unary.the-variants.{Neg, Not, Convert, Count}
 use Rattle.soundness.specs.Started.{all-at}
 use Rattle.soundness.specs.Kinds.{Kind, OfKind, Kinded}
 use Rattle.values.specs.Values.{valueOf, kindOfValue, slotOf, resultOf, Computes, Turns, Converts}
@@ -98,10 +98,12 @@ arith-typed o s u x e v y =
 pub data Keeping : Unary → Type 0 where
   negs : Keeping Neg
   nots : Keeping Not
+  counts : (u : Bool) → Keeping (Count u)
 
-one-typed : {o : Unary} → Keeping o → (s : Slot) (x : Computed) → resultOf x ≡ apply1 o s → Typed (s .kind) x
+pub one-typed : {o : Unary} → Keeping o → (s : Slot) (x : Computed) → resultOf x ≡ apply1 o s → Typed (s .kind) x
 one-typed negs s x e v y = only (refuse (class1 Neg) (s .kind) (s .kind)) false 0 (s .kind) _ v (sym (ap resultOf y) ∙ e)
 one-typed nots s x e v y = only (refuse (class1 Not) (s .kind) (s .kind)) false 0 (s .kind) _ v (sym (ap resultOf y) ∙ e)
+one-typed (counts u) s x e v y = only (refuse (class1 (Count u)) (s .kind) (s .kind)) false 0 (s .kind) _ v (sym (ap resultOf y) ∙ e)
 
 same-types : (p t : List ℕ) (i : ℕ) (x : Computed) → Typed (slotAt p t i .kind) x → Types i x t t
 same-types p t i (Yields v) h = types-same p t i (slotOf v) (h v refl)

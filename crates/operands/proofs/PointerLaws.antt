@@ -2,17 +2,18 @@
 use Prim.Native.Nat.{ℕ, _+_, _-_, _≤_, _<_}
 use native.Mathlib.Omega.{arith}
 use mathlib.Core.Path.{_≡_, refl, sym, ap, _∙_, subst}
-use mathlib.Core.Bool.{Bool, true, false, cond}
-use mathlib.Core.Option.{none}
+use mathlib.Core.Bool.{Bool}
 use mathlib.Core.List.{List, [], _∷_}
 use lib.Dec.{eqb}
 use Rattle.rules.specs.Tables.{Module}
 use Rattle.rules.specs.Machine.{Memory, Frame, Next, stops, goto, becomes, bumping, execIn, deref}
-use Rattle.rules.specs.Operations.{Result, yields, raises}
-use Rattle.rules.specs.Stack.{slot, slotAt, slotsOf, put}
+use Rattle.rules.specs.Operations.{Result, yields, raises, apply1}
+use Rattle.rules.specs.Stack.{slotAt, slotsOf, put}
 use Rattle.rules.specs.declared.Instruction.the-variants.{Bump}
 use Rattle.rules.specs.declared.Slot.{Slot}
-use Rattle.values.specs.Values.{slotOf, resultOf, bumpOf, Bumps}
+use Rattle.rules.specs.declared.Unary.the-variants.{Count}
+use Rattle.soundness.specs.Tests.{decide, eqb-same}
+use Rattle.values.specs.Values.{slotOf, resultOf, Turns}
 use Rattle.values.specs.declared.Value.{Value}
 use Rattle.values.specs.declared.Computed.{Computed}
 use Rattle.values.specs.declared.Computed.the-variants.{Yields, Raises}
@@ -26,11 +27,7 @@ use Rattle.state.proofs.Families.{named-31, named-33, named, types-same}
 use Rattle.operands.specs.Operands.{Computable, Executes, Puts, Points, Finds}
 use Rattle.operands.specs.declared.pointers.Pointee.{Pointee}
 use Rattle.operands.specs.declared.pointers.Pointee.the-variants.{At, Nowhere}
-use Rattle.operands.proofs.OperandLaws.{kind-at, only, Typed}
-
-bump-typed : (u : Bool) (s : Slot) (x : Computed) → resultOf x ≡ bumpOf u s → Typed (s .kind) x
-unfolding bumpOf
-bump-typed u s x e v y = only none (eqb (s .kind) 7) 32 (s .kind) _ v (sym (ap resultOf y) ∙ e)
+use Rattle.operands.proofs.OperandLaws.{kind-at, Typed, counts, one-typed}
 
 -- x put to slot i of what is left
 abbrev backOf : Memory → ℕ → List Slot → Frame → List Frame → Result → Next
@@ -38,10 +35,10 @@ backOf M i st f cs (yields []) = stops 0
 backOf M i st f cs (yields (v ∷ vs)) = becomes M (put st i v) f cs
 backOf M i st f cs (raises e) = stops e
 
-back-cond : (M : Memory) (i : ℕ) (st : List Slot) (f : Frame) (cs : List Frame) (b : Bool) (e : ℕ) (v : Slot)
-    → cond b (stops e) (becomes M (put st i v) f cs) ≡ backOf M i st f cs (cond b (raises e) (yields (v ∷ [])))
-back-cond M i st f cs true e v = refl
-back-cond M i st f cs false e v = refl
+-- the same number that edition 1 puts on top
+counted-back : (M : Memory) (u : Bool) (i : ℕ) (v : Slot) (st : List Slot) (f : Frame) (cs : List Frame)
+    → bumping M u i v st f cs ≡ backOf M i st f cs (apply1 (Count u) v)
+counted-back M u i v st f cs = decide (eqb (v .kind) 7) (λ y. rw y refl) (λ y. rw (y, eqb-same (v .kind)) refl)
 
 module _ (cap : ℕ) (r : Registers) (p t f : List ℕ) (k : Ready cap r p t f) (m : Module) (u : Bool) where
   abbrev bumps : ℕ → Slot → Next
@@ -75,17 +72,16 @@ module _ {r : Registers} {p t : List ℕ} (u : Bool) where
     bump-33 is out m cap f k =
         named-33 cap r p t f k m (Bump u) (slotAt p t (r .height - 1)) (r .height - 1) (bumps cap r p t f k m u) (bump-takes cap r p t f k m u has) is out
 
-  pub bump-put : Computable r p t → {i : ℕ} {a : Value} (x : Computed) {q : Progress} {p′ : List ℕ} → Points r p t i a → Bumps u a x → Puts r i (r .height - 1) x q p p′
+  pub bump-put : Computable r p t → {i : ℕ} {a : Value} (x : Computed) {q : Progress} {p′ : List ℕ} → Points r p t i a → Turns (Count u) a x → Puts r i (r .height - 1) x q p p′
       → Executes (Bump u) r q p t p′ t
-  unfolding bumpOf
   bump-put c {i} x {q} {p′} at e put m cap f k =
       let v = slotAt p t i in
-      let is : resultOf x ≡ bumpOf u v = e v (kind-at p t (r .height) i (c .kinds) (let b = at .below in omega arith)) (at .held) in
+      let is : resultOf x ≡ apply1 (Count u) v = e v (kind-at p t (r .height) i (c .kinds) (let b = at .below in omega arith)) (at .held) in
       let w = slotAt p t (r .height - 1) in
       let below : w .payload < r .height - 1 = subst (λ (n : ℕ). n < r .height - 1) (at .slot) (at .below) in
       let names = named cap r p t f k m (Bump u) w (r .height - 1) (bumps cap r p t f k m u) (bump-takes cap r p t f k m u (at .has)) (at .pointer) below in
-      back-is cap r p t f k m u i x q p′ _ (at .has) (at .below) (bump-typed u v x is) put
-      (rw (← at .slot) at names ∙ back-cond _ i _ _ _ (eqb (v .kind) 7) 32 _ ∙ ap (backOf _ i _ _ _) (sym is))
+      back-is cap r p t f k m u i x q p′ _ (at .has) (at .below) (one-typed (counts u) v x is) put
+      (rw (← at .slot) at names ∙ counted-back _ u i v _ _ _ ∙ ap (backOf _ i _ _ _) (sym is))
 
 -- what `find` found
 pub points : {r : Registers} {p t : List ℕ} {x : Pointee} {i : ℕ} {a : Value} → x ≡ At i a → Finds r p t x → Points r p t i a

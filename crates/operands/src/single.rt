@@ -1,7 +1,8 @@
 // Instructions on the top operand. A conversion to its own type keeps the payload as it is, a NaN's bits too.
+ghost use mathlib.Core.Bool.{true, false};
 ghost use Rattle.rules.specs.declared.Instruction.the-variants.{One};
 ghost use Rattle.rules.specs.declared.Num.the-variants.{Int as int, Long as long, Double as double};
-ghost use Rattle.rules.specs.declared.Unary.the-variants.{Neg, Not, Convert};
+ghost use Rattle.rules.specs.declared.Unary.the-variants.{Neg, Not, Convert, Count};
 ghost use Rattle.operands.specs.Operands.{Computable, Executes};
 use crate::exceptions::STACK_EMPTY;
 use crate::results::replaced;
@@ -33,6 +34,32 @@ pub fn not(r: Registers, p: &mut [u8], t: &[u8]) -> Progress
     }
     let a = values::value_of(state::slot_at(p, t, h - 1));
     replaced_like(r, h - 1, values::single::not_value(a), p)
+}
+
+// `inc` of edition 1.
+pub fn inc(r: Registers, p: &mut [u8], t: &[u8]) -> Progress
+    requires { ⌜ Computable r (now p) (now t) ⌝ }
+    ensures { λ a. ⌜ Executes (One (Count true)) r a (now (p .entry)) (now (t .entry)) (now (p .exit)) (now (t .entry)) ⌝ }
+{
+    let h = r.height;
+    if h < r.floor + 1 {
+        return Progress::Stops(STACK_EMPTY);
+    }
+    let a = values::value_of(state::slot_at(p, t, h - 1));
+    replaced_like(r, h - 1, values::single::inc_value(a), p)
+}
+
+// `dec` of edition 1.
+pub fn dec(r: Registers, p: &mut [u8], t: &[u8]) -> Progress
+    requires { ⌜ Computable r (now p) (now t) ⌝ }
+    ensures { λ a. ⌜ Executes (One (Count false)) r a (now (p .entry)) (now (t .entry)) (now (p .exit)) (now (t .entry)) ⌝ }
+{
+    let h = r.height;
+    if h < r.floor + 1 {
+        return Progress::Stops(STACK_EMPTY);
+    }
+    let a = values::value_of(state::slot_at(p, t, h - 1));
+    replaced_like(r, h - 1, values::single::dec_value(a), p)
 }
 
 // `toi`.

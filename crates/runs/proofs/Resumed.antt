@@ -1,24 +1,34 @@
 -- A run that goes on with more words: they begin with the few, so the state is the same; and what the run from it leaves.
 use Prim.Native.Nat.{ℕ, _+_, _*_, _-_, _≤_, _<_}
 use native.Mathlib.Omega.{arith}
-use mathlib.Core.Path.{_≡_, refl, sym, ap, _∙_}
+use mathlib.Core.Path.{_≡_, refl, sym, ap, _∙_, subst}
 use mathlib.Core.Logic.{⊎-elim}
 use mathlib.Core.List.{List}
-use lib.ListN.{length, getD, set}
+use lib.ListN.{length, take, drop, getD, set}
 use lib.Seq.{getD-set-same, getD-set-other}
 use Rattle.rules.specs.declared.RunAnswer.{RunAnswer}
 use Rattle.rules.specs.Tables.{Module}
+use Rattle.rules.specs.ModuleFile.{edition, codeAt, read, refusal}
 use Rattle.rules.specs.Stack.{slotsOf}
 use Rattle.rules.specs.Machine.{State, Outcome, outcome, run}
 use Rattle.rules.specs.Answers.{ran}
+use Rattle.soundness.specs.Translated.{InKeys}
+use Rattle.keys.specs.Keys.{Keyed}
+use Rattle.keys.proofs.Files.{code-part, first-keyed}
 use Rattle.state.specs.State.{depthOf, stateOf, Ready}
 use Rattle.state.specs.declared.Registers.{Registers}
 use Rattle.state.proofs.Stack.{split-lt}
 use Rattle.state.proofs.Locals.{Alike, locals-same, callers-alike, waiting-alike}
 use Rattle.machine.specs.declared.Ended.{Ended}
 use Rattle.machine.specs.Ends.{Fits, RunsTo}
-use Rattle.runs.specs.Runs.{lentOf, slotsIn, ClosedAs, Begins}
+use Rattle.runs.specs.Runs.{lentOf, slotsIn, ClosedAs, Standing, RestIs, Begins}
 use Rattle.runs.proofs.Final.{leaves-of}
+
+-- ---- edition 1's code
+
+-- translated from the file's part from a on
+pub lent-old : (s : List ℕ) → refusal s ≡ 0 → (a : ℕ) → a ≡ codeAt s → edition s ≡ 1 → {own : List ℕ} → InKeys 1 (take (length s - a) (drop a s)) own → Keyed s own 0
+lent-old s readable a at e {own} k = first-keyed s readable a at e own (subst (λ (code : List ℕ). InKeys 1 code own) (code-part s a) k)
 
 -- ---- words copied
 
@@ -63,9 +73,19 @@ module _ {cap : ℕ} {r : Registers} {p t f : List ℕ} (f′ : List ℕ) (k : R
         waiting = rw (b (r .frame + 2) (omega (arith, k .words))) (waiting-alike f′ f (depthOf r) _ below (k .waiting));
       }
 
-pub fits-longer : {m : Module} {cap : ℕ} {r : Registers} {p t f : List ℕ} (f′ : List ℕ) → Fits m cap r p t f → Begins f′ f → length f ≤ length f′ → length f′ ≤ 1536
+fits-longer : {m : Module} {cap : ℕ} {r : Registers} {p t f : List ℕ} (f′ : List ℕ) → Fits m cap r p t f → Begins f′ f → length f ≤ length f′ → length f′ ≤ 1536
     → Fits m cap r p t f′
 fits-longer f′ k b longer most = record { ready = ready-longer f′ (k .ready) b longer most; fit = rw (state-longer f′ (k .ready) b) (k .fit) }
+
+-- so the rest of the run is the same
+pub rest-longer : {s : List ℕ} {cap a : ℕ} {e : Ended} {p t f : List ℕ} (f′ : List ℕ) {p′ t′ : List ℕ} {x : RunAnswer} → Standing s cap e a p t f → Begins f′ f
+    → RestIs s cap e a p t f′ p′ t′ x → RestIs s cap e a p t f p′ t′ x
+rest-longer {s} {cap} {a} {e} {p} {t} f′ k b left =
+    left ∙ ap (λ (st : State). ran (run (read s) cap (e .rest) (a - e .rest) st) (lentOf p t)) (state-longer f′ (k .fits .ready) b)
+
+pub stands-longer : {s : List ℕ} {cap a : ℕ} {e : Ended} {p t f : List ℕ} (f′ : List ℕ) → Standing s cap e a p t f → Begins f′ f → length f′ ≡ 1536 → Standing s cap e a p t f′
+stands-longer f′ k b all =
+    record { slots = k .slots; left = k .left; fits = fits-longer f′ (k .fits) b (omega (arith, k .fits .ready .most)) (omega arith) }
 
 -- ---- what a run leaves: n steps from these registers and bytes, of which it ended as e
 
@@ -87,18 +107,7 @@ module _ (m : Module) (cap n : ℕ) (r : Registers) (p t f : List ℕ) (e : Ende
     closed-over k j z all =
         back _ _ (ap (λ (i : ℕ). outcome (e .number) i (record { stack = slotsOf p₂ t₂ (e .last .height) })) z ∙ d .exact all k)
 
-    -- the same of a state in fewer words
-    pub closed-longer : (w : List ℕ) → Ready cap r p t w → Begins f w → (a : ℕ) → n ≤ a → 1536 ≤ length f
-        → ClosedAs (outcome (e .number) (a - e .rest) (record { stack = slotsOf p₂ t₂ (e .last .height) })) p₂ t₂ p′ t′ x
-        → ClosedAs (run m cap n (a - n) (stateOf r p t w)) p t p′ t′ x
-    closed-longer w k b a h all left =
-        closed-over (a - n) (a - e .rest) (omega (arith, d .left)) (λ q. all) left
-        ∙ ap (λ (st : State). ran (run m cap n (a - n) st) (lentOf p t)) (state-longer f k b)
-
     -- the run has gone on
-    pub closed-deeper : e .number ≡ 20 → ClosedAs (run m cap (e .rest) (n - e .rest) (stateOf (e .last) p₂ t₂ f₂)) p₂ t₂ p′ t′ x
-        → ClosedAs (run m cap n 0 (stateOf r p t f)) p t p′ t′ x
-    closed-deeper full =
-        back _ _
-        (let z : n - e .rest ≡ 0 + (n - e .rest) = omega arith in
-        ap (λ (j : ℕ). run m cap (e .rest) j (stateOf (e .last) p₂ t₂ f₂)) z ∙ d .resumes full .same 0)
+    pub closed-deeper : (k j : ℕ) → j ≡ k + (n - e .rest) → e .number ≡ 20 → ClosedAs (run m cap (e .rest) j (stateOf (e .last) p₂ t₂ f₂)) p₂ t₂ p′ t′ x
+        → ClosedAs (run m cap n k (stateOf r p t f)) p t p′ t′ x
+    closed-deeper k j z full = back _ _ (ap (λ (i : ℕ). run m cap (e .rest) i (stateOf (e .last) p₂ t₂ f₂)) z ∙ d .resumes full .same k)

@@ -12,11 +12,13 @@ use Rattle.rules.specs.Instructions.{Ty, num, ptr, numKind}
 use Rattle.rules.specs.Tables.{bodyOf, functionAt, paramsFrom}
 use Rattle.rules.specs.ModuleFile.{read, functionsIn}
 use Rattle.rules.specs.Stack.{Lent, capacity, slotsOf}
-use Rattle.rules.specs.Machine.{Outcome}
+use Rattle.rules.specs.Machine.{Outcome, run}
 use Rattle.rules.specs.Typing.{startOf, endOf}
 use Rattle.rules.specs.Answers.{fits, Ran, ran, runModule}
 use Rattle.format.specs.declared.Sections.{Sections}
-use Rattle.state.specs.State.{bodyIn}
+use Rattle.state.specs.State.{bodyIn, stateOf}
+use Rattle.machine.specs.declared.Ended.{Ended}
+use Rattle.machine.specs.Ends.{Fits}
 use Rattle.runs.specs.declared.BodyRecord.{BodyRecord}
 use Rattle.runs.specs.declared.FoundBody.{FoundBody}
 use Rattle.runs.specs.declared.FoundBody.the-variants.{Record, Nothing}
@@ -41,6 +43,18 @@ ClosedAs o p t p′ t′ r = _≡_ {A = Ran} (record { answer = r; stack = lentO
 abbrev pub RunIs : List ℕ → ℕ → List ℕ → List ℕ → ℕ → List ℕ → List ℕ → List ℕ → List ℕ → RunAnswer → Type 0
 RunIs s f a b allowance p t p′ t′ r =
     _≡_ {A = Ran} (record { answer = r; stack = lentOf p′ t′ }) (runModule s f (lentOf a b) allowance (lentOf p t))
+
+-- ---- a run that is under way
+
+-- on this allowance, where it stands as e says, with these words of frames
+pub record Standing (s : List ℕ) (cap : ℕ) (e : Ended) (allowance : ℕ) (p t f : List ℕ) : Type 0 where
+  pub slots : cap ≡ slotsIn p t
+  pub left : e .rest ≤ allowance
+  pub fits : Fits (read s) cap (e .last) p t f
+
+-- the answer and the bytes after it are those of its rest
+abbrev pub RestIs : List ℕ → ℕ → Ended → ℕ → List ℕ → List ℕ → List ℕ → List ℕ → List ℕ → RunAnswer → Type 0
+RestIs s cap e allowance p t f p′ t′ r = ClosedAs (run (read s) cap (e .rest) (allowance - e .rest) (stateOf (e .last) p t f)) p t p′ t′ r
 
 -- ---- arguments
 

@@ -4,14 +4,13 @@ ghost use Prim.Native.Nat.{_+_, _-_, _*_, _<_, _≤_, min};
 ghost use lib.ListN.{length, replicate};
 ghost use Rattle.rules.specs.Answers as Answers;
 ghost use Rattle.rules.specs.Instructions.{tyOf};
-ghost use Rattle.rules.specs.Machine.{outcome, run as runOf};
+ghost use Rattle.rules.specs.Machine.{outcome};
 ghost use Rattle.rules.specs.Tables.{functionAt, paramsFrom};
-ghost use Rattle.rules.specs.ModuleFile.{read, refusal, functionsIn};
+ghost use Rattle.rules.specs.ModuleFile.{edition, refusal, functionsIn};
 ghost use Rattle.rules.specs.Stack.{slotsOf};
 ghost use Rattle.format.specs.Layout.{Packed};
-ghost use Rattle.state.specs.State.{stateOf};
-ghost use Rattle.machine.specs.Ends.{Fits};
-ghost use Rattle.runs.specs.Runs.{lentOf, slotsIn, clearedTo, ClosedAs, RunIs, suits, Copied, FoundIs, Begins};
+ghost use Rattle.keys.specs.Keys.{Keyed};
+ghost use Rattle.runs.specs.Runs.{lentOf, slotsIn, clearedTo, ClosedAs, RunIs, Standing, RestIs, suits, Copied, FoundIs, Begins};
 use format::Sections;
 use machine::Ended;
 use reader::Opened;
@@ -19,6 +18,7 @@ use reader::entries::FoundFunction;
 use rules::RunAnswer;
 use rules::Slot;
 use rules::Tally;
+use state::Registers;
 
 const ENTRY: u32 = 0xffff_ffff;
 
@@ -199,7 +199,50 @@ fn copy_words(from: &[u16], to: &mut [u16])
     }
 }
 
-// The same run with words for all 64 frames, where a call found none left of the few that were lent.
+// The rest of a run, with words for all 64 frames, on code that is lent in keys.
+fn finish(
+    file: &[u8],
+    c: Sections,
+    cap: usize,
+    e: Ended,
+    allowance: u64,
+    p: &mut [u8],
+    t: &mut [u8],
+    f: &mut [u16],
+    source: &[u8],
+    from: usize,
+) -> RunAnswer
+    requires { ⌜ Packed (now file) c × (refusal (now file) ≡ 0) × Keyed (now file) (now source) from ⌝ }
+    requires { ⌜ Standing (now file) cap e allowance (now p) (now t) (now f) × (length (now f) ≡ 1536) ⌝ }
+    ensures { λ r. ⌜ RestIs (now (file .entry)) cap e allowance (now (p .entry)) (now (t .entry)) (now (f .entry)) (now (p .exit)) (now (t .exit)) r ⌝ }
+{
+    let last = e.last;
+    let g = machine::run_from(file, c, cap, last, e.rest, p, t, f, source, from);
+    close(g.number, allowance - g.rest, g.last.height, cap, p, t)
+}
+
+// The same of edition 1, whose code is put in keys first.
+fn finish_old(
+    file: &[u8],
+    c: Sections,
+    cap: usize,
+    e: Ended,
+    allowance: u64,
+    p: &mut [u8],
+    t: &mut [u8],
+    f: &mut [u16],
+) -> RunAnswer
+    requires { ⌜ Packed (now file) c × (refusal (now file) ≡ 0) × (edition (now file) ≡ 1) ⌝ }
+    requires { ⌜ Standing (now file) cap e allowance (now p) (now t) (now f) × (length (now f) ≡ 1536) ⌝ }
+    ensures { λ r. ⌜ RestIs (now (file .entry)) cap e allowance (now (p .entry)) (now (t .entry)) (now (f .entry)) (now (p .exit)) (now (t .exit)) r ⌝ }
+{
+    let mut own = [0u8; 16384];
+    let at = c.code;
+    keys::edition1::translate(&file[at..], &mut own);
+    finish(file, c, cap, e, allowance, p, t, f, &own, 0)
+}
+
+// The rest of a run where a call found none left of the few words that were lent.
 fn deeper(
     file: &[u8],
     c: Sections,
@@ -211,21 +254,68 @@ fn deeper(
     few: &[u16],
 ) -> RunAnswer
     requires { ⌜ Packed (now file) c × (refusal (now file) ≡ 0) ⌝ }
-    requires { ⌜ (cap ≡ slotsIn (now p) (now t)) × (e .rest ≤ allowance) × Fits (read (now file)) cap (e .last) (now p) (now t) (now few) ⌝ }
-    ensures { λ r. ⌜ ClosedAs (runOf (read (now (file .entry))) cap (e .rest) (allowance - e .rest) (stateOf (e .last) (now (p .entry)) (now (t .entry)) (now (few .entry)))) (now (p .entry)) (now (t .entry)) (now (p .exit)) (now (t .exit)) r ⌝ }
+    requires { ⌜ Standing (now file) cap e allowance (now p) (now t) (now few) ⌝ }
+    ensures { λ r. ⌜ RestIs (now (file .entry)) cap e allowance (now (p .entry)) (now (t .entry)) (now (few .entry)) (now (p .exit)) (now (t .exit)) r ⌝ }
 {
     let mut f = [0u16; 1536];
     copy_words(few, &mut f);
+    let edition = format::word(file, 0);
+    if edition == 1 {
+        return finish_old(file, c, cap, e, allowance, p, t, &mut f);
+    }
+    let from = c.code;
+    finish(file, c, cap, e, allowance, p, t, &mut f, file, from)
+}
+
+// The rest of a run of short code of edition 1, with the few words as long as they last.
+fn run_old(
+    file: &[u8],
+    c: Sections,
+    cap: usize,
+    e: Ended,
+    allowance: u64,
+    p: &mut [u8],
+    t: &mut [u8],
+    few: &mut [u16],
+) -> RunAnswer
+    requires { ⌜ Packed (now file) c × (refusal (now file) ≡ 0) × (edition (now file) ≡ 1) × (c .extent ≤ 512) ⌝ }
+    requires { ⌜ Standing (now file) cap e allowance (now p) (now t) (now few) ⌝ }
+    ensures { λ r. ⌜ RestIs (now (file .entry)) cap e allowance (now (p .entry)) (now (t .entry)) (now (few .entry)) (now (p .exit)) (now (t .exit)) r ⌝ }
+{
+    let mut own = [0u8; 512];
+    let at = c.code;
+    keys::edition1::translate(&file[at..], &mut own);
     let last = e.last;
-    let ended = machine::run_from(file, c, cap, last, e.rest, p, t, &mut f);
-    close(
-        ended.number,
-        allowance - ended.rest,
-        ended.last.height,
-        cap,
-        p,
-        t,
-    )
+    let g = machine::run_from(file, c, cap, last, e.rest, p, t, few, &own, 0);
+    if g.number == 20 {
+        return deeper(file, c, cap, g, allowance, p, t, few);
+    }
+    close(g.number, allowance - g.rest, g.last.height, cap, p, t)
+}
+
+// The rest of a run that is not edition 3's with few words. It is a function of its own for the compiler's sake: so the usual run
+// pays nothing for it.
+fn run_rest(
+    file: &[u8],
+    c: Sections,
+    cap: usize,
+    e: Ended,
+    allowance: u64,
+    p: &mut [u8],
+    t: &mut [u8],
+    few: &mut [u16],
+) -> RunAnswer
+    requires { ⌜ Packed (now file) c × (refusal (now file) ≡ 0) ⌝ }
+    requires { ⌜ Standing (now file) cap e allowance (now p) (now t) (now few) ⌝ }
+    ensures { λ r. ⌜ RestIs (now (file .entry)) cap e allowance (now (p .entry)) (now (t .entry)) (now (few .entry)) (now (p .exit)) (now (t .exit)) r ⌝ }
+{
+    let edition = format::word(file, 0);
+    if edition == 1 {
+        if c.extent <= 512 {
+            return run_old(file, c, cap, e, allowance, p, t, few);
+        }
+    }
+    deeper(file, c, cap, e, allowance, p, t, few)
 }
 
 // The run of a body of a module that can be read.
@@ -258,9 +348,19 @@ fn run_opened(
     copy_arguments(args, kinds, n, p, t);
     let mut f = [0u16; 96];
     let first = control::calls::first_frame(b.body, b.start, b.end, n, &mut f);
-    let e = machine::run_from(file, c, cap, first, allowance, p, t, &mut f);
+    let edition = format::word(file, 0);
+    if edition == 1 {
+        let e = Ended {
+            number: 0,
+            rest: allowance,
+            last: first,
+        };
+        return run_rest(file, c, cap, e, allowance, p, t, &mut f);
+    }
+    let from = c.code;
+    let e = machine::run_from(file, c, cap, first, allowance, p, t, &mut f, file, from);
     if e.number == 20 {
-        return deeper(file, c, cap, e, allowance, p, t, &f);
+        return run_rest(file, c, cap, e, allowance, p, t, &mut f);
     }
     close(e.number, allowance - e.rest, e.last.height, cap, p, t)
 }

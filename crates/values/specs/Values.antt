@@ -1,13 +1,12 @@
 -- Values, and what operations give for them, in the rules' terms.
 use mathlib.Core.Path.{_≡_}
-use mathlib.Core.Bool.{Bool, cond}
+use mathlib.Core.Bool.{cond}
 use mathlib.Core.List.{[], _∷_}
 use Prim.Native.Nat.{ℕ}
 use lib.Dec.{eqb}
 use Rattle.rules.specs.Doubles.{decodeOf, encodeOf}
 use Rattle.rules.specs.Instructions.{numKind}
-use Rattle.rules.specs.Numbers.{pointer-invalid-for-pointer}
-use Rattle.rules.specs.Operations.{low, bumped, apply1, apply2, Result, yields, raises}
+use Rattle.rules.specs.Operations.{low, apply1, apply2, Result, yields, raises}
 use Rattle.rules.specs.Stack.{slot}
 use Rattle.rules.specs.declared.Binary.{Binary}
 use Rattle.rules.specs.declared.Num.{Num}
@@ -63,10 +62,3 @@ Turns o a r = (s : Slot) → Kind (s .kind) → a ≡ valueOf s → resultOf r �
 -- the same of a conversion to the type n, which a slot does not have
 abbrev pub Converts : Num → Value → Computed → Type 0
 Converts n a r = (s : Slot) → Kind (s .kind) → (s .kind ≡ numKind n → ⊥) → a ≡ valueOf s → resultOf r ≡ apply1 (Convert n) s
-
--- `inc` (u) or `dec` of what a slot holds: a pointer there is refused
-unfoldable pub bumpOf : Bool → Slot → Result
-bumpOf u s = cond (eqb (s .kind) 7) (raises pointer-invalid-for-pointer) (gives (s .kind) (bumped u (s .kind) (s .payload)))
-
-abbrev pub Bumps : Bool → Value → Computed → Type 0
-Bumps u a r = (s : Slot) → Kind (s .kind) → a ≡ valueOf s → resultOf r ≡ bumpOf u s

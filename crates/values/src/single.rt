@@ -1,8 +1,8 @@
 // `neg`, `not`, conversions, and a number one up or down.
 ghost use mathlib.Core.Bool.{true, false};
 ghost use Rattle.rules.specs.declared.Num.the-variants.{Int as int, Long as long, Double as double};
-ghost use Rattle.rules.specs.declared.Unary.the-variants.{Neg, Not, Convert};
-ghost use Rattle.values.specs.Values.{Turns, Converts, Bumps};
+ghost use Rattle.rules.specs.declared.Unary.the-variants.{Neg, Not, Convert, Count};
+ghost use Rattle.values.specs.Values.{Turns, Converts};
 use crate::Computed;
 use crate::DOUBLE_INVALIDFORDOUBLE;
 use crate::POINTER_INVALIDFORPOINTER;
@@ -68,9 +68,9 @@ pub fn tod_value(a: Value) -> Computed
     }
 }
 
-// `inc`, of the number that a pointer names.
+// `inc`, of the top value or of the number that a pointer names.
 pub fn inc_value(a: Value) -> Computed
-    ensures { λ r. ⌜ Bumps true a r ⌝ }
+    ensures { λ r. ⌜ Turns (Count true) a r ⌝ }
 {
     match a {
         Value::Int(x) => Computed::Yields(Value::Int(words::add32(x, 1))),
@@ -82,7 +82,7 @@ pub fn inc_value(a: Value) -> Computed
 
 // `dec`.
 pub fn dec_value(a: Value) -> Computed
-    ensures { λ r. ⌜ Bumps false a r ⌝ }
+    ensures { λ r. ⌜ Turns (Count false) a r ⌝ }
 {
     match a {
         Value::Int(x) => Computed::Yields(Value::Int(words::sub32(x, 1))),

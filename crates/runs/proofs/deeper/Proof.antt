@@ -1,9 +1,8 @@
 -- The proof of `runs::deeper`.
-use native.Mathlib.Omega.{arith}
-use mathlib.Core.Path.{_≡_}
-use lib.ListN.{length}
+use mathlib.Core.Path.{sym, _∙_}
+use Rattle.keys.proofs.Files.{third-keyed}
+use Rattle.runs.proofs.Resumed.{stands-longer, rest-longer}
 use borrow.Author.Needs.{needs}
-use Rattle.runs.proofs.Resumed.{fits-longer, still, closed-longer}
 use Rattle.runs.proofs.deeper.Statement.{statement}
 use Rattle.runs.proofs.deeper.Tie as tie
 
@@ -13,24 +12,19 @@ slice-aggregate-copy-words c = search needs
 copy-words-requires : tie.Need-copy-words-requires
 copy-words-requires c κs = search needs
 
-slice-aggregate-run-from : tie.Need-slice-aggregate-run-from
-slice-aggregate-run-from c = search needs
+word-requires : tie.Need-word-requires
+word-requires c κs = search needs
 
-run-from-requires : tie.Need-run-from-requires
-run-from-requires c κs =
-    let at-copy-words = c .before .before .before .before .before in
+slice-aggregate-finish-old : tie.Need-slice-aggregate-finish-old
+slice-aggregate-finish-old c = search needs
+
+finish-old-requires : tie.Need-finish-old-requires
+finish-old-requires c κs =
+    let at-if1 = c .before .before .before in
+    let at-word = at-if1 .before in
+    let at-copy-words = at-word .before .before in
     let start = at-copy-words .before .before .before .before .before .before in
-    let e : length (at-copy-words .copy-words .last .1 .0) ≡ 1536 = at-copy-words .copy-words .kept .1 .0 in
-    ((start .pre .0 .0, start .pre .0 .1), fits-longer _ (start .pre .1 .2) (at-copy-words .copy-words .ensures) (omega (arith, e, start .pre .1 .2 .ready .most)) (omega (arith, e)))
-
-sub-close : tie.Need-sub-close
-sub-close c = search needs
-
-close-requires : tie.Need-close-requires
-close-requires c κs =
-    let at-run-from = c .before .before .before .before .before .before .before .before in
-    let start = at-run-from .before .before .before .before .before .before .before .before .before .before .before .before in
-    (still _ _ _ _ _ _ _ _ _ _ _ (start .pre .1 .0) (at-run-from .run-from .ensures), at-run-from .run-from .ensures .high)
+    ((start .pre .0 .0, start .pre .0 .1, sym (at-word .word .ensures .0) ∙ at-if1 .if1 .taken), (stands-longer _ (start .pre .1) (at-copy-words .copy-words .ensures) (at-copy-words .copy-words .kept .1 .0), at-copy-words .copy-words .kept .1 .0))
 
 same-length : tie.Need-same-length
 same-length c = search needs
@@ -40,12 +34,34 @@ same-length-2 c = search needs
 
 returns : tie.Need-returns
 returns c =
-    let at-close = c .before .before .before .before in
-    let at-run-from = at-close .before .before .before .before .before .before .before .before .before in
-    let at-copy-words = at-run-from .before .before .before .before .before .before in
+    let at-finish-old = c .before .before .before .before .before in
+    let at-copy-words = at-finish-old .before .before .before .before .before .before .before in
     let start = at-copy-words .before .before .before .before .before .before in
-    let e : length (at-copy-words .copy-words .last .1 .0) ≡ 1536 = at-copy-words .copy-words .kept .1 .0 in
-    closed-longer _ _ _ _ _ _ _ _ _ _ _ (start .pre .1 .0) (at-run-from .run-from .ensures) _ _ _ _ (start .pre .1 .2 .ready) (at-copy-words .copy-words .ensures) _ (start .pre .1 .1) (omega (arith, e)) (at-close .close .ensures)
+    rest-longer (at-copy-words .copy-words .last .1 .0) (start .pre .1) (at-copy-words .copy-words .ensures) (at-finish-old .finish-old .ensures)
+
+slice-aggregate-finish : tie.Need-slice-aggregate-finish
+slice-aggregate-finish c = search needs
+
+finish-requires : tie.Need-finish-requires
+finish-requires c κs =
+    let at-if1 = c .before .before .before in
+    let at-word = at-if1 .before in
+    let at-copy-words = at-word .before .before in
+    let start = at-copy-words .before .before .before .before .before .before in
+    ((start .pre .0 .0, start .pre .0 .1, third-keyed _ (start .pre .0 .1) _ (start .pre .0 .0 .code-is) (λ q. at-if1 .if1 .left (at-word .word .ensures .0 ∙ q))), (stands-longer _ (start .pre .1) (at-copy-words .copy-words .ensures) (at-copy-words .copy-words .kept .1 .0), at-copy-words .copy-words .kept .1 .0))
+
+same-length-3 : tie.Need-same-length-3
+same-length-3 c = search needs
+
+same-length-4 : tie.Need-same-length-4
+same-length-4 c = search needs
+
+returns-2 : tie.Need-returns-2
+returns-2 c =
+    let at-finish = c .before .before .before .before .before in
+    let at-copy-words = at-finish .before .before .before .before .before .before .before in
+    let start = at-copy-words .before .before .before .before .before .before in
+    rest-longer (at-copy-words .copy-words .last .1 .0) (start .pre .1) (at-copy-words .copy-words .ensures) (at-finish .finish .ensures)
 
 pub deeper-spec : {M : Type 1} → statement M
 deeper-spec =
@@ -53,10 +69,14 @@ deeper-spec =
     (tie.spec
     slice-aggregate-copy-words
     copy-words-requires
-    slice-aggregate-run-from
-    run-from-requires
-    sub-close
-    close-requires
+    word-requires
+    slice-aggregate-finish-old
+    finish-old-requires
     same-length
     same-length-2
-    returns)
+    returns
+    slice-aggregate-finish
+    finish-requires
+    same-length-3
+    same-length-4
+    returns-2)

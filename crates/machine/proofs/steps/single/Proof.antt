@@ -2,7 +2,7 @@
 use mathlib.Core.Path.{refl}
 use mathlib.Core.Bool.{true, false}
 use Rattle.rules.specs.declared.Instruction.the-variants.{One, Two}
-use Rattle.rules.specs.declared.Unary.the-variants.{Pop, Neg, Not, Convert}
+use Rattle.rules.specs.declared.Unary.the-variants.{Pop, Neg, Not, Convert, Count}
 use Rattle.rules.specs.declared.Binary.the-variants.{Arith, Cmp}
 use Rattle.rules.specs.declared.Operator.the-variants.{And, Or, Xor, Shl, Sal, Shr, Sar}
 use Rattle.rules.specs.declared.Num.the-variants.{Int, Long, Double}
@@ -57,6 +57,12 @@ tol-requires c κs = (c .before .before .before .before .before .pre) .1
 
 tod-requires : tie.Need-tod-requires
 tod-requires c κs = (c .before .before .before .before .before .pre) .1
+
+inc-requires : tie.Need-inc-requires
+inc-requires c κs = (c .before .before .before .before .before .pre) .1
+
+dec-requires : tie.Need-dec-requires
+dec-requires c κs = (c .before .before .before .before .before .pre) .1
 
 returns : tie.Need-returns
 returns c = λ cap. alone _ 2 cap _ _ _ _ _ _ (One Pop) ((c .before .match) .keys1) (λ w. refl) (λ m. (c .pop) .ensures m cap _ _)
@@ -187,14 +193,32 @@ same-length-28 c = search needs
 returns-15 : tie.Need-returns-15
 returns-15 c = λ cap. alone _ 46 cap _ _ _ _ _ _ (One (Convert Double)) ((c .before .before .before .before .before .before .before .match) .keys15) (λ w. refl) (λ m. (c .before .before .before .before .tod) .ensures m cap)
 
+same-length-29 : tie.Need-same-length-29
+same-length-29 c = search needs
+
+same-length-30 : tie.Need-same-length-30
+same-length-30 c = search needs
+
 returns-16 : tie.Need-returns-16
-returns-16 c = unknown _ ((c .before .before .before .pre) .0 .0) even refl ((c .match) .keys16)
+returns-16 c = λ cap. alone _ 48 cap _ _ _ _ _ _ (One (Count true)) ((c .before .before .before .before .before .match) .keys16) (λ w. refl) (λ m. (c .before .before .inc) .ensures m cap)
+
+same-length-31 : tie.Need-same-length-31
+same-length-31 c = search needs
+
+same-length-32 : tie.Need-same-length-32
+same-length-32 c = search needs
 
 returns-17 : tie.Need-returns-17
-returns-17 c = unknown _ ((c .before .before .before .pre) .0 .0) odd refl ((c .match) .keys17)
+returns-17 c = λ cap. alone _ 49 cap _ _ _ _ _ _ (One (Count false)) ((c .before .before .before .before .before .match) .keys17) (λ w. refl) (λ m. (c .before .before .dec) .ensures m cap)
 
 returns-18 : tie.Need-returns-18
-returns-18 c = no-other _ ((c .before .before .before .pre) .0) ((c .match) .rest)
+returns-18 c = unknown _ ((c .before .before .before .pre) .0 .0) even refl ((c .match) .keys18)
+
+returns-19 : tie.Need-returns-19
+returns-19 c = unknown _ ((c .before .before .before .pre) .0 .0) odd refl ((c .match) .keys19)
+
+returns-20 : tie.Need-returns-20
+returns-20 c = no-other _ ((c .before .before .before .pre) .0) ((c .match) .rest)
 
 pub single-spec : {M : Type 1} → statement M
 single-spec =
@@ -215,6 +239,8 @@ single-spec =
     toi-requires
     tol-requires
     tod-requires
+    inc-requires
+    dec-requires
     returns
     same-length
     same-length-2
@@ -258,6 +284,12 @@ single-spec =
     same-length-27
     same-length-28
     returns-15
+    same-length-29
+    same-length-30
     returns-16
+    same-length-31
+    same-length-32
     returns-17
-    returns-18)
+    returns-18
+    returns-19
+    returns-20)
