@@ -2,6 +2,7 @@
 pub mod Growth
 pub mod Arrivals
 pub mod Steps
+pub mod Lent
 pub mod Turns
 pub mod Walking
 pub mod Draining

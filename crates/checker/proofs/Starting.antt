@@ -19,7 +19,6 @@ use Rattle.soundness.specs.Readable.{Has, orderly}
 use Rattle.soundness.specs.Cutting.{function-count, few-functions, good-file}
 use Rattle.records.specs.Record.{listsOf}
 use Rattle.checker.specs.declared.walk.Turn.the-variants.{Breaks, Ends, Goes as On}
-use Rattle.checker.specs.declared.bodies.Verdict.{Verdict}
 use Rattle.checker.specs.declared.bodies.Verdict.the-variants.{Typed as AllTyped, Untyped}
 use Rattle.nodes.specs.Nodes.{Tabled, markOf, countOf, doneOf, unseen, Fits, Seeded}
 use Rattle.nodes.proofs.Bounds.{is-entry, is-function}
@@ -112,9 +111,17 @@ pub record Judging (s table room₀ marks₀ : List ℕ) (i : ℕ) (room marks :
   pub quiet : Quiet marks
   pub started : (b : Body) → Before i b → Started s table room marks b
 
+-- the body of this owner is to be checked, and function i after it: what its check leaves
+pub record AtBody (s : List ℕ) (c : Sections) (table room₀ marks₀ : List ℕ) (owner i : ℕ) (room marks : List ℕ) : Type 0 where
+  pub few : i ≤ functions s
+  pub works : Working s c table owner room marks
+  pub grows : Grows (labels s) room₀ marks₀ room marks
+  pub settles : (room′ marks′ : List ℕ) → Left s table (bodyOf owner) room marks room′ marks′ true (Settled s table room′ marks′ (bodyOf owner)) → Judging s table room₀ marks₀ i room′ marks′
+  pub refutes : (room′ marks′ : List ℕ) → Left s table (bodyOf owner) room marks room′ marks′ false (Settled s table room′ marks′ (bodyOf owner)) → VerdictIs s table room₀ marks₀ room′ marks′ (Untyped owner)
+
 module _ (s : List ℕ) (c : Sections) (table room₀ marks₀ : List ℕ) (packed : Packed s c) (e : refusal s ≡ 0) (t : Tabled s table) (fits : Fits (labels s) room₀ marks₀) where
   -- with no mark
-  pub entry-works : ((k : ℕ) → getD marks₀ k 0 ≡ 0) → Working s c table 0xffffffff room₀ marks₀
+  entry-works : ((k : ℕ) → getD marks₀ k 0 ≡ 0) → Working s c table 0xffffffff room₀ marks₀
   entry-works h =
       record {
         packed = packed;
@@ -137,15 +144,15 @@ module _ (s : List ℕ) (c : Sections) (table room₀ marks₀ : List ℕ) (pack
       }
 
   module _ (room marks : List ℕ) where
-    pub entry-untyped : Left s table (bodyOf 0xffffffff) room₀ marks₀ room marks false (Settled s table room marks (bodyOf 0xffffffff)) → VerdictIs s table room₀ marks₀ room marks (Untyped 0xffffffff)
+    entry-untyped : Left s table (bodyOf 0xffffffff) room₀ marks₀ room marks false (Settled s table room marks (bodyOf 0xffffffff)) → VerdictIs s table room₀ marks₀ room marks (Untyped 0xffffffff)
     entry-untyped x =
         record { grows = x .grows; decides = (first-entry s (untyped s entry (x .refuted refl)), refl, omega arith) }
 
-    pub entry-settled : Left s table (bodyOf 0xffffffff) room₀ marks₀ room marks true (Settled s table room marks (bodyOf 0xffffffff)) → Judging s table room marks 0 room marks
+    entry-settled : Left s table (bodyOf 0xffffffff) room₀ marks₀ room marks true (Settled s table room marks (bodyOf 0xffffffff)) → Judging s table room₀ marks₀ 0 room marks
     entry-settled x =
         record {
           few = omega arith;
-          grows = grows-refl (labels s) room marks;
+          grows = x .grows;
           sound = x .sound;
           quiet = x .done refl .1;
           started = before;
@@ -163,7 +170,7 @@ module _ (s : List ℕ) (c : Sections) (table room₀ marks₀ : List ℕ) (pack
       function-is : bodyOf i ≡ fn i
       function-is = is-function i not-entry
 
-      pub function-works : Working s c table i room marks
+      function-works : Working s c table i room marks
       function-works =
           record {
             packed = packed;
@@ -175,7 +182,7 @@ module _ (s : List ℕ) (c : Sections) (table room₀ marks₀ : List ℕ) (pack
           }
 
       module _ (room′ marks′ : List ℕ) where
-        pub function-settled : Left s table (bodyOf i) room marks room′ marks′ true (Settled s table room′ marks′ (bodyOf i)) → Judging s table room₀ marks₀ (i + 1) room′ marks′
+        function-settled : Left s table (bodyOf i) room marks room′ marks′ true (Settled s table room′ marks′ (bodyOf i)) → Judging s table room₀ marks₀ (i + 1) room′ marks′
         function-settled x =
             record {
               few = omega arith;
@@ -195,7 +202,7 @@ module _ (s : List ℕ) (c : Sections) (table room₀ marks₀ : List ℕ) (pack
                 subst (Started s table room′ marks′) (function-is ∙ ap fn (sym v)) (x .done refl .0))
 
         -- every body before it has a typing
-        pub function-untyped : Left s table (bodyOf i) room marks room′ marks′ false (Settled s table room′ marks′ (bodyOf i)) → VerdictIs s table room₀ marks₀ room′ marks′ (Untyped i)
+        function-untyped : Left s table (bodyOf i) room marks room′ marks′ false (Settled s table room′ marks′ (bodyOf i)) → VerdictIs s table room₀ marks₀ room′ marks′ (Untyped i)
         function-untyped x =
             record {
               grows = grows-trans (labels s) room₀ marks₀ room marks room′ marks′ (d .grows) (x .grows);
@@ -216,7 +223,17 @@ module _ (s : List ℕ) (c : Sections) (table room₀ marks₀ : List ℕ) (pack
         before entry h = tt
         before (fn k) h = omega (arith, function-count s e)
 
--- the verdict on what was left before
-pub verdict-after : (s table room marks room₁ marks₁ room₂ marks₂ : List ℕ) (v : Verdict) → Grows (labels s) room marks room₁ marks₁ → VerdictIs s table room₁ marks₁ room₂ marks₂ v
-    → VerdictIs s table room marks room₂ marks₂ v
-verdict-after s table room marks room₁ marks₁ room₂ marks₂ v g x = record { grows = grows-trans (labels s) room marks room₁ marks₁ room₂ marks₂ g (x .grows); decides = x .decides }
+  -- ---- one after the other
+
+  -- all marks are blank
+  pub entry-first : ((k : ℕ) → getD marks₀ k 0 ≡ 0) → AtBody s c table room₀ marks₀ 0xffffffff 0 room₀ marks₀
+  entry-first h = record { few = omega arith; works = entry-works h; grows = grows-refl (labels s) room₀ marks₀; settles = entry-settled; refutes = entry-untyped }
+
+  pub function-next : (i : ℕ) (room marks : List ℕ) → Judging s table room₀ marks₀ i room marks → i < functions s → AtBody s c table room₀ marks₀ i (i + 1) room marks
+  function-next i room marks d l =
+      record { few = omega arith; works = function-works i room marks d l; grows = d .grows; settles = function-settled i room marks d l; refutes = function-untyped i room marks d l }
+
+  pub more-left : (i : ℕ) → i ≤ functions s → (i ≡ c .functions → ⊥) → i < functions s
+  more-left i l n =
+      decide (ltb i (functions s)) (λ y. ltb-is i (functions s) y)
+      (λ y. let u : functions s ≤ i = ltb-isnt i (functions s) y in let f : c .functions ≡ functions s = packed .functions-is in absurd (n (omega arith)))

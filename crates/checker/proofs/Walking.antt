@@ -6,14 +6,14 @@ use native.Mathlib.Omega.{arith}
 use mathlib.Core.Bool.{true, false}
 use mathlib.Core.Option.{none, some}
 use mathlib.Core.List.{List, [], _∷_}
-use lib.ListN.{length, take, drop}
+use lib.ListN.{length}
 use lib.Dec.{leb, eqb}
 use Rattle.rules.specs.declared.Instruction.{Instruction}
 use Rattle.reader.proofs.Records.{code-length}
 use Rattle.rules.specs.Bytes.{word}
 use Rattle.rules.specs.Instructions.{size}
 use Rattle.rules.specs.Tables.{Body, entry, fn, bodyOf, bodyStart, bodyEnd}
-use Rattle.rules.specs.ModuleFile.{refusal, labels, read, bodiesIn, tablesIn, codeIn}
+use Rattle.rules.specs.ModuleFile.{codeLength, refusal, labels, read, bodiesIn, tablesIn, codeIn}
 use Rattle.format.specs.declared.Sections.{Sections}
 use Rattle.rules.specs.Typing.{Lists, Flow, AllNext, Flows, Gives, endOf, endFlow, placeFlow}
 use Rattle.rules.specs.Check.{small}
@@ -23,9 +23,10 @@ use Rattle.soundness.specs.Forced.{along, forced-given}
 use Rattle.soundness.specs.Readable.{Has, orderly, has-end, place-inside}
 use Rattle.soundness.specs.Cutting.{good-file}
 use Rattle.soundness.specs.Walks.{ends, size-some}
-use Rattle.keys.specs.Keys.{fetched}
+use Rattle.keys.specs.Keys.{fetched, Keyed}
 use Rattle.keys.specs.declared.Fetched.the-variants.{Key, End}
 use Rattle.keys.proofs.Places.{at-end, at-key}
+use Rattle.keys.proofs.Files.{code-long}
 use Rattle.transfer.specs.Transfers.{KeyAt, Moves}
 use Rattle.records.specs.Record.{listsOf, Holds, Labelled, flowOf, allSmall, bounded}
 use Rattle.records.specs.Laws.{holds-small}
@@ -35,7 +36,7 @@ use Rattle.checker.specs.declared.walk.Turn.{Turn}
 use Rattle.checker.specs.declared.walk.Turn.the-variants.{Breaks, Ends, Goes as On}
 use Rattle.checker.specs.Work.{Grows, Moved, WalkedIn, GoesIn, Sound, Working, Stands, Refuted, Left, Heads, targets, Turned, Leads, TurnLeads}
 use Rattle.checker.proofs.Growth.{grows-refl, grows-trans}
-use Rattle.checker.proofs.Steps.{code-part, code-long, key-at, moved, entry-ends, function-ends}
+use Rattle.checker.proofs.Steps.{key-at, moved, entry-ends, function-ends}
 
 flow-live : (a : Transfer) (l : Lists) → Leads a → flowOf a l ≡ some (targets a l)
 flow-live Transfer.Breaks l h = absurd h
@@ -200,12 +201,12 @@ module _ (s : List ℕ) (c : Sections) (table : List ℕ) (owner : ℕ) (room₀
 
   -- ---- what is fetched at a place of the body
 
-  abbrev code : List ℕ
-  code = take (length s - c .code) (drop (c .code) s)
-
-  module _ (p : ℕ) (l : Lists) (at : Stands s (bodyOf owner) p l) where
+  module _ (code : List ℕ) (k : Keyed s code 0) (p : ℕ) (l : Lists) (at : Stands s (bodyOf owner) p l) where
     pub fetch-fits : e ≤ length code
-    fetch-fits = let x : e ≤ c .extent = walk-bounds p l at .1 in let y : length code ≡ c .extent = code-long s c (w .packed) code (code-part s (c .code)) in omega arith
+    fetch-fits =
+        let x : e ≤ c .extent = walk-bounds p l at .1 in
+        let y : codeLength s ≤ length code = code-long s code 0 k (w .readable) in
+        let z : c .extent ≡ codeLength s = w .packed .extent-is in omega arith
 
     pub fetched-late : fetched code p e ≡ End → bodyEnd (bodiesIn s) (bodyOf owner) ≤ p
     fetched-late q = let x : e ≤ p = at-end code p e q in omega arith
@@ -215,7 +216,7 @@ module _ (s : List ℕ) (c : Sections) (table : List ℕ) (owner : ℕ) (room₀
       early = let x : p < e = at-key code p e b key .0 in omega arith
 
       pub fetched-key : KeyAt code p b
-      fetched-key = key-at s c (w .packed) code (code-part s (c .code)) (w .readable) owner (w .has) p (at .place) early b (at-key code p e b key .1)
+      fetched-key = key-at s c (w .packed) (w .readable) code k owner (w .has) p (at .place) early b (at-key code p e b key .1)
 
       pub fetched-moved : (st : List ℕ) (a : Transfer) (st′ : List ℕ) → Moves (read s) (bodyOf owner) b (word 4 code (p + 1)) p st a st′ → Moved s owner p st a st′
-      fetched-moved = moved s c (w .packed) code (code-part s (c .code)) (w .readable) owner (w .has) p (at .place) early b (at-key code p e b key .1)
+      fetched-moved = moved s c (w .packed) (w .readable) code k owner (w .has) p (at .place) early b (at-key code p e b key .1)

@@ -6,6 +6,7 @@ ghost use Rattle.rules.specs.Tables.{bodyOf};
 ghost use Rattle.rules.specs.ModuleFile.{labels, refusal};
 ghost use Rattle.format.specs.Layout.{Packed};
 ghost use Rattle.reader.specs.Cut.{Blank};
+ghost use Rattle.keys.specs.Keys.{Keyed};
 ghost use Rattle.nodes.specs.Nodes.{doneOf, Tabled, Fits, Seeded};
 ghost use Rattle.checker.specs.Work.{Working, Quiet, Next, Started, Settled, Left, VerdictIs};
 use crate::walk::Turn;
@@ -22,6 +23,7 @@ pub(crate) enum Verdict {
 fn visit(
     file: &[u8],
     c: Sections,
+    code: &[u8],
     table: &[u16],
     owner: usize,
     k: usize,
@@ -31,11 +33,12 @@ fn visit(
 ) -> bool
     requires { ⌜ Working (now file) c (now table) owner (now room) (now marks) ⌝ }
     requires { ⌜ Next (now marks) k × (length (now st) ≡ 64) ⌝ }
+    requires { ⌜ Keyed (now file) (now code) 0 ⌝ }
     ensures { λ r. ⌜ Left (now (file .entry)) (now (table .entry)) (bodyOf owner) (now (room .entry)) (now (marks .entry)) (now (room .exit)) (now (marks .exit)) r (doneOf (now (marks .exit)) ≡ doneOf (now (marks .entry)) + 1) ⌝ }
 {
     nodes::room::load(room, 64 * k, st);
     let p = nodes::table::place_of(file, c, k);
-    let whole = crate::walk::walk(file, c, table, owner, p, room, marks, st);
+    let whole = crate::walk::walk(file, c, code, table, owner, p, room, marks, st);
     if whole {
         nodes::list::advance(marks);
         return true;
@@ -47,6 +50,7 @@ fn visit(
 fn drain(
     file: &[u8],
     c: Sections,
+    code: &[u8],
     table: &[u16],
     owner: usize,
     room: &mut [u8],
@@ -55,6 +59,7 @@ fn drain(
 ) -> bool
     requires { ⌜ Working (now file) c (now table) owner (now room) (now marks) ⌝ }
     requires { ⌜ length (now st) ≡ 64 ⌝ }
+    requires { ⌜ Keyed (now file) (now code) 0 ⌝ }
     ensures { λ r. ⌜ Left (now (file .entry)) (now (table .entry)) (bodyOf owner) (now (room .entry)) (now (marks .entry)) (now (room .exit)) (now (marks .exit)) r (Quiet (now (marks .exit))) ⌝ }
 {
     loop {
@@ -62,7 +67,7 @@ fn drain(
         let Waiting::Node(k) = found else {
             return true;
         };
-        let whole = visit(file, c, table, owner, k, room, marks, st);
+        let whole = visit(file, c, code, table, owner, k, room, marks, st);
         if !whole {
             return false;
         }
@@ -73,6 +78,7 @@ fn drain(
 fn begin(
     file: &[u8],
     c: Sections,
+    code: &[u8],
     table: &[u16],
     owner: usize,
     room: &mut [u8],
@@ -81,6 +87,7 @@ fn begin(
 ) -> bool
     requires { ⌜ Working (now file) c (now table) owner (now room) (now marks) ⌝ }
     requires { ⌜ Seeded (now file) (bodyOf owner) (now st) ⌝ }
+    requires { ⌜ Keyed (now file) (now code) 0 ⌝ }
     ensures { λ r. ⌜ Left (now (file .entry)) (now (table .entry)) (bodyOf owner) (now (room .entry)) (now (marks .entry)) (now (room .exit)) (now (marks .exit)) r (Started (now (file .entry)) (now (table .entry)) (now (room .exit)) (now (marks .exit)) (bodyOf owner)) ⌝ }
 {
     let e = nodes::starts::end(file, c, owner);
@@ -89,7 +96,7 @@ fn begin(
     match turn {
         Turn::Breaks => false,
         Turn::Ends => true,
-        Turn::Goes(q) => crate::walk::walk(file, c, table, owner, q, room, marks, st),
+        Turn::Goes(q) => crate::walk::walk(file, c, code, table, owner, q, room, marks, st),
     }
 }
 
@@ -97,6 +104,7 @@ fn begin(
 fn check_body(
     file: &[u8],
     c: Sections,
+    code: &[u8],
     table: &[u16],
     owner: usize,
     room: &mut [u8],
@@ -105,20 +113,22 @@ fn check_body(
 ) -> bool
     requires { ⌜ Working (now file) c (now table) owner (now room) (now marks) ⌝ }
     requires { ⌜ length (now st) ≡ 64 ⌝ }
+    requires { ⌜ Keyed (now file) (now code) 0 ⌝ }
     ensures { λ r. ⌜ Left (now (file .entry)) (now (table .entry)) (bodyOf owner) (now (room .entry)) (now (marks .entry)) (now (room .exit)) (now (marks .exit)) r (Settled (now (file .entry)) (now (table .entry)) (now (room .exit)) (now (marks .exit)) (bodyOf owner)) ⌝ }
 {
     nodes::starts::seed(file, c, owner, st);
-    let started = begin(file, c, table, owner, room, marks, st);
+    let started = begin(file, c, code, table, owner, room, marks, st);
     if !started {
         return false;
     }
-    drain(file, c, table, owner, room, marks, st)
+    drain(file, c, code, table, owner, room, marks, st)
 }
 
-// All bodies, the entry first.
+// All bodies, the entry first. Functions from i on come after the owner.
 pub(crate) fn bodies(
     file: &[u8],
     c: Sections,
+    code: &[u8],
     table: &[u16],
     room: &mut [u8],
     marks: &mut [u16],
@@ -126,20 +136,21 @@ pub(crate) fn bodies(
 ) -> Verdict
     requires { ⌜ Packed (now file) c × (refusal (now file) ≡ 0) × Tabled (now file) (now table) ⌝ }
     requires { ⌜ Fits (labels (now file)) (now room) (now marks) × Blank (now marks) × (length (now st) ≡ 64) ⌝ }
+    requires { ⌜ Keyed (now file) (now code) 0 ⌝ }
     ensures { λ r. ⌜ VerdictIs (now (file .entry)) (now (table .entry)) (now (room .entry)) (now (marks .entry)) (now (room .exit)) (now (marks .exit)) r ⌝ }
 {
-    let typed = check_body(file, c, table, 0xffff_ffff, room, marks, st);
-    if !typed {
-        return Verdict::Untyped(0xffff_ffff);
-    }
     let n = c.functions;
+    let mut owner = 0xffff_ffff;
     let mut i = 0;
-    while i < n {
-        let typed = check_body(file, c, table, i, room, marks, st);
+    loop {
+        let typed = check_body(file, c, code, table, owner, room, marks, st);
         if !typed {
-            return Verdict::Untyped(i);
+            return Verdict::Untyped(owner);
         }
+        if i == n {
+            return Verdict::Typed;
+        }
+        owner = i;
         i += 1;
     }
-    Verdict::Typed
 }

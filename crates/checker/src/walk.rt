@@ -5,6 +5,7 @@ ghost use mathlib.Core.List.{[], _∷_};
 ghost use lib.ListN.{getD};
 ghost use Rattle.rules.specs.Tables.{bodyOf, bodyEnd};
 ghost use Rattle.rules.specs.ModuleFile.{read, bodiesIn};
+ghost use Rattle.keys.specs.Keys.{Keyed};
 ghost use Rattle.records.specs.Record.{listsOf, Holds, Labelled};
 ghost use Rattle.nodes.specs.Nodes.{doneOf};
 ghost use Rattle.checker.specs.Work.{Working, Standing, Recorded, WalkedIn, Left, Heads, targets, Turned, TurnLeads};
@@ -138,10 +139,11 @@ fn follow(
 }
 
 // From place p on, up to the next nodes; false where the body has no typing. From the entry's end nothing follows, a function's
-// end has no flow.
+// end has no flow. The code is lent in keys.
 pub(crate) fn walk(
     file: &[u8],
     c: Sections,
+    code: &[u8],
     table: &[u16],
     owner: usize,
     p: usize,
@@ -151,12 +153,11 @@ pub(crate) fn walk(
 ) -> bool
     requires { ⌜ Working (now file) c (now table) owner (now room) (now marks) ⌝ }
     requires { ⌜ Standing (now file) owner p (now st) ⌝ }
+    requires { ⌜ Keyed (now file) (now code) 0 ⌝ }
     ensures { λ r. ⌜ Left (now (file .entry)) (now (table .entry)) (bodyOf owner) (now (room .entry)) (now (marks .entry)) (now (room .exit)) (now (marks .exit)) r (WalkedIn (now (file .entry)) (now (table .entry)) (now (room .exit)) (now (marks .exit)) (bodyOf owner) p (listsOf (now (st .entry)))) ⌝ }
     ensures { λ r. ⌜ doneOf (now (marks .exit)) ≡ doneOf (now (marks .entry)) ⌝ }
 {
     let e = nodes::starts::end(file, c, owner);
-    let from = c.code;
-    let code = &file[from..];
     let mut at = p;
     loop {
         let found = keys::fetch(code, at, e);

@@ -7,9 +7,10 @@ use mathlib.Core.List.{List, [], _∷_, _++_}
 use lib.ListN.{length}
 use Rattle.rules.specs.declared.Instruction.{Instruction}
 use Rattle.rules.specs.Bytes.{word}
-use Rattle.rules.specs.Instructions.{Ty, tyOf, edition3, opcodeOf, instructionOf, size}
+use Rattle.rules.specs.Instructions.{Ty, tyOf, opcodeOf, instructionOf, size}
 use Rattle.rules.specs.Tables.{Body, Module}
 use Rattle.rules.specs.Typing.{Flow, to, only, strip, judge}
+use Rattle.soundness.specs.Numbering.{keyTable}
 use Rattle.keys.specs.Keys.{Known, each}
 use Rattle.records.specs.Record.{listsOf, Holds, Judged}
 use Rattle.records.specs.declared.Transfer.{Transfer}
@@ -48,9 +49,9 @@ singles = each (18 ∷ 17 ∷ 16 ∷ 15 ∷ 14 ∷ 13 ∷ 12 ∷ 11 ∷ 10 ∷ 9
 -- b is the key of an instruction whose bytes are all in the code, from the place p on
 pub record KeyAt (code : List ℕ) (p b : ℕ) : Type 0 where
   pub known : Known b
-  pub whole : (i : Instruction) → instructionOf (opcodeOf edition3 b) (word 4 code (p + 1)) ≡ some i → p + size i ≤ length code
+  pub whole : (i : Instruction) → instructionOf (opcodeOf keyTable b) (word 4 code (p + 1)) ≡ some i → p + size i ≤ length code
   pub near : p < 2 ^ 32
 
 -- the answer a, and the record r′ after it, are the flow at place p of the instruction whose key is b and whose word is w
 abbrev pub Moves : Module → Body → ℕ → ℕ → ℕ → List ℕ → Transfer → List ℕ → Type 0
-Moves m d b w p r a r′ = (i : Instruction) → instructionOf (opcodeOf edition3 b) w ≡ some i → Judges m d i (p + size i) r a r′
+Moves m d b w p r a r′ = (i : Instruction) → instructionOf (opcodeOf keyTable b) w ≡ some i → Judges m d i (p + size i) r a r′

@@ -1,4 +1,6 @@
 use native.Mathlib.Omega.{arith}
+use mathlib.Core.Path.{sym, _∙_}
+use Rattle.checker.proofs.Lent.{lent-third}
 use Rattle.checker.proofs.Verdicts.{short-check}
 use borrow.Author.Needs.{needs}
 use Rattle.checker.proofs.check_opened.Statement.{statement}
@@ -10,8 +12,11 @@ mul-if1 c = search needs
 returns : tie.Need-returns
 returns c = short-check _ ((c .before .before .before .before .pre) .1) _ (omega (arith, (c .if1) .taken, (c .before .before .before .before .pre) .0 .labels-is))
 
-with-small-table-requires : tie.Need-with-small-table-requires
-with-small-table-requires c κs = search needs
+word-requires : tie.Need-word-requires
+word-requires c κs = omega (arith, (c .before .before .before .before .pre) .0 .whole, (c .before .before .before .before .pre) .0 .code-is)
+
+old-with-small-table-requires : tie.Need-old-with-small-table-requires
+old-with-small-table-requires c κs = (((c .before .before .before .before .before .before .before .before .before .pre) .0, (c .before .before .before .before .before .before .before .before .before .pre) .1, (c .before .before .before .before .before .if1) .left, (c .before .if3) .taken), sym ((c .before .before .before .before .word) .ensures .0) ∙ (c .before .before .before .if2) .taken)
 
 same-length : tie.Need-same-length
 same-length c = search needs
@@ -19,8 +24,8 @@ same-length c = search needs
 returns-2 : tie.Need-returns-2
 returns-2 c = search needs
 
-with-middle-table-requires : tie.Need-with-middle-table-requires
-with-middle-table-requires c κs = search needs
+old-with-large-table-requires : tie.Need-old-with-large-table-requires
+old-with-large-table-requires c κs = (((c .before .before .before .before .before .before .before .before .before .pre) .0, (c .before .before .before .before .before .before .before .before .before .pre) .1, (c .before .before .before .before .before .if1) .left), sym ((c .before .before .before .before .word) .ensures .0) ∙ (c .before .before .before .if2) .taken)
 
 same-length-2 : tie.Need-same-length-2
 same-length-2 c = search needs
@@ -28,8 +33,17 @@ same-length-2 c = search needs
 returns-3 : tie.Need-returns-3
 returns-3 c = search needs
 
-with-large-table-requires : tie.Need-with-large-table-requires
-with-large-table-requires c κs = search needs
+sub-code : tie.Need-sub-code
+sub-code c = omega (arith, (c .before .before .before .before .before .before .pre) .0 .whole)
+
+part-code-start : tie.Need-part-code-start
+part-code-start c = omega (arith, (c .before .before .before .before .before .before .pre) .0 .whole)
+
+part-code-end : tie.Need-part-code-end
+part-code-end c = omega (arith, (c .before .before .before .before .before .before .pre) .0 .whole)
+
+with-small-table-requires : tie.Need-with-small-table-requires
+with-small-table-requires c κs = (((c .before .before .before .before .before .before .before .before .before .before .pre) .0, (c .before .before .before .before .before .before .before .before .before .before .pre) .1, (c .before .before .before .before .before .before .if1) .left, (c .before .if4) .taken), lent-third _ _ ((c .before .before .before .before .before .before .before .before .before .before .pre) .0) ((c .before .before .before .before .before .before .before .before .before .before .pre) .1) (λ e. (c .before .before .before .before .if2) .left ((c .before .before .before .before .before .word) .ensures .0 ∙ e)))
 
 same-length-3 : tie.Need-same-length-3
 same-length-3 c = search needs
@@ -37,18 +51,46 @@ same-length-3 c = search needs
 returns-4 : tie.Need-returns-4
 returns-4 c = search needs
 
+with-middle-table-requires : tie.Need-with-middle-table-requires
+with-middle-table-requires c κs = (((c .before .before .before .before .before .before .before .before .before .before .before .before .pre) .0, (c .before .before .before .before .before .before .before .before .before .before .before .before .pre) .1, (c .before .before .before .before .before .before .before .before .if1) .left, (c .before .if5) .taken), lent-third _ _ ((c .before .before .before .before .before .before .before .before .before .before .before .before .pre) .0) ((c .before .before .before .before .before .before .before .before .before .before .before .before .pre) .1) (λ e. (c .before .before .before .before .before .before .if2) .left ((c .before .before .before .before .before .before .before .word) .ensures .0 ∙ e)))
+
+same-length-4 : tie.Need-same-length-4
+same-length-4 c = search needs
+
+returns-5 : tie.Need-returns-5
+returns-5 c = search needs
+
+with-large-table-requires : tie.Need-with-large-table-requires
+with-large-table-requires c κs = (((c .before .before .before .before .before .before .before .before .before .before .before .before .pre) .0, (c .before .before .before .before .before .before .before .before .before .before .before .before .pre) .1, (c .before .before .before .before .before .before .before .before .if1) .left), lent-third _ _ ((c .before .before .before .before .before .before .before .before .before .before .before .before .pre) .0) ((c .before .before .before .before .before .before .before .before .before .before .before .before .pre) .1) (λ e. (c .before .before .before .before .before .before .if2) .left ((c .before .before .before .before .before .before .before .word) .ensures .0 ∙ e)))
+
+same-length-5 : tie.Need-same-length-5
+same-length-5 c = search needs
+
+returns-6 : tie.Need-returns-6
+returns-6 c = search needs
+
 pub check-opened-spec : {M : Type 1} → statement M
 check-opened-spec =
     tie.close
     (tie.spec
     mul-if1
     returns
-    with-small-table-requires
+    word-requires
+    old-with-small-table-requires
     same-length
     returns-2
-    with-middle-table-requires
+    old-with-large-table-requires
     same-length-2
     returns-3
-    with-large-table-requires
+    sub-code
+    part-code-start
+    part-code-end
+    with-small-table-requires
     same-length-3
-    returns-4)
+    returns-4
+    with-middle-table-requires
+    same-length-4
+    returns-5
+    with-large-table-requires
+    same-length-5
+    returns-6)

@@ -7,7 +7,7 @@ slice-aggregate-check-with : tie.Need-slice-aggregate-check-with
 slice-aggregate-check-with c = search needs
 
 check-with-requires : tie.Need-check-with-requires
-check-with-requires c κs = (((c .before .before .before .before .pre) .0, (c .before .before .before .before .pre) .1, (c .before .before .before .before .pre) .2), ((c .before .before .before .before .pre) .3, zeros-at 4096))
+check-with-requires c κs = (((c .before .before .before .before .before .pre) .0 .0, (c .before .before .before .before .before .pre) .0 .1, (c .before .before .before .before .before .pre) .0 .2), (((c .before .before .before .before .before .pre) .0 .3, zeros-at 4096), (c .before .before .before .before .before .pre) .1))
 
 same-length : tie.Need-same-length
 same-length c = search needs

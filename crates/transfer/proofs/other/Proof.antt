@@ -1,7 +1,7 @@
 use Rattle.rules.specs.declared.Instruction.the-variants.{One, Two, Bump}
 use Rattle.rules.specs.declared.Binary.the-variants.{Arith, Cmp}
 use Rattle.rules.specs.declared.Operator.the-variants.{And, Or, Xor, Shl, Sal, Shr, Sar}
-use Rattle.rules.specs.declared.Unary.the-variants.{Neg, Not, Convert}
+use Rattle.rules.specs.declared.Unary.the-variants.{Neg, Not, Convert, Count}
 use Rattle.rules.specs.declared.Num.the-variants.{Int, Long, Double}
 use mathlib.Core.Bool.{true, false}
 use mathlib.Core.Path.{refl}
@@ -107,6 +107,18 @@ add-convert-3 c = search needs
 convert-requires-3 : tie.Need-convert-requires-3
 convert-requires-3 c κs = search needs
 
+add-keep-3 : tie.Need-add-keep-3
+add-keep-3 c = search needs
+
+keep-requires-3 : tie.Need-keep-requires-3
+keep-requires-3 c κs = search needs
+
+add-keep-4 : tie.Need-add-keep-4
+add-keep-4 c = search needs
+
+keep-requires-4 : tie.Need-keep-requires-4
+keep-requires-4 c κs = search needs
+
 same-length : tie.Need-same-length
 same-length c = search needs
 
@@ -203,14 +215,26 @@ same-length-16 c = search needs
 returns-16 : tie.Need-returns-16
 returns-16 c = λ m d w. moves m d w _ (c .before .before .before .before .before .before .args .st .now) _ _ _ 46 ((c .before .before .before .before .match) .keys16) w refl (One (Convert Double)) refl ((c .before .before .convert3) .ensures Double refl m d)
 
+same-length-17 : tie.Need-same-length-17
+same-length-17 c = search needs
+
 returns-17 : tie.Need-returns-17
-returns-17 c = λ m d w. unknown _ ((c .before .before .pre) .0 .0) evens refl ((c .match) .keys17)
+returns-17 c = λ m d w. moves m d w _ (c .before .before .before .before .before .before .args .st .now) _ _ _ 48 ((c .before .before .before .before .match) .keys17) w refl (One (Count true)) refl ((c .before .before .keep3) .ensures (Count true) refl (λ t. refl) m d)
+
+same-length-18 : tie.Need-same-length-18
+same-length-18 c = search needs
 
 returns-18 : tie.Need-returns-18
-returns-18 c = λ m d w. unknown _ ((c .before .before .pre) .0 .0) odds refl ((c .match) .keys18)
+returns-18 c = λ m d w. moves m d w _ (c .before .before .before .before .before .before .args .st .now) _ _ _ 49 ((c .before .before .before .before .match) .keys18) w refl (One (Count false)) refl ((c .before .before .keep4) .ensures (Count false) refl (λ t. refl) m d)
 
 returns-19 : tie.Need-returns-19
-returns-19 c = λ m d w. nothing-left _ ((c .before .before .pre) .0 .0) ((c .match) .rest) ((c .before .before .pre) .0 .1)
+returns-19 c = λ m d w. unknown _ ((c .before .before .pre) .0 .0) evens refl ((c .match) .keys19)
+
+returns-20 : tie.Need-returns-20
+returns-20 c = λ m d w. unknown _ ((c .before .before .pre) .0 .0) odds refl ((c .match) .keys20)
+
+returns-21 : tie.Need-returns-21
+returns-21 c = λ m d w. nothing-left _ ((c .before .before .pre) .0 .0) ((c .match) .rest) ((c .before .before .pre) .0 .1)
 
 pub other-spec : {M : Type 1} → statement M
 other-spec =
@@ -248,6 +272,10 @@ other-spec =
     convert-requires-2
     add-convert-3
     convert-requires-3
+    add-keep-3
+    keep-requires-3
+    add-keep-4
+    keep-requires-4
     same-length
     returns
     same-length-2
@@ -280,6 +308,10 @@ other-spec =
     returns-15
     same-length-16
     returns-16
+    same-length-17
     returns-17
+    same-length-18
     returns-18
-    returns-19)
+    returns-19
+    returns-20
+    returns-21)

@@ -11,7 +11,7 @@ start-requires : tie.Need-start-requires
 start-requires c κs = search needs
 
 land-requires : tie.Need-land-requires
-land-requires c κs = ((c .before .before .before .before .before .before .before .before .before .before .pre) .0, (start-standing _ ((c .before .before .before .before .before .before .before .before .before .before .pre) .0 .readable) _ _ _ ((c .before .before .before .before .before .before .before .before .before .before .pre) .1) ((c .before .before .before .start) .ensures), (c .before .before .before .before .end) .ensures))
+land-requires c κs = ((c .before .before .before .before .before .before .before .before .before .before .before .pre) .0, (start-standing _ ((c .before .before .before .before .before .before .before .before .before .before .before .pre) .0 .readable) _ _ _ ((c .before .before .before .before .before .before .before .before .before .before .before .pre) .1 .0) ((c .before .before .before .start) .ensures), (c .before .before .before .before .end) .ensures))
 
 enum-told : tie.Need-enum-told
 enum-told c = search needs
@@ -23,7 +23,7 @@ enum-known-turn : tie.Need-enum-known-turn
 enum-known-turn c = search needs
 
 walk-requires : tie.Need-walk-requires
-walk-requires c κs = let t = rw ((c .before .before .before .before .turn) .given .1) at ((c .before .before .before .before .before .before .before .before .before .before .land) .ensures .0) in (still-working _ _ _ _ _ _ _ _ ((c .before .before .before .before .before .before .before .before .before .before .before .before .before .before .before .before .before .before .before .before .before .pre) .0) (t .grows) (t .sound), record { holds = (c .before .before .before .before .before .before .before .before .before .before .before .before .before .before .before .before .before .before .before .before .before .pre) .1 .holds; stands = t .turn .1 })
+walk-requires c κs = let t = rw ((c .before .before .before .before .turn) .given .1) at ((c .before .before .before .before .before .before .before .before .before .before .land) .ensures .0) in (still-working _ _ _ _ _ _ _ _ ((c .before .before .before .before .before .before .before .before .before .before .before .before .before .before .before .before .before .before .before .before .before .before .pre) .0) (t .grows) (t .sound), (record { holds = (c .before .before .before .before .before .before .before .before .before .before .before .before .before .before .before .before .before .before .before .before .before .before .pre) .1 .0 .holds; stands = t .turn .1 }, (c .before .before .before .before .before .before .before .before .before .before .before .before .before .before .before .before .before .before .before .before .before .before .pre) .1 .1))
 
 same-length : tie.Need-same-length
 same-length c = search needs
@@ -35,7 +35,7 @@ same-length-3 : tie.Need-same-length-3
 same-length-3 c = search needs
 
 returns : tie.Need-returns
-returns c = begin-breaks _ _ _ _ _ ((c .before .before .before .before .before .before .before .before .before .before .before .before .before .before .before .before .before .pre) .1) ((c .before .before .before .before .before .before .before .before .before .before .start) .ensures) _ _ _ _ (rw ((c .enum-told) .given .1) at ((c .before .before .before .before .before .before .land) .ensures .0))
+returns c = begin-breaks _ _ _ _ _ ((c .before .before .before .before .before .before .before .before .before .before .before .before .before .before .before .before .before .before .pre) .1 .0) ((c .before .before .before .before .before .before .before .before .before .before .start) .ensures) _ _ _ _ (rw ((c .enum-told) .given .1) at ((c .before .before .before .before .before .before .land) .ensures .0))
 
 same-length-4 : tie.Need-same-length-4
 same-length-4 c = search needs
@@ -47,7 +47,7 @@ same-length-6 : tie.Need-same-length-6
 same-length-6 c = search needs
 
 returns-2 : tie.Need-returns-2
-returns-2 c = begin-ends _ _ _ _ _ ((c .before .before .before .before .before .before .before .before .before .before .before .before .before .before .before .before .before .pre) .1) ((c .before .before .before .before .before .before .before .before .before .before .start) .ensures) _ _ _ _ (rw ((c .enum-told2) .given .1) at ((c .before .before .before .before .before .before .land) .ensures .0))
+returns-2 c = begin-ends _ _ _ _ _ ((c .before .before .before .before .before .before .before .before .before .before .before .before .before .before .before .before .before .before .pre) .1 .0) ((c .before .before .before .before .before .before .before .before .before .before .start) .ensures) _ _ _ _ (rw ((c .enum-told2) .given .1) at ((c .before .before .before .before .before .before .land) .ensures .0))
 
 same-length-7 : tie.Need-same-length-7
 same-length-7 c = search needs
@@ -59,7 +59,7 @@ same-length-9 : tie.Need-same-length-9
 same-length-9 c = search needs
 
 returns-3 : tie.Need-returns-3
-returns-3 c = begin-goes _ _ _ _ _ ((c .before .before .before .before .before .before .before .before .before .before .before .before .before .before .before .before .before .before .before .before .before .before .before .before .before .before .before .before .pre) .1) ((c .before .before .before .before .before .before .before .before .before .before .before .before .before .before .before .before .before .before .before .before .before .start) .ensures) _ _ _ _ _ (rw ((c .before .before .before .before .before .before .before .before .before .before .before .turn) .given .1) at ((c .before .before .before .before .before .before .before .before .before .before .before .before .before .before .before .before .before .land) .ensures .0)) _ _ _ ((c .before .before .before .before .before .before .walk) .ensures .0)
+returns-3 c = begin-goes _ _ _ _ _ ((c .before .before .before .before .before .before .before .before .before .before .before .before .before .before .before .before .before .before .before .before .before .before .before .before .before .before .before .before .before .pre) .1 .0) ((c .before .before .before .before .before .before .before .before .before .before .before .before .before .before .before .before .before .before .before .before .before .start) .ensures) _ _ _ _ _ (rw ((c .before .before .before .before .before .before .before .before .before .before .before .turn) .given .1) at ((c .before .before .before .before .before .before .before .before .before .before .before .before .before .before .before .before .before .land) .ensures .0)) _ _ _ ((c .before .before .before .before .before .before .walk) .ensures .0)
 
 pub begin-spec : {M : Type 1} → statement M
 begin-spec =

@@ -24,7 +24,7 @@ returns : tie.Need-returns
 returns c = body-refused _ _ _ _ _ _ _ (rw (not-true ((c .before .before .before .before .before .before .before .begin) .result) ((c .if1) .taken)) at ((c .before .before .before .before .before .before .before .begin) .ensures))
 
 drain-requires : tie.Need-drain-requires
-drain-requires c κs = (still-working _ _ _ _ _ _ _ _ ((c .before .before .before .before .before .before .before .before .before .before .before .before .before .before .before .before .before .before .before .before .before .before .before .pre) .0) ((c .before .before .before .before .before .before .before .before .before .before .begin) .ensures .grows) ((c .before .before .before .before .before .before .before .before .before .before .begin) .ensures .sound), search needs)
+drain-requires c κs = (still-working _ _ _ _ _ _ _ _ ((c .before .before .before .before .before .before .before .before .before .before .before .before .before .before .before .before .before .before .before .before .before .before .before .before .pre) .0) ((c .before .before .before .before .before .before .before .before .before .before .begin) .ensures .grows) ((c .before .before .before .before .before .before .before .before .before .before .begin) .ensures .sound), (search needs, (c .before .before .before .before .before .before .before .before .before .before .before .before .before .before .before .before .before .before .before .before .before .before .before .before .pre) .1 .1))
 
 same-length-4 : tie.Need-same-length-4
 same-length-4 c = search needs
@@ -36,7 +36,7 @@ same-length-6 : tie.Need-same-length-6
 same-length-6 c = search needs
 
 returns-2 : tie.Need-returns-2
-returns-2 c = body-drained _ _ _ _ _ _ _ ((c .before .before .before .before .before .before .before .before .before .before .before .before .before .before .before .before .before .before .before .before .before .before .before .before .before .before .before .before .before .before .pre) .0 .tabled) (rw (not-false ((c .before .before .before .before .before .before .before .before .before .before .before .before .before .before .before .before .before .begin) .result) ((c .before .before .before .before .before .before .before .before .before .before .if1) .left)) at ((c .before .before .before .before .before .before .before .before .before .before .before .before .before .before .before .before .before .begin) .ensures)) _ _ _ ((c .before .before .before .before .before .before .drain) .ensures)
+returns-2 c = body-drained _ _ _ _ _ _ _ ((c .before .before .before .before .before .before .before .before .before .before .before .before .before .before .before .before .before .before .before .before .before .before .before .before .before .before .before .before .before .before .before .pre) .0 .tabled) (rw (not-false ((c .before .before .before .before .before .before .before .before .before .before .before .before .before .before .before .before .before .begin) .result) ((c .before .before .before .before .before .before .before .before .before .before .if1) .left)) at ((c .before .before .before .before .before .before .before .before .before .before .before .before .before .before .before .before .before .begin) .ensures)) _ _ _ ((c .before .before .before .before .before .before .drain) .ensures)
 
 pub check-body-spec : {M : Type 1} → statement M
 check-body-spec =
