@@ -57,14 +57,14 @@ static int change(uint32_t constant, uint32_t value)
     return 1;
 }
 
-/* Writes the module from its four sections, which the header counts. */
+/* Writes the module, in its own edition, from its four sections, which the header counts. */
 static uint32_t write_module(uint64_t *length)
 {
     size_t constants = LIMPETSKEIN_CONSTANT * word(8);
     size_t functions = LIMPETSKEIN_FUNCTION * word(16);
     size_t labels = LIMPETSKEIN_LABEL * word(24);
     const uint8_t *at = module + LIMPETSKEIN_HEADER;
-    return limpetskein_write(at, constants, at + constants, functions, at + constants + functions, labels,
+    return limpetskein_write(word(0), at, constants, at + constants, functions, at + constants + functions, labels,
                              at + constants + functions + labels, word(32), word(40), saved, sizeof saved, length);
 }
 

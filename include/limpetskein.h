@@ -62,9 +62,9 @@ extern "C" {
 enum {
     LIMPETSKEIN_DONE = 0, /* check: accepted. run: finished. write and formula: written */
 
-    /* The module can't be read: check and run. 4 to 9 also: these tables are no module: write. */
+    /* The module can't be read: check and run. 2 and 4 to 9 also: these tables are no module: write. */
     LIMPETSKEIN_TOO_SHORT = 1,     /* under 48 bytes */
-    LIMPETSKEIN_OTHER_EDITION = 2, /* the edition is not 3 */
+    LIMPETSKEIN_OTHER_EDITION = 2, /* the edition is neither 1 nor 3 */
     LIMPETSKEIN_OTHER_LENGTH = 3,  /* the total length word differs from the lent length */
     LIMPETSKEIN_OVER_LIMIT = 4,    /* a count or the code length is over its limit, or word 44 is not zero */
     LIMPETSKEIN_NOT_PACKED = 5,    /* an offset, the sections' sum, or an entry longer than the code; write: part
@@ -154,8 +154,9 @@ uint32_t limpetskein_run(const uint8_t *module, size_t module_len, uint32_t func
                          size_t types_len, uint64_t *steps, uint64_t *height);
 
 /*
- * Writes the module of these tables: 0, 4 to 9, 16.
+ * Writes the module of these tables: 0, 2, 4 to 9, 16.
  *
+ *   edition       1 or 3: whose opcode numbers the code has. In edition 1 no parameter is a pointer.
  *   constants     12 bytes each: type word (3, 4, 6), 8-byte payload.
  *   functions     20 bytes each: start, length, parameter count, return type, eight parameter types, two zeros.
  *   labels        8 bytes each: owner's function number, or LIMPETSKEIN_ENTRY; place in the code.
@@ -163,18 +164,19 @@ uint32_t limpetskein_run(const uint8_t *module, size_t module_len, uint32_t func
  *   entry_length  the bytes of the entry's body.
  *   *written      written with 0 only: the module's length, which is 48 and the lengths of the four tables.
  *
- * The tables are those of the module file. 4 to 9 are given exactly where a check or a run would refuse the module of
- * these tables with this number, and 5 where a table ends in part of a record; a table's count is that of its whole
- * records. No typing is asked: what the check refuses with 11 is written.
+ * The tables are those of the module file. 2 and 4 to 9 are given exactly where a check or a run would refuse the
+ * module of these tables with this number, and 5 where a table ends in part of a record; a table's count is that of
+ * its whole records. No typing is asked: what the check refuses with 11 is written.
  *
  * The output after the call:
- *   4 to 9, 16  unchanged.
- *   0           the module, and past it unchanged. It can be read, and its sections and entry length are those that
- *               were lent. Tables cut from a module that can be read give that module's bytes again.
+ *   2, 4 to 9, 16  unchanged.
+ *   0              the module, and past it unchanged. It can be read, and its edition, sections and entry length are
+ *                  those that were lent. Tables cut from a module that can be read give that module's bytes again.
  */
-uint32_t limpetskein_write(const uint8_t *constants, size_t constants_len, const uint8_t *functions,
-                           size_t functions_len, const uint8_t *labels, size_t labels_len, const uint8_t *code,
-                           size_t code_len, uint32_t entry_length, uint8_t *out, size_t out_len, uint64_t *written);
+uint32_t limpetskein_write(uint32_t edition, const uint8_t *constants, size_t constants_len,
+                           const uint8_t *functions, size_t functions_len, const uint8_t *labels, size_t labels_len,
+                           const uint8_t *code, size_t code_len, uint32_t entry_length, uint8_t *out, size_t out_len,
+                           uint64_t *written);
 
 /*
  * Compiles a formula line, such as (r*3+g)/4, to a module: 0, 16, 40 to 43.

@@ -12,7 +12,7 @@ use Rattle.rules.specs.Host.{writtenAfter}
 use Rattle.soundness.specs.Saves.{saves, written-with}
 use Rattle.limpetskein.specs.WritePromises.{BothWays, WriteKeeps, HostWriteKeeps}
 
-module _ (t : Tables) (out : List ℕ) (third : t .bodies .edition ≡ 3) (old : ℕ) where
+module _ (t : Tables) (out : List ℕ) (old : ℕ) where
   pub goes-both-ways : BothWays t out (writeNumber (write t out .answer)) (writtenAfter (write t out .answer) old) (write t out .output)
   goes-both-ways =
       record {
@@ -20,17 +20,17 @@ module _ (t : Tables) (out : List ℕ) (third : t .bodies .edition ≡ 3) (old :
             let w : (n : ℕ) × (write t out .answer ≡ Written n) = written-with t out e in
             let q : writtenAfter (write t out .answer) old ≡ w .0 = ap (λ (a : WriteAnswer). writtenAfter a old) (w .1) in
             subst (λ (n : ℕ). (refusal (take n (write t out .output)) ≡ 0) × (tablesIn (take n (write t out .output)) ≡ t)) (sym q)
-            (saves .read-back t out (w .0) third (w .1));
+            (saves .read-back t out (w .0) (w .1));
         write-back = λ s b e q l.
             let w : write t out ≡ wrote (Written (length s)) (s ++ drop (length s) out) = ap (λ (u : Tables). write u out) (sym q) ∙ saves .write-back s out b e l in
             (ap (λ (x : Wrote). writeNumber (x .answer)) w, ap (λ (x : Wrote). writtenAfter (x .answer) old) w, ap (λ (x : Wrote). x .output) w);
       }
 
-pub write-keeps : (t : Tables) (out : List ℕ) → t .bodies .edition ≡ 3 → (a : WriteAnswer) (out′ : List ℕ) → wrote a out′ ≡ write t out → WriteKeeps t out a out′
-write-keeps t out third a out′ q =
+pub write-keeps : (t : Tables) (out : List ℕ) (a : WriteAnswer) (out′ : List ℕ) → wrote a out′ ≡ write t out → WriteKeeps t out a out′
+write-keeps t out a out′ q =
     record {
       same = q;
-      both-ways = λ old. subst (λ (x : Wrote). BothWays t out (writeNumber (x .answer)) (writtenAfter (x .answer) old) (x .output)) (sym q) (goes-both-ways t out third old);
+      both-ways = λ old. subst (λ (x : Wrote). BothWays t out (writeNumber (x .answer)) (writtenAfter (x .answer) old) (x .output)) (sym q) (goes-both-ways t out old);
     }
 
 pub host-write-keeps : (t : Tables) (out : List ℕ) (a : WriteAnswer) (out′ : List ℕ) → WriteKeeps t out a out′

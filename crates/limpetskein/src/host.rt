@@ -103,6 +103,7 @@ fn write_number(answer: WriteAnswer, written: &mut u64) -> u32
 // `write` for C.
 #[no_mangle]
 pub extern "C" fn limpetskein_write(
+    edition: u32,
     constants: &[u8],
     functions: &[u8],
     labels: &[u8],
@@ -111,9 +112,10 @@ pub extern "C" fn limpetskein_write(
     out: &mut [u8],
     written: &mut u64,
 ) -> u32
-    ensures { λ r. ⌜ HostWriteKeeps (tables 3 (now (constants .entry)) (now (functions .entry)) (now (labels .entry)) (now (code .entry)) «entry_length») (now (out .entry)) (now (written .entry)) r (now (out .exit)) (now (written .exit)) ⌝ }
+    ensures { λ r. ⌜ HostWriteKeeps (tables edition (now (constants .entry)) (now (functions .entry)) (now (labels .entry)) (now (code .entry)) «entry_length») (now (out .entry)) (now (written .entry)) r (now (out .exit)) (now (written .exit)) ⌝ }
 {
     let answer = crate::write(
+        edition as usize,
         constants,
         functions,
         labels,

@@ -40,8 +40,9 @@ pub fn run(
     )
 }
 
-// Writes the module of these tables into the lent output, or refuses and changes nothing.
+// Writes the module of these tables, in edition 1 or 3, into the lent output, or refuses and changes nothing.
 pub fn write(
+    edition: usize,
     constants: &[u8],
     functions: &[u8],
     labels: &[u8],
@@ -49,9 +50,9 @@ pub fn write(
     entry: usize,
     out: &mut [u8],
 ) -> WriteAnswer
-    ensures { λ r. ⌜ WriteKeeps (tables 3 (now (constants .entry)) (now (functions .entry)) (now (labels .entry)) (now (code .entry)) entry) (now (out .entry)) r (now (out .exit)) ⌝ }
+    ensures { λ r. ⌜ WriteKeeps (tables edition (now (constants .entry)) (now (functions .entry)) (now (labels .entry)) (now (code .entry)) entry) (now (out .entry)) r (now (out .exit)) ⌝ }
 {
-    writer::write(constants, functions, labels, code, entry, out)
+    writer::write(edition, constants, functions, labels, code, entry, out)
 }
 
 // Compiles a formula line and writes its module into the lent output, or refuses and changes nothing.

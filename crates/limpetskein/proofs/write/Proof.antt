@@ -1,5 +1,4 @@
 -- The proof of `limpetskein::write`.
-use mathlib.Core.Path.{refl}
 use borrow.Author.Needs.{needs}
 use Rattle.limpetskein.proofs.WritePromised.{write-keeps}
 use Rattle.rules.specs.Tables.{tables}
@@ -14,7 +13,7 @@ same-length c = search needs
 
 returns : tie.Need-returns
 returns c = let at-start = c .before .before .before .before .before .before .before .before .before in
-    write-keeps (tables 3 (at-start .args .constants .now) (at-start .args .functions .now) (at-start .args .labels .now) (at-start .args .code .now) (at-start .args .entry)) (at-start .args .out .now) refl _ _ (c .before .before .write .ensures)
+    write-keeps (tables (at-start .args .edition) (at-start .args .constants .now) (at-start .args .functions .now) (at-start .args .labels .now) (at-start .args .code .now) (at-start .args .entry)) (at-start .args .out .now) _ _ (c .before .before .write .ensures)
 
 pub write-spec : {M : Type 1} → statement M
 write-spec = tie.close (tie.spec write-requires same-length returns)
