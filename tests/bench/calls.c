@@ -70,9 +70,9 @@ static void write_again(const Side *side, const File *module, Lent *lent) {
     size_t constants = word(module, 12), functions = word(module, 20), labels = word(module, 28);
     size_t code = word(module, 36);
     const uint8_t *file = module->file;
-    lent->answers |= side->write(file + constants, functions - constants, file + functions, labels - functions,
-                                 file + labels, code - labels, file + code, module->length - code, word(module, 40),
-                                 lent->out + GUARD, LIMPETSKEIN_LONGEST_MODULE, &lent->written);
+    lent->answers |= side->write(word(module, 0), file + constants, functions - constants, file + functions,
+                                 labels - functions, file + labels, code - labels, file + code, module->length - code,
+                                 word(module, 40), lent->out + GUARD, LIMPETSKEIN_LONGEST_MODULE, &lent->written);
 }
 
 void compile(const Side *side, const File *line, size_t room, Lent *lent) {

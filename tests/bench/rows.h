@@ -6,26 +6,30 @@
 
 typedef enum { RUN, RECIPE, CHECK, OPENING, WRITE, FORMULA, REFUSED, KINDS } Kind;
 
-// What the rows of a kind have in common. limit: the most machine instructions, as a ratio to C.
+// What the rows of a kind have in common. limit: the most machine instructions, as a ratio to C. edition_limit: the
+// most in edition 1, as a ratio to edition 3; 0 where that ratio has no limit.
 typedef struct {
     const char *name, *unit;
-    double limit;
+    double limit, edition_limit;
     uint32_t answer;
 } Group;
 
-// A row: its module, or the name of its line; and the slots that are lent.
+// A row: its module, or the name of its line; the slots that are lent; a limit of its own, or 0. again: it is the row
+// before it in edition 1, the same program with the same instructions.
 typedef struct {
     const char *name, *module;
     Kind kind;
     uint32_t slots;
+    double limit;
+    int again;
 } Row;
 
-enum { ROWS = 33 };
+enum { ROWS = 37 };
 
 extern const Group groups[KINDS];
 extern const Row rows[ROWS];
 
-// A row's limit: its kind's, but for the check of the shortest module.
+// A row's limit: its own, or its kind's.
 double limit_of(const Row *row);
 
 // Does it compile a formula line?

@@ -155,6 +155,11 @@ static int type_body(const Module *m, uint8_t *room, uint32_t body, uint32_t sta
             operand[--operands] = 0;
             place++;
             continue;
+        case INC_TOP: case DEC_TOP: // of edition 1, which has no pointers
+            if (!operands)
+                FAIL;
+            place++;
+            continue;
         case NOT:
             if (!operands || operand[operands - 1] >= DOUBLE)
                 FAIL;
@@ -245,8 +250,9 @@ static int type_body(const Module *m, uint8_t *room, uint32_t body, uint32_t sta
 uint32_t baseline_check(const uint8_t *module, size_t module_len, uint8_t *room, size_t room_len, uint32_t *body) {
     uint64_t starts[BITMAP], labelled[BITMAP];
     uint16_t first[LONGEST_CODE];
+    uint8_t translated[LONGEST_CODE];
     Module m;
-    uint32_t refusal = open_module(module, module_len, &m, starts);
+    uint32_t refusal = open_module(module, module_len, &m, starts, translated);
     if (unlikely(refusal))
         return refusal;
     if (unlikely(room_len / RECORD < m.label_count))

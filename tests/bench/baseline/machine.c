@@ -168,6 +168,21 @@ static inline uint64_t double_to_long(double v) {
         NEXT;                                                               \
     }
 
+// The top operand itself is counted up or down: edition 1, which has no pointers.
+#define COUNT_TOP(name, op)                             \
+    name: {                                             \
+        NEED_ONE;                                       \
+        uint8_t type = TOP_TYPE;                        \
+        if (type == INT)                                \
+            write64(TOP, (uint32_t)(read32(TOP) op 1)); \
+        else if (type == DOUBLE)                        \
+            write_double(TOP, read_double(TOP) op 1.0); \
+        else                                            \
+            write64(TOP, read64(TOP) op 1);             \
+        pc++;                                           \
+        NEXT;                                           \
+    }
+
 // The label that the operand names, which is the body's own.
 #define OWN_LABEL                                                   \
     uint32_t n = OPERAND;                                           \
@@ -202,13 +217,14 @@ uint32_t baseline_run(const uint8_t *module, size_t module_len, uint32_t functio
         [DEC] = &&dec, [AND] = &&and, [OR] = &&or, [XOR] = &&xor, [NOT] = &&not, [SHL] = &&shl, [SAL] = &&sal,
         [SHR] = &&shr, [SAR] = &&sar, [CMP] = &&cmp, [ICMP] = &&icmp, [JMP] = &&jmp, [JE] = &&je, [JNE] = &&jne,
         [JA] = &&ja, [JAE] = &&jae, [JB] = &&jb, [JBE] = &&jbe, [CALL] = &&call, [RET] = &&ret, [TOI] = &&toi,
-        [TOL] = &&tol, [TOD] = &&tod, [0] = &&no_opcode, [6] = &&no_opcode, [0x29 ... 0x2A] = &&no_opcode,
+        [TOL] = &&tol, [TOD] = &&tod, [0] = &&no_opcode, [6] = &&no_opcode, [INC_TOP] = &&inc_top, [DEC_TOP] = &&dec_top,
         [0x2D] = &&no_opcode, [0x2F ... 63] = &&no_opcode};
 
     Frame frames[MOST_FRAMES];
     uint64_t starts[BITMAP];
+    uint8_t translated[LONGEST_CODE];
     Module m;
-    uint32_t answer = open_module(module, module_len, &m, starts);
+    uint32_t answer = open_module(module, module_len, &m, starts, translated);
     if (unlikely(answer))
         return answer;
 
@@ -432,6 +448,8 @@ not: {
 
     COUNT(inc, +)
     COUNT(dec, -)
+    COUNT_TOP(inc_top, +)
+    COUNT_TOP(dec_top, -)
     COMPARE(cmp, uint32_t, uint64_t)
     COMPARE(icmp, int32_t, int64_t)
 

@@ -37,6 +37,9 @@ enum {
     TOI = 0x2B, TOL = 0x2C, TOD = 0x2E
 };
 
+// What inc and dec of edition 1 become: numbers that no file has.
+enum { INC_TOP = 0x29, DEC_TOP = 0x2A };
+
 // The sections of a module, in the lent file or lent each, and their counts.
 typedef struct {
     const uint8_t *constants, *functions, *labels, *code;
@@ -59,10 +62,14 @@ static inline int has_bit(const uint64_t *bitmap, uint32_t place) {
     return (int)(bitmap[place >> 6] >> (place & 63)) & 1;
 }
 
-// Refusals 1 to 9, or 0 and the module. starts: BITMAP words to work in.
-uint32_t open_module(const uint8_t *file, size_t length, Module *module, uint64_t *starts);
+// Refusals 1 to 9, or 0 and the module. starts: BITMAP words to work in. translated: LONGEST_CODE bytes, where the code
+// of an edition 1 module is put in edition 3's numbers.
+uint32_t open_module(const uint8_t *file, size_t length, Module *module, uint64_t *starts, uint8_t *translated);
 
 // Refusals 6 to 9, or 0, of sections within their limits, the entry no longer than the code.
 uint32_t test_sections(const Module *module, uint64_t *starts);
+
+// The same of edition 1; the module's code is then the translated one.
+uint32_t test_old_sections(Module *module, uint8_t *translated);
 
 #endif

@@ -30,6 +30,24 @@ static inline int parameters_are_good(uint64_t types, uint32_t count) {
 
 // ---- short code
 
+// Row 9, of a byte for each place that is 1 where an instruction starts.
+static INLINE uint32_t test_labels(const Module *m, const uint8_t *starts) {
+    const uint8_t *at = m->labels;
+    for (uint32_t i = 0; i < m->label_count; i++, at += LABEL) {
+        uint32_t owner = read32(at), target = read32(at + 4), from = 0, to = m->entry_length;
+        if (owner != ENTRY) {
+            if (unlikely(owner >= m->function_count))
+                return LIMPETSKEIN_BAD_LABEL;
+            const uint8_t *f = m->functions + FUNCTION * owner;
+            from = read32(f);
+            to = from + read32(f + 4);
+        }
+        if (unlikely(target < from || target >= to || !starts[target]))
+            return LIMPETSKEIN_BAD_LABEL;
+    }
+    return 0;
+}
+
 // Rows 8 and 9. A processor learns the branches when the same module comes again. Its bytes would make a large frame of
 // the caller's.
 static __attribute__((noinline)) uint32_t test_short_code(const Module *m) {
@@ -59,20 +77,7 @@ static __attribute__((noinline)) uint32_t test_short_code(const Module *m) {
             break;
         end += read32(at + 4);
     }
-    at = m->labels;
-    for (uint32_t i = 0; i < m->label_count; i++, at += LABEL) {
-        uint32_t owner = read32(at), target = read32(at + 4), from = 0, to = m->entry_length;
-        if (owner != ENTRY) {
-            if (unlikely(owner >= m->function_count))
-                return LIMPETSKEIN_BAD_LABEL;
-            const uint8_t *f = m->functions + FUNCTION * owner;
-            from = read32(f);
-            to = from + read32(f + 4);
-        }
-        if (unlikely(target < from || target >= to || !starts[target]))
-            return LIMPETSKEIN_BAD_LABEL;
-    }
-    return 0;
+    return test_labels(m, starts);
 }
 
 // ---- longer code
@@ -175,7 +180,8 @@ static INLINE uint32_t test_long_code(const Module *m, uint64_t *starts) {
 
 // ---- sections
 
-static INLINE uint32_t test_records_and_code(const Module *m, uint64_t *starts) {
+// Rows 6 and 7.
+static INLINE uint32_t test_records(const Module *m) {
     const uint8_t *at = m->constants;
     uint32_t bad = 0;
     for (uint32_t i = 0; i < m->constant_count; i++, at += CONSTANT) {
@@ -200,19 +206,78 @@ static INLINE uint32_t test_records_and_code(const Module *m, uint64_t *starts) 
         if (unlikely(!parameters_are_good(types, parameters)))
             return LIMPETSKEIN_BAD_FUNCTION;
     }
-    if (unlikely(end != m->code_length))
-        return LIMPETSKEIN_BAD_FUNCTION;
+    return unlikely(end != m->code_length) ? LIMPETSKEIN_BAD_FUNCTION : 0;
+}
+
+static INLINE uint32_t test_records_and_code(const Module *m, uint64_t *starts) {
+    uint32_t refusal = test_records(m);
+    if (unlikely(refusal))
+        return refusal;
     return m->code_length <= SHORT_CODE ? test_short_code(m) : test_long_code(m, starts);
 }
 
 uint32_t test_sections(const Module *module, uint64_t *starts) { return test_records_and_code(module, starts); }
 
+// ---- edition 1
+
+// Its opcodes, from 1 on; as bits, those with an operand; and all in edition 3's numbers.
+enum { OLD_OPCODES = 0x25 };
+#define OLD_WIDE_OPCODES 0x00000003FC00001Aull
+static const uint8_t new_number[] = {
+    0, PUSH, POP, LOAD, STORE, ADD, SUB, MUL, IMUL, DIV, IDIV, MOD, IMOD, NEG, INC_TOP, DEC_TOP, AND, OR, XOR,
+    NOT, SHL, SAL, SHR, SAR, CMP, ICMP, JMP, JE, JNE, JA, JAE, JB, JBE, CALL, RET, TOI, TOL, TOD};
+
+// Rows 8 and 9, as of short code whatever the length. A copy of the code gets the new numbers on the way.
+static INLINE uint32_t test_old_code(const Module *m, uint8_t *translated) {
+    uint8_t starts[LONGEST_CODE];
+    uint32_t place = 0, end = m->entry_length;
+    const uint8_t *at = m->functions;
+    if (m->label_count)
+        memset(starts, 0, m->code_length);
+    if (m->code_length)
+        memcpy(translated, m->code, m->code_length);
+    for (uint32_t i = 0;; i++, at += FUNCTION) {
+        while (place < end) {
+            uint32_t op = m->code[place];
+            if (unlikely(op - 1 >= OLD_OPCODES))
+                return LIMPETSKEIN_BAD_CODE;
+            starts[place] = 1;
+            translated[place] = new_number[op];
+            if (OLD_WIDE_OPCODES >> op & 1) {
+                __asm__("" : "+r"(place)); // keeps this a branch
+                place += 5;
+            } else
+                place += 1;
+        }
+        if (unlikely(place != end))
+            return LIMPETSKEIN_BAD_CODE;
+        if (i == m->function_count)
+            break;
+        end += read32(at + 4);
+    }
+    return test_labels(m, starts);
+}
+
+__attribute__((noinline)) uint32_t test_old_sections(Module *m, uint8_t *translated) {
+    uint32_t refusal = test_records(m);
+    if (unlikely(refusal))
+        return refusal;
+    const uint8_t *at = m->functions;
+    for (uint32_t i = 0; i < m->function_count; i++, at += FUNCTION)
+        if (unlikely(read64(at + PARAMETER_TYPES) & 0x8080808080808080ull))
+            return LIMPETSKEIN_BAD_FUNCTION;
+    refusal = test_old_code(m, translated);
+    m->code = translated;
+    return refusal;
+}
+
 // ---- opening
 
-uint32_t open_module(const uint8_t *file, size_t length, Module *module, uint64_t *starts) {
+uint32_t open_module(const uint8_t *file, size_t length, Module *module, uint64_t *starts, uint8_t *translated) {
     if (unlikely(length < HEADER))
         return LIMPETSKEIN_TOO_SHORT;
-    if (unlikely(read32(file) != 3))
+    uint32_t edition = read32(file);
+    if (unlikely(edition != 3 && edition != 1))
         return LIMPETSKEIN_OTHER_EDITION;
     if (unlikely(read32(file + 4) != length))
         return LIMPETSKEIN_OTHER_LENGTH;
@@ -226,7 +291,7 @@ uint32_t open_module(const uint8_t *file, size_t length, Module *module, uint64_
                  (read32(file + 36) != code_at) | (code_at + code_length != length) | (entry_length > code_length)))
         return LIMPETSKEIN_NOT_PACKED;
     Module m = {file + HEADER, file + functions, file + labels, file + code_at, nc, nf, nl, code_length, entry_length};
-    uint32_t refusal = test_records_and_code(&m, starts);
+    uint32_t refusal = likely(edition == 3) ? test_records_and_code(&m, starts) : test_old_sections(&m, translated);
     if (unlikely(refusal))
         return refusal;
     *module = m;

@@ -18,9 +18,11 @@ static inline uint8_t *put(uint8_t *to, const uint8_t *from, size_t length) {
     return end;
 }
 
-uint32_t baseline_write(const uint8_t *constants, size_t constants_len, const uint8_t *functions, size_t functions_len,
-                        const uint8_t *labels, size_t labels_len, const uint8_t *code, size_t code_len,
+uint32_t baseline_write(uint32_t edition, const uint8_t *constants, size_t constants_len, const uint8_t *functions,
+                        size_t functions_len, const uint8_t *labels, size_t labels_len, const uint8_t *code, size_t code_len,
                         uint32_t entry_length, uint8_t *out, size_t out_len, uint64_t *written) {
+    if (unlikely(edition != 3 && edition != 1))
+        return LIMPETSKEIN_OTHER_EDITION;
     size_t nc = constants_len / CONSTANT, nf = functions_len / FUNCTION, nl = labels_len / LABEL;
     if (unlikely((nc > MOST_CONSTANTS) | (nf > MOST_FUNCTIONS) | (nl > LIMPETSKEIN_MOST_LABELS) |
                  (code_len > LONGEST_CODE)))
@@ -32,7 +34,8 @@ uint32_t baseline_write(const uint8_t *constants, size_t constants_len, const ui
     Module m = {constants,    functions,    labels,      code,        (uint32_t)nc,
                 (uint32_t)nf, (uint32_t)nl, code_length, entry_length};
     uint64_t starts[BITMAP];
-    uint32_t refusal = test_sections(&m, starts);
+    uint8_t translated[LONGEST_CODE];
+    uint32_t refusal = likely(edition == 3) ? test_sections(&m, starts) : test_old_sections(&m, translated);
     if (unlikely(refusal))
         return refusal;
     uint32_t functions_at = HEADER + (uint32_t)constants_len, labels_at = functions_at + (uint32_t)functions_len;
@@ -40,7 +43,7 @@ uint32_t baseline_write(const uint8_t *constants, size_t constants_len, const ui
     if (unlikely(out_len < length))
         return LIMPETSKEIN_OUTPUT_TOO_SHORT;
     const uint32_t header[HEADER / 4] = {
-        3, length, m.constant_count, HEADER, m.function_count, functions_at, m.label_count, labels_at, code_length,
+        edition, length, m.constant_count, HEADER, m.function_count, functions_at, m.label_count, labels_at, code_length,
         code_at, entry_length, 0};
     memcpy(out, header, HEADER);
     uint8_t *at = out + HEADER;
