@@ -31,6 +31,7 @@ extern "C" {
     ) -> u32;
 
     pub fn limpetskein_write(
+        edition: u32,
         constants: *const u8,
         constants_len: usize,
         functions: *const u8,
@@ -113,6 +114,7 @@ impl Subject for Library {
         // SAFETY: pointers and lengths are those of separate live buffers.
         unsafe {
             limpetskein_write(
+                memory.edition,
                 constants,
                 memory.constants.len(),
                 functions,

@@ -4,7 +4,8 @@
 //! `--writes`, writes in the same way; with `--formulas`, formula lines, and the check and the
 //! runs of what they are written as.
 //!
-//! `differential [--checks | --writes | --formulas] [--seed N] [--seconds N | --cases N] [--from N] [--most N]`
+//! `differential [--checks | --writes | --formulas] [--edition N] [--seed N]
+//! [--seconds N | --cases N] [--from N] [--most N]`
 
 mod checks;
 mod formulas;
@@ -15,7 +16,7 @@ mod rounds;
 mod writes;
 
 use library::{limpetskein_check, Library};
-use rounds::Comparison;
+use rounds::{is_old, Comparison};
 use second::args;
 use second::compare::compare;
 use second::gen::case::Case;
@@ -45,6 +46,7 @@ fn main() {
             make: Case::without_runs,
             compare: checks::differs,
             describe,
+            old: |case: &Case| is_old(&case.module),
         };
         rounds::run(&checks, before);
     } else {
@@ -54,6 +56,7 @@ fn main() {
             make: Case::new,
             compare: differs,
             describe,
+            old: |case: &Case| is_old(&case.module),
         };
         rounds::run(&all, u64::from(check) + u64::from(run));
     }
@@ -66,6 +69,7 @@ fn compare_writes() {
         make: WriteCase::new,
         compare: writes::differs,
         describe: |case: &WriteCase| (case.kind, case.describe()),
+        old: |case: &WriteCase| case.tables.edition == 1,
     };
     rounds::run(&writes, before);
 }
@@ -77,6 +81,7 @@ fn compare_formulas() {
         make: LineCase::new,
         compare: formulas::differs,
         describe: |case: &LineCase| (case.kind, case.describe()),
+        old: |_| false,
     };
     rounds::run(&formulas, before);
 }

@@ -13,6 +13,13 @@ pub struct Comparison<C> {
     pub compare: fn(&C, bool) -> (usize, Option<String>),
     /// The case's generator, and its bytes in words.
     pub describe: fn(&C) -> (&'static str, String),
+    /// Is the case's edition word 1?
+    pub old: fn(&C) -> bool,
+}
+
+/// Does the word of these bytes say edition 1?
+pub fn is_old(start: &[u8]) -> bool {
+    start.starts_with(&[1, 0, 0, 0])
 }
 
 /// Looks at the arguments, and names what crashes from here on.
@@ -21,6 +28,7 @@ pub fn start() {
         "--checks",
         "--writes",
         "--formulas",
+        "--edition",
         "--seed",
         "--cases",
         "--seconds",
@@ -38,15 +46,18 @@ pub fn start() {
 }
 
 /// Compares cases until time is up or enough differences are printed, and ends the process
-/// with status 1 if there is one. `before`: differences found before the first case.
+/// with status 1 if there is one. `--edition 1` takes cases of edition 1 alone, `--edition 3` all
+/// others. `before`: differences found before the first case.
 pub fn run<C>(comparison: &Comparison<C>, before: u64) {
     let seed = args::number("--seed", 1);
     let from = args::number("--from", 0);
     let cases = args::value("--cases").map(|_| args::number("--cases", 0));
     let seconds = args::number("--seconds", 60);
     let most = args::number("--most", 5);
+    let edition = args::number("--edition", 0);
     let start = Instant::now();
     let (mut number, mut calls, mut differences) = (from, 0, before);
+    let mut compared = 0u64;
     loop {
         let done = match cases {
             Some(cases) => number - from >= cases,
@@ -57,6 +68,12 @@ pub fn run<C>(comparison: &Comparison<C>, before: u64) {
         }
         guard::next(number);
         let case = (comparison.make)(seed, number);
+        number += 1;
+        if edition != 0 && (edition == 1) != (comparison.old)(&case) {
+            continue;
+        }
+        compared += 1;
+        let number = number - 1;
         // slices of length 0 are lent as null pointers in every other case
         let (made, difference) = (comparison.compare)(&case, number % 2 == 1);
         calls += made;
@@ -64,12 +81,14 @@ pub fn run<C>(comparison: &Comparison<C>, before: u64) {
             print(comparison, seed, number, &case, &difference);
             differences += 1;
         }
-        number += 1;
     }
+    let which = match edition {
+        0 => String::new(),
+        edition => format!(" of edition {edition}"),
+    };
     println!(
-        "{}: {} cases from seed {seed}, {calls} calls, {differences} differences",
+        "{}: {compared} cases{which} from seed {seed}, {calls} calls, {differences} differences",
         comparison.subject,
-        number - from
     );
     if differences > 0 {
         std::process::exit(1);

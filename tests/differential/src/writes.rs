@@ -101,6 +101,7 @@ fn write_w1(lengths: [usize; 4], out_len: usize, start: *mut u8) -> (u32, u64) {
     // SAFETY: pointers and lengths are those of separate live buffers.
     let answer = unsafe {
         limpetskein_write(
+            w1.edition,
             pointer(0),
             lengths[0],
             pointer(1),

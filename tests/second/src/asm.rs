@@ -2,13 +2,14 @@
 //!
 //! Statements are separated by semicolons or line ends, and end with a colon:
 //!
+//! * `edition 1`: the module is of this edition (first, else it is of edition 3);
 //! * `int 7`, `long -1`, `double 1.5`, `double #7FF0000000000001`: the next constant;
 //! * `entry:`, `function int (int, *long):` (return type `void`, `int`, `long`, `double`):
 //!   what follows is this body;
 //! * `@0`: label 0 is here (at the next instruction);
 //! * `push 0`, `add`, ...: instructions, operands in decimal.
 
-use crate::opcode::Op;
+use crate::opcode::{Edition, Op};
 use crate::program::{Constant, Instr, Mark, Program, Routine};
 use crate::reader::ENTRY;
 use crate::types::{DOUBLE, INT, LONG, POINTER_TO};
@@ -52,6 +53,9 @@ impl Asm {
         let (word, rest) = text.split_once(' ').unwrap_or((text, ""));
         if let Some(number) = word.strip_prefix('@') {
             self.label(number.parse().expect("label number"));
+        } else if word == "edition" {
+            assert_eq!(rest.trim(), "1", "edition 1");
+            self.program.edition = Edition::One;
         } else if word == "entry:" {
             assert!(self.program.functions.is_empty(), "the entry comes first");
         } else if word == "function" {
@@ -70,6 +74,8 @@ impl Asm {
                 assert!(rest.is_empty(), "no operand: {text}");
                 0
             };
+            let edition = self.program.edition;
+            assert!(op.byte(edition).is_some(), "not of {edition:?}: {text}");
             let owner = self.owner();
             self.program.body_mut(owner).push(Instr { op, operand });
         }

@@ -65,7 +65,8 @@ pub fn compare_writes(
     }
     let out = case.out.len();
     Some(format!(
-        "write to {out} bytes: answers {answer_a} and {answer_b}{}",
+        "write of edition {} to {out} bytes: answers {answer_a} and {answer_b}{}",
+        case.tables.edition,
         write_difference(&memory_a, &memory_b)
     ))
 }

@@ -8,7 +8,7 @@ use crate::gen::case::{Case, RunCall};
 use crate::gen::lines::LineCase;
 use crate::gen::tables::WriteCase;
 use crate::machine::{Machine, Watch};
-use crate::opcode::Op;
+use crate::opcode::{Edition, Op};
 use crate::rules::Rules;
 use crate::subject::{checked_number, Second, Subject};
 use crate::types::POINTER;
@@ -19,9 +19,10 @@ type Counts<K> = BTreeMap<K, u64>;
 
 #[derive(Default)]
 pub struct Coverage {
-    pub checks: Counts<u32>,
-    pub runs: Counts<u32>,
-    pub writes: Counts<u32>,
+    /// By edition: 1, or else 3.
+    pub checks: Counts<(Edition, u32)>,
+    pub runs: Counts<(Edition, u32)>,
+    pub writes: Counts<(Edition, u32)>,
     pub formulas: Counts<u32>,
     pub line_edges: Counts<&'static str>,
     /// Lines by generator: all, and accepted ones.
@@ -30,9 +31,9 @@ pub struct Coverage {
     /// Lines that `formula` and `split` read differently, or whose module does otherwise.
     pub misread: u64,
     /// By opcode and variant, as in `possible::executions`.
-    pub executed: Counts<(Op, u8)>,
-    pub raised: Counts<(Op, u32)>,
-    pub reasons: Counts<Reason>,
+    pub executed: Counts<(Edition, Op, u8)>,
+    pub raised: Counts<(Edition, Op, u32)>,
+    pub reasons: Counts<(Edition, Reason)>,
     /// Arguments that didn't fit (20 without an instruction).
     pub misfits: u64,
     /// Modules by generator: all, and accepted ones.
@@ -47,6 +48,14 @@ pub struct Coverage {
     raises: u64,
 }
 
+/// The edition by a file's first word.
+fn edition_of(file: &[u8]) -> Edition {
+    match file {
+        [1, 0, 0, 0, ..] => Edition::One,
+        _ => Edition::Three,
+    }
+}
+
 fn count<K: Ord>(counts: &mut Counts<K>, key: K) {
     *counts.entry(key).or_insert(0) += 1;
 }
@@ -56,9 +65,10 @@ impl Coverage {
         let second = Second(Rules::PLAIN);
         let mut memory = case.check_memory();
         let checked = second.checked(&mut memory);
-        count(&mut self.checks, checked_number(checked, &mut 0));
+        let edition = edition_of(&case.module);
+        count(&mut self.checks, (edition, checked_number(checked, &mut 0)));
         if let Checked::NoTyping { reason, .. } = checked {
-            count(&mut self.reasons, reason);
+            count(&mut self.reasons, (edition, reason));
         }
         count(&mut self.kinds, case.kind);
         let accepted = matches!(checked, Checked::Accepted)
@@ -74,7 +84,8 @@ impl Coverage {
 
     pub fn add_write(&mut self, case: &WriteCase) {
         let answer = Second(Rules::PLAIN).write(&mut case.memory());
-        count(&mut self.writes, answer);
+        let edition = edition_of(&case.tables.edition.to_le_bytes());
+        count(&mut self.writes, (edition, answer));
     }
 
     pub fn add_line(&mut self, case: &LineCase) {
@@ -102,7 +113,7 @@ impl Coverage {
         self.raises = 0;
         let second = Second(Rules::PLAIN);
         let answer = second.run_watched(run.function, run.allowance, &mut memory, self);
-        count(&mut self.runs, answer);
+        count(&mut self.runs, (edition_of(&case.module), answer));
         self.misfits += u64::from(answer == 20 && self.raises == 0);
         if accepted {
             let mut claims = Claims::default();
@@ -166,12 +177,13 @@ impl Watch for Coverage {
         let top = machine.stack.last().copied();
         let place = machine.place;
         self.variant = match op {
-            Op::Inc | Op::Dec => top
+            Op::Inc | Op::Dec if machine.module.edition == Edition::Three => top
                 .filter(|slot| slot.ty == POINTER)
                 .and_then(|slot| machine.stack.get(slot.payload as usize))
                 .map_or(0, |slot| slot.ty),
             Op::Lea => {
-                let n = machine.module.instruction(place).map_or(0, |at| at.operand);
+                let at = machine.module.instruction(Rules::PLAIN, place);
+                let n = at.map_or(0, |at| at.operand);
                 let slot = machine.frame().locals.get(n as usize);
                 slot.map_or(0, |&slot| machine.stack[slot].ty)
             }
@@ -182,13 +194,15 @@ impl Watch for Coverage {
             Op::Jmp | Op::Call => 0,
             _ => top.map_or(0, |slot| slot.ty),
         };
-        self.next = machine.module.instruction(place).map_or(0, |at| at.next);
+        let at = machine.module.instruction(Rules::PLAIN, place);
+        self.next = at.map_or(0, |at| at.next);
     }
 
     fn after(&mut self, machine: &Machine<'_>, op: Op, raised: Option<u32>) {
+        let edition = machine.module.edition;
         if let Some(number) = raised {
             self.raises += 1;
-            return count(&mut self.raised, (op, number));
+            return count(&mut self.raised, (edition, op, number));
         }
         let top = machine.stack.last().map_or(0, |slot| slot.ty);
         let variant = match op {
@@ -196,6 +210,6 @@ impl Watch for Coverage {
             op if op.is_conditional() => u8::from(machine.place != self.next),
             _ => self.variant,
         };
-        count(&mut self.executed, (op, variant));
+        count(&mut self.executed, (edition, op, variant));
     }
 }

@@ -4,7 +4,7 @@
 //! live, raises at most 20 or 24, "same type" meaning the same of six, for call arguments
 //! too". "Demand 3's ends and the typing rule gain" 35, document 02's A2.
 
-use crate::opcode::Op;
+use crate::opcode::{Edition, Op};
 use crate::reader::{Instruction, Module, ENTRY};
 use crate::rules::{Fault, Rules};
 use crate::types::{is_number, pointee, run_time, DOUBLE, INT, LONG, POINTER_TO};
@@ -40,6 +40,7 @@ impl Judge<'_> {
             Op::Push | Op::Pop | Op::Load | Op::Store | Op::Lea | Op::Copy | Op::Swap => {
                 self.stack(at, &mut lists)?;
             }
+            Op::Inc | Op::Dec if self.on_top() => self.by_one(&mut lists)?,
             Op::Tload | Op::Tstore | Op::Inc | Op::Dec => through(at.op, &mut lists)?,
             Op::Neg | Op::Not | Op::Toi | Op::Tol | Op::Tod => unary(at.op, &mut lists)?,
             Op::Jmp | Op::Call | Op::Ret => next = self.flow(at, &mut lists)?,
@@ -47,6 +48,22 @@ impl Judge<'_> {
             op => self.binary(op, &mut lists)?,
         }
         Ok(Left { lists, next })
+    }
+
+    /// Edition 1: "There `inc` and `dec` change the top value itself."
+    fn on_top(&self) -> bool {
+        self.module.edition == Edition::One && !self.rules.wrong(Fault::OldIncThroughPointer)
+    }
+
+    /// `inc` and `dec` on the top value: any of the three types, which stays.
+    fn by_one(&self, lists: &mut Lists) -> Result<(), u32> {
+        let top = take(lists, 1)?[0];
+        raise(!is_number(top), 32)?;
+        raise(top == DOUBLE && self.rules.wrong(Fault::OldIncOfDouble), 34)?;
+        if !self.rules.wrong(Fault::OldIncPops) {
+            lists.operands.push(top);
+        }
+        Ok(())
     }
 
     /// "same type" meaning the same of six

@@ -6,6 +6,7 @@
 //! * The rules: `reader`, `writer`, `check` (with `worklist` and `judge`), `run` (with
 //!   `machine`, `step`, `integer`, `double`, `convert`), `formula`, `show` for the small program's
 //!   output, `desk` for the desk's commands.
+//! * `opcode`: the editions and their opcode numbers; all else is shared.
 //! * `rules`: the deliberately wrong variants that test the tests.
 //! * The tools: `program` and `asm` write modules, `gen` makes cases, `memory`, `subject` and
 //!   `compare` run two programs side by side, `coverage` counts what the cases reach,

@@ -124,7 +124,7 @@ impl<'m> Machine<'m> {
         if self.steps == allowance {
             return Some(15);
         }
-        let Some(at) = self.module.instruction(self.place) else {
+        let Some(at) = self.module.instruction(self.rules, self.place) else {
             // only a wrong variant leaves its body
             return Some(29);
         };

@@ -75,6 +75,7 @@ pub struct RunMemory {
 /// Everything lent to a write, its number, and its out-parameter.
 #[derive(Clone, Debug, PartialEq, Eq)]
 pub struct WriteMemory {
+    pub edition: u32,
     pub constants: Lent,
     pub functions: Lent,
     pub labels: Lent,

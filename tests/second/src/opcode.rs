@@ -1,4 +1,42 @@
-//! The 42 opcodes: "opcodes 01 to 05, 07 to 28, 2B, 2C, 2E (hex), 42 in all".
+//! Editions and their opcodes. Edition 3: "opcodes 01 to 05, 07 to 28, 2B, 2C, 2E (hex), 42 in
+//! all". Edition 1: "source document 003's 0.1.0 numbers, 01 to 25 (hex)", 37 in all.
+
+use crate::rules::{Fault, Rules};
+
+/// "Edition word 1 now means source document 003's 0.1.0 numbers".
+#[derive(Clone, Copy, Debug, Default, PartialEq, Eq, PartialOrd, Ord, Hash)]
+pub enum Edition {
+    One,
+    #[default]
+    Three,
+}
+
+pub const EDITIONS: [Edition; 2] = [Edition::One, Edition::Three];
+
+impl Edition {
+    /// The edition of a word, or nothing: "neither 1 nor 3".
+    pub fn from_word(rules: Rules, word: u32) -> Option<Edition> {
+        match word {
+            1 if !rules.wrong(Fault::EditionOneRefused) => Some(Edition::One),
+            3 => Some(Edition::Three),
+            2 if rules.wrong(Fault::EditionTwoTaken) => Some(Edition::Three),
+            _ => None,
+        }
+    }
+
+    pub fn word(self) -> u32 {
+        match self {
+            Edition::One => 1,
+            Edition::Three => 3,
+        }
+    }
+
+    /// The edition's opcodes.
+    pub fn ops(self) -> Vec<Op> {
+        let all = ALL.iter().map(|&(op, _)| op);
+        all.filter(|op| op.byte(self).is_some()).collect()
+    }
+}
 
 #[derive(Clone, Copy, Debug, PartialEq, Eq, PartialOrd, Ord, Hash)]
 #[repr(u8)]
@@ -94,9 +132,55 @@ pub const ALL: [(Op, &str); 42] = [
     (Op::Tod, "tod"),
 ];
 
+/// 003's numbers of version 0.1.0, from 01 on. It gives `top` the number 26 (hex), though that
+/// is of 0.2.0: "01 to 25 (hex)".
+pub const OLD: [Op; 37] = [
+    Op::Push,
+    Op::Pop,
+    Op::Load,
+    Op::Store,
+    Op::Add,
+    Op::Sub,
+    Op::Mul,
+    Op::Imul,
+    Op::Div,
+    Op::Idiv,
+    Op::Mod,
+    Op::Imod,
+    Op::Neg,
+    Op::Inc,
+    Op::Dec,
+    Op::And,
+    Op::Or,
+    Op::Xor,
+    Op::Not,
+    Op::Shl,
+    Op::Sal,
+    Op::Shr,
+    Op::Sar,
+    Op::Cmp,
+    Op::Icmp,
+    Op::Jmp,
+    Op::Je,
+    // 003's second entry `je`, as in edition 3
+    Op::Jne,
+    Op::Ja,
+    Op::Jae,
+    Op::Jb,
+    Op::Jbe,
+    Op::Call,
+    Op::Ret,
+    Op::Toi,
+    Op::Tol,
+    Op::Tod,
+];
+
 impl Op {
     /// The opcode of a byte, or nothing for "an unknown opcode".
-    pub fn from_byte(byte: u8) -> Option<Op> {
+    pub fn from_byte(rules: Rules, edition: Edition, byte: u8) -> Option<Op> {
+        if edition == Edition::One && !rules.wrong(Fault::NewNumbersInOne) {
+            return Op::from_old_byte(rules, byte);
+        }
         let index = match byte {
             0x01..=0x05 => byte - 0x01,
             0x07..=0x28 => byte - 0x07 + 5,
@@ -105,6 +189,23 @@ impl Op {
             _ => return None,
         };
         Some(ALL[index as usize].0)
+    }
+
+    fn from_old_byte(rules: Rules, byte: u8) -> Option<Op> {
+        match byte {
+            0x26 if rules.wrong(Fault::TopTaken) => Some(Op::Tod),
+            0x1C if rules.wrong(Fault::OldJneIsJe) => Some(Op::Je),
+            0 => None,
+            _ => OLD.get(usize::from(byte) - 1).copied(),
+        }
+    }
+
+    /// The opcode's byte in an edition that has it.
+    pub fn byte(self, edition: Edition) -> Option<u8> {
+        match edition {
+            Edition::Three => Some(self as u8),
+            Edition::One => OLD.iter().position(|&op| op == self).map(|n| n as u8 + 1),
+        }
     }
 
     /// The opcode of a mnemonic.
@@ -135,7 +236,7 @@ impl Op {
         matches!(self, Op::Je | Op::Jne | Op::Ja | Op::Jae | Op::Jb | Op::Jbe)
     }
 
-    /// 003: an instruction is 1 byte, with its operand 5.
+    /// 003: an instruction is 1 byte, with its operand 5; the same in both editions.
     pub fn size(self) -> usize {
         if self.has_operand() {
             5

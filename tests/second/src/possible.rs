@@ -1,14 +1,26 @@
 //! What the paper makes possible: every exception of every opcode, every type an opcode can
 //! work on, every reason for a body to have no typing.
 
-use crate::opcode::{Op, ALL};
+use crate::opcode::{Edition, Op};
 use crate::types::{DOUBLE, INT, LONG, POINTER};
 use crate::worklist::Reason;
 
 const SUMS: [Op; 6] = [Op::Add, Op::Sub, Op::Mul, Op::Imul, Op::Div, Op::Idiv];
 
-/// The exceptions that an instruction can raise in a run, in the paper's order.
-pub fn exceptions(op: Op) -> &'static [u32] {
+/// The exceptions that an instruction can raise in a run of this edition, in the paper's order.
+/// In edition 1 no pointer can arise, and `inc` and `dec` work on the top.
+pub fn exceptions(edition: Edition, op: Op) -> Vec<u32> {
+    match (edition, op) {
+        (Edition::One, Op::Inc | Op::Dec) => vec![21],
+        (Edition::One, op) => {
+            let numbers = new_exceptions(op).iter().copied();
+            numbers.filter(|n| ![31, 32, 33].contains(n)).collect()
+        }
+        (Edition::Three, op) => new_exceptions(op).to_vec(),
+    }
+}
+
+fn new_exceptions(op: Op) -> &'static [u32] {
     match op {
         Op::Push => &[23, 20],
         Op::Pop => &[21],
@@ -36,8 +48,8 @@ pub fn exceptions(op: Op) -> &'static [u32] {
 /// The exceptions that leave a body without typing: those of a run other than 20, 24 and 35,
 /// other than 33 ("every pointer taken as live") and than 32 for `inc` and `dec` (no pointer
 /// points to a pointer); and `lea` of a local that holds no number, shown as 32.
-pub fn typing_exceptions(op: Op) -> Vec<u32> {
-    let mut numbers: Vec<u32> = exceptions(op).to_vec();
+pub fn typing_exceptions(edition: Edition, op: Op) -> Vec<u32> {
+    let mut numbers: Vec<u32> = exceptions(edition, op);
     numbers.retain(|number| ![20, 24, 33, 35].contains(number));
     match op {
         Op::Inc | Op::Dec => numbers.retain(|&number| number != 32),
@@ -48,10 +60,10 @@ pub fn typing_exceptions(op: Op) -> Vec<u32> {
 }
 
 /// All reasons for a body to have no typing.
-pub fn reasons() -> Vec<Reason> {
+pub fn reasons(edition: Edition) -> Vec<Reason> {
     let mut reasons = vec![Reason::Differ, Reason::TooLong, Reason::FunctionEnd];
-    for (op, _) in ALL {
-        let numbers = typing_exceptions(op);
+    for op in edition.ops() {
+        let numbers = typing_exceptions(edition, op);
         reasons.extend(numbers.into_iter().map(|number| Reason::Raises(op, number)));
     }
     reasons
@@ -59,7 +71,13 @@ pub fn reasons() -> Vec<Reason> {
 
 /// The variants in which an instruction can be executed: for most the type that it works on;
 /// for a conditional branch 1 if taken and 0 if not; for `ret` the return type.
-pub fn executions(op: Op) -> &'static [u8] {
+pub fn executions(edition: Edition, op: Op) -> Vec<u8> {
+    let types = new_executions(op).iter().copied();
+    let pointers = edition == Edition::Three;
+    types.filter(|&ty| pointers || ty != POINTER).collect()
+}
+
+fn new_executions(op: Op) -> &'static [u8] {
     match op {
         Op::Push | Op::Neg | Op::Toi | Op::Tol | Op::Tod | Op::Inc | Op::Dec => {
             &[INT, LONG, DOUBLE]
@@ -80,7 +98,13 @@ pub fn executions(op: Op) -> &'static [u8] {
 pub const CHECK_ANSWERS: [u32; 12] = [0, 1, 2, 3, 4, 5, 6, 7, 8, 9, 10, 11];
 
 /// The answers that a write can give.
-pub const WRITE_ANSWERS: [u32; 8] = [0, 4, 5, 6, 7, 8, 9, 16];
+pub const WRITE_ANSWERS: [u32; 9] = [0, 2, 4, 5, 6, 7, 8, 9, 16];
+
+/// Can this answer be given where the edition word is 1? (Those of the others are counted as
+/// edition 3's.)
+pub fn old_answer(number: u32) -> bool {
+    ![2, 31, 32, 33].contains(&number)
+}
 
 /// The answers that a formula can give.
 pub const FORMULA_ANSWERS: [u32; 6] = [0, 16, 40, 41, 42, 43];

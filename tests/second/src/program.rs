@@ -1,7 +1,8 @@
 //! A module in parts that can be changed and written as a file.
 
-use crate::opcode::Op;
+use crate::opcode::{Edition, Op};
 use crate::reader::{CONSTANT, ENTRY, FUNCTION, HEADER, LABEL};
+use crate::types::is_number;
 
 #[derive(Clone, Copy, Debug, PartialEq, Eq)]
 pub struct Constant {
@@ -33,6 +34,7 @@ pub struct Mark {
 
 #[derive(Clone, Debug, Default, PartialEq, Eq)]
 pub struct Program {
+    pub edition: Edition,
     pub constants: Vec<Constant>,
     pub entry: Vec<Instr>,
     pub functions: Vec<Routine>,
@@ -83,6 +85,15 @@ impl Program {
         self.start(mark.owner) + size(&code[..mark.index.min(code.len())])
     }
 
+    /// Has the edition all opcodes and parameter types of the program?
+    pub fn fits(&self, edition: Edition) -> bool {
+        let bodies = self.owners();
+        let mut code = bodies.iter().flat_map(|&owner| self.body(owner));
+        let mut parameters = self.functions.iter().flat_map(|f| &f.parameters);
+        code.all(|instr| instr.op.byte(edition).is_some())
+            && (edition == Edition::Three || parameters.all(|&ty| is_number(ty)))
+    }
+
     /// The module file.
     pub fn file(&self) -> Vec<u8> {
         let mut bytes = Vec::new();
@@ -100,9 +111,9 @@ impl Program {
             put(&mut bytes, mark.owner as usize);
             put(&mut bytes, self.place(mark));
         }
-        put_code(&mut bytes, &self.entry);
+        put_code(&mut bytes, self.edition, &self.entry);
         for function in &self.functions {
-            put_code(&mut bytes, &function.code);
+            put_code(&mut bytes, self.edition, &function.code);
         }
         bytes
     }
@@ -113,7 +124,7 @@ impl Program {
         let functions_at = HEADER + CONSTANT * self.constants.len();
         let labels_at = functions_at + FUNCTION * self.functions.len();
         let code_at = labels_at + LABEL * self.labels.len();
-        put(bytes, 3);
+        put(bytes, self.edition.word() as usize);
         put(bytes, code_at + code);
         for (count, offset) in [
             (self.constants.len(), HEADER),
@@ -139,9 +150,10 @@ fn put_function(bytes: &mut Vec<u8>, function: &Routine, start: usize) {
     bytes.extend([0, 0]);
 }
 
-fn put_code(bytes: &mut Vec<u8>, code: &[Instr]) {
+/// An opcode that the edition lacks becomes a byte that is no opcode of it.
+fn put_code(bytes: &mut Vec<u8>, edition: Edition, code: &[Instr]) {
     for instr in code {
-        bytes.push(instr.op as u8);
+        bytes.push(instr.op.byte(edition).unwrap_or(0x26));
         if instr.op.has_operand() {
             bytes.extend(instr.operand.to_le_bytes());
         }

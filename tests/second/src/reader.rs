@@ -1,6 +1,6 @@
 //! The reader: answers 1 to 9, and the view of a module that can be read.
 
-use crate::opcode::Op;
+use crate::opcode::{Edition, Op};
 use crate::rules::{Fault, Rules};
 use crate::types::{is_number, pointee, INT};
 use crate::words::{payload, word};
@@ -28,6 +28,7 @@ pub const LONGEST: usize = HEADER
 #[derive(Clone, Copy, Debug)]
 pub struct Module<'a> {
     file: &'a [u8],
+    pub edition: Edition,
     pub constants: u32,
     pub functions: u32,
     pub labels: u32,
@@ -58,16 +59,15 @@ pub fn read(rules: Rules, file: &[u8]) -> Result<Module<'_>, u32> {
     if file.len() < HEADER {
         return Err(1);
     }
-    // 2: "edition is not 3"
-    if word(file, 0) != 3 {
-        return Err(2);
-    }
+    // 2: "2 ... means neither 1 nor 3"
+    let edition = Edition::from_word(rules, word(file, 0)).ok_or(2u32)?;
     // 3: "total length word differs from the lent length"
     if u64::from(word(file, 4)) != file.len() as u64 {
         return Err(3);
     }
     let module = Module {
         file,
+        edition,
         constants: word(file, 8),
         functions: word(file, 16),
         labels: word(file, 24),
@@ -84,7 +84,7 @@ pub fn read(rules: Rules, file: &[u8]) -> Result<Module<'_>, u32> {
     if rules.wrong(Fault::LabelsBeforeCode) {
         module.label_records(rules)?;
     }
-    module.bodies_cut()?;
+    module.bodies_cut(rules)?;
     module.label_records(rules)?;
     Ok(module)
 }
@@ -165,7 +165,9 @@ impl<'a> Module<'a> {
         // "eight parameter type bytes (3, 4, 6, or 83, 84, 86 hex for pointer to one; unused
         // are 0), two zero bytes"
         let (used, unused) = record[10..18].split_at(count);
-        let known = |&ty: &u8| is_number(ty) || pointee(ty).is_some();
+        // edition 1: "No pointer types in signatures (7)."
+        let pointers = self.edition == Edition::Three || rules.wrong(Fault::PointerParameterTaken);
+        let known = |&ty: &u8| is_number(ty) || pointers && pointee(ty).is_some();
         refuse(!used.iter().all(known), 7)?;
         if !rules.wrong(Fault::UnusedParameterBytes) {
             refuse(unused.iter().any(|&byte| byte != 0), 7)?;
@@ -175,9 +177,9 @@ impl<'a> Module<'a> {
     }
 
     /// 8: "an unknown opcode, or an instruction crossing its body's end"
-    fn bodies_cut(&self) -> Result<(), u32> {
+    fn bodies_cut(&self, rules: Rules) -> Result<(), u32> {
         for body in self.bodies() {
-            refuse(!self.starts(body).1, 8)?;
+            refuse(!self.starts(rules, body).1, 8)?;
         }
         Ok(())
     }
@@ -188,7 +190,7 @@ impl<'a> Module<'a> {
             let at = self.labels_at() + LABEL * n as usize;
             let (owner, place) = (word(self.file, at), word(self.file, at + 4) as usize);
             refuse(owner != ENTRY && owner >= self.functions, 9)?;
-            let mut places = self.starts(owner).0;
+            let mut places = self.starts(rules, owner).0;
             if rules.wrong(Fault::LabelOnBodyEnd) {
                 places.push(self.range(owner).end);
             }
@@ -203,7 +205,7 @@ impl<'a> Module<'a> {
         for n in 0..self.functions {
             end = self.function_record(rules, n, end)?;
             refuse(end > u64::from(self.code_length), 7)?;
-            refuse(!self.starts(n).1, 8)?;
+            refuse(!self.starts(rules, n).1, 8)?;
         }
         Ok(())
     }
@@ -226,21 +228,31 @@ impl<'a> Module<'a> {
 
     /// The instruction starts of a body, cut from its own start; and whether the cutting came
     /// out at the body's end.
-    pub fn starts(&self, body: u32) -> (Vec<usize>, bool) {
+    pub fn starts(&self, rules: Rules, body: u32) -> (Vec<usize>, bool) {
         let range = self.range(body);
         let mut starts = Vec::new();
         let mut place = range.start;
         while place < range.end {
-            let Some(op) = Op::from_byte(self.code()[place]) else {
+            let Some(op) = Op::from_byte(rules, self.edition, self.code()[place]) else {
                 return (starts, false);
             };
-            if place + op.size() > range.end {
+            let size = self.size(rules, op);
+            if place + size > range.end {
                 return (starts, false);
             }
             starts.push(place);
-            place += op.size();
+            place += size;
         }
         (starts, true)
+    }
+
+    /// Wrong on purpose in one variant: else the opcode's own.
+    fn size(&self, rules: Rules, op: Op) -> usize {
+        let old_ret = op == Op::Ret && self.edition == Edition::One;
+        if old_ret && rules.wrong(Fault::OldRetOperand) {
+            return 5;
+        }
+        op.size()
     }
 
     fn code(&self) -> &'a [u8] {
@@ -260,14 +272,14 @@ impl<'a> Module<'a> {
     }
 
     /// The instruction at an instruction start.
-    pub fn instruction(&self, place: usize) -> Option<Instruction> {
-        let op = Op::from_byte(*self.code().get(place)?)?;
+    pub fn instruction(&self, rules: Rules, place: usize) -> Option<Instruction> {
+        let op = Op::from_byte(rules, self.edition, *self.code().get(place)?)?;
         let operand = if op.has_operand() {
             word(self.code(), place + 1)
         } else {
             0
         };
-        let next = place + op.size();
+        let next = place + self.size(rules, op);
         Some(Instruction { op, operand, next })
     }
 

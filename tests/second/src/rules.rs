@@ -85,6 +85,21 @@ pub enum Fault {
     LabelsUntested,
     TypingAsked,
     LengthOfOutput,
+    EditionOneRefused,
+    EditionTwoTaken,
+    NewNumbersInOne,
+    TopTaken,
+    OldJneIsJe,
+    OldRetOperand,
+    PointerParameterTaken,
+    OldIncThroughPointer,
+    OldIncPops,
+    OldIncOfLocal,
+    OldIncOfDouble,
+    OldNanCompares,
+    WritesThree,
+    WritesTwo,
+    EditionLast,
     GrammarBeforeLength,
     SpacesUncounted,
     LengthAtMost255,
@@ -121,7 +136,7 @@ pub enum Fault {
 }
 
 /// The wrong variants of reader, check and run, each with its name and what is wrong.
-pub const FAULTS: [(Fault, &str, &str); 64] = [
+pub const FAULTS: [(Fault, &str, &str); 76] = [
     (
         Fault::BranchKeepsValue,
         "branch-keeps-value",
@@ -430,10 +445,70 @@ pub const FAULTS: [(Fault, &str, &str); 64] = [
         "jae-signed",
         "jae jumps on every int that is not negative",
     ),
+    (
+        Fault::EditionOneRefused,
+        "edition-1-refused",
+        "edition 1 is 2",
+    ),
+    (
+        Fault::EditionTwoTaken,
+        "edition-2-taken",
+        "edition 2 is taken for 3",
+    ),
+    (
+        Fault::NewNumbersInOne,
+        "new-numbers-in-1",
+        "edition 1 has edition 3's opcode numbers",
+    ),
+    (
+        Fault::TopTaken,
+        "26-taken",
+        "opcode 26 of edition 1 is taken",
+    ),
+    (
+        Fault::OldJneIsJe,
+        "1c-is-je",
+        "opcode 1C of edition 1 is je",
+    ),
+    (
+        Fault::OldRetOperand,
+        "old-ret-operand",
+        "ret of edition 1 has an operand",
+    ),
+    (
+        Fault::PointerParameterTaken,
+        "pointer-parameter-taken",
+        "a pointer parameter of edition 1 is taken",
+    ),
+    (
+        Fault::OldIncThroughPointer,
+        "old-inc-through-pointer",
+        "inc and dec of edition 1 work through a pointer",
+    ),
+    (
+        Fault::OldIncPops,
+        "old-inc-pops",
+        "inc and dec of edition 1 remove the value",
+    ),
+    (
+        Fault::OldIncOfLocal,
+        "old-inc-of-local",
+        "inc of edition 1 takes a bound local on top",
+    ),
+    (
+        Fault::OldIncOfDouble,
+        "old-inc-of-double",
+        "inc of a double is 34 in edition 1",
+    ),
+    (
+        Fault::OldNanCompares,
+        "old-nan-compares",
+        "comparison with a NaN gives -1 in edition 1",
+    ),
 ];
 
 /// The wrong variants of the writer.
-pub const WRITER_FAULTS: [(Fault, &str, &str); 16] = [
+pub const WRITER_FAULTS: [(Fault, &str, &str); 19] = [
     (
         Fault::LimitByBytes,
         "limit-by-bytes",
@@ -513,6 +588,21 @@ pub const WRITER_FAULTS: [(Fault, &str, &str); 16] = [
         Fault::LengthOfOutput,
         "length-of-output",
         "the output's length is given",
+    ),
+    (
+        Fault::WritesThree,
+        "writes-3",
+        "edition 3 is written whatever was asked",
+    ),
+    (
+        Fault::WritesTwo,
+        "writes-edition-2",
+        "another edition is written as asked",
+    ),
+    (
+        Fault::EditionLast,
+        "2-last",
+        "another edition after the tables' refusals",
     ),
 ];
 

@@ -20,6 +20,8 @@ enum Source {
     Patched(&'static str, usize, &'static [u8]),
     /// Assembled, then cut to a length.
     Cut(&'static str, usize),
+    /// Another sample's text, assembled in edition 1.
+    Again(&'static str),
 }
 
 impl Sample {
@@ -36,6 +38,13 @@ impl Sample {
                 let mut file = asm::file(text);
                 file.truncate(len);
                 file
+            }
+            Source::Again(name) => {
+                let other = all().find(|sample| sample.name == name);
+                match other.map(|sample| &sample.source) {
+                    Some(Source::Text(text)) => asm::file(&format!("edition 1; {text}")),
+                    _ => panic!("{name} has no text"),
+                }
             }
         }
     }
@@ -616,6 +625,164 @@ pub const REFUSED: [Sample; 12] = [
     },
 ];
 
+const fn again(name: &'static str, shows: &'static str, other: &'static str) -> Sample {
+    let source = Source::Again(other);
+    Sample {
+        name,
+        shows,
+        source,
+    }
+}
+
+/// Recipes of edition 1. Those made of another sample's text print what that sample prints.
+pub const OLD: [Sample; 31] = [
+    Sample {
+        name: "old-w01",
+        shows: "W1 in edition 1, the whole file: add is 05",
+        source: Source::Hex(
+            "01000000 53000000 02000000 30000000 00000000 48000000 00000000 48000000 \
+             0B000000 48000000 0B000000 00000000 03000000 07000000 00000000 03000000 05000000 \
+             00000000 0100000000 0101000000 05",
+        ),
+    },
+    again("old-w02", "the recipe of w02: sums wrap", "w02"),
+    again("old-w03", "the recipe of w03: long lowest idiv -1", "w03"),
+    again("old-w04", "the recipe of w04: exception 24", "w04"),
+    again("old-w05-cmp", "the recipe of w05-cmp", "w05-cmp"),
+    again("old-w06-sar", "the recipe of w06-sar", "w06-sar"),
+    again(
+        "old-w07-too-large",
+        "the recipe of w07-too-large",
+        "w07-too-large",
+    ),
+    again("old-w08", "the recipe of w08: tod", "w08"),
+    again("old-w11-jae", "the recipe of w11-jae", "w11-jae"),
+    again(
+        "old-w12-growing",
+        "the recipe of w12-growing: 11",
+        "w12-growing",
+    ),
+    again(
+        "old-fibonacci",
+        "the recipe of fibonacci: call and ret",
+        "fibonacci",
+    ),
+    again("old-gcd", "the recipe of gcd: a loop, remainders", "gcd"),
+    again("old-shifts", "the recipe of shifts", "shifts"),
+    again("old-remainders", "the recipe of remainders", "remainders"),
+    again("old-toi-edges", "the recipe of toi-edges", "toi-edges"),
+    again("old-tol-edges", "the recipe of tol-edges", "tol-edges"),
+    again(
+        "old-double-compare",
+        "the recipe of double-compare",
+        "double-compare",
+    ),
+    again(
+        "old-nan-branch",
+        "the recipe of nan-branch: exception 35 in edition 1 too",
+        "nan-branch",
+    ),
+    again(
+        "old-frames-65",
+        "the recipe of frames-65: exception 20",
+        "frames-65",
+    ),
+    again(
+        "old-join-differs",
+        "the recipe of join-differs: 11",
+        "join-differs",
+    ),
+    text(
+        "old-inc",
+        "inc and dec change the top value itself, which stays",
+        "edition 1; int 4294967295; long 0; double 0.5
+         entry: push 0; inc; push 1; dec; push 2; inc; push 2; dec",
+    ),
+    text(
+        "old-inc-double",
+        "inc of 2^53 rounds once; of a NaN it gives 7FF8000000000000; of -1.0 it gives 0.0",
+        "edition 1; double 9007199254740992.0; double #FFF00000DEADBEEF; double -1.0
+         entry: push 0; inc; push 1; dec; push 2; inc",
+    ),
+    text(
+        "old-inc-local",
+        "a bound local on top is no operand: inc after store 0 has no typing (a run raises 21)",
+        "edition 1; int 1; entry: push 0; store 0; inc",
+    ),
+    text(
+        "old-factorial",
+        "a loop counted down by load, dec, store: 20!",
+        "edition 1; long 1; long 20; long 0
+         entry:
+         push 0; store 0
+         push 1; store 1
+         @0
+         load 0; load 1; mul; store 0
+         load 1; dec; store 1
+         load 1; push 2; cmp; ja 0
+         load 0",
+    ),
+    text(
+        "old-bits",
+        "and, or, xor, not",
+        "edition 1; int 12; int 10; long 255
+         entry: push 0; push 1; and; push 0; push 1; or; push 0; push 1; xor; push 2; not",
+    ),
+    text(
+        "old-branches",
+        "all seven branches: six don't jump, and what follows them adds up to 10",
+        "edition 1; int 0; int 1; int 4294967295
+         entry:
+         push 0; store 0
+         push 1; je 0; load 0; push 1; add; store 0
+         @0; push 0; jne 1; load 0; inc; inc; store 0
+         @1; push 0; ja 2; load 0; inc; inc; inc; inc; store 0
+         @2; push 2; jae 3; load 0; inc; store 0
+         @3; push 1; jb 4; load 0; inc; store 0
+         @4; push 1; jbe 5; load 0; inc; store 0
+         @5; jmp 6; load 0; inc; store 0
+         @6; load 0; pop",
+    ),
+    text(
+        "old-conversions",
+        "toi, tol, tod of each other",
+        "edition 1; int 4294967295; long 4294967296; double -1.5
+         entry: push 0; tol; push 0; tod; push 1; toi; push 1; tod; push 2; toi; push 2; tol",
+    ),
+    text(
+        "old-refused-7",
+        "a pointer parameter is no type of edition 1",
+        "edition 1; entry: function void (*int): ret",
+    ),
+    Sample {
+        name: "old-refused-8",
+        shows: "opcode 26: 01 to 25 are those of edition 1",
+        source: Source::Patched(
+            "edition 1; double 1.5; entry: push 0; tod",
+            48 + 12 + 5,
+            &[0x26],
+        ),
+    },
+    Sample {
+        name: "old-refused-8-new",
+        shows: "the file of old-w01 under edition 3: 05 is lea there, and crosses the entry's end",
+        source: Source::Patched(
+            "edition 1; int 7; int 5; entry: push 0; push 1; add",
+            0,
+            &[3],
+        ),
+    },
+    Sample {
+        name: "old-refused-2",
+        shows: "edition 2",
+        source: Source::Patched(
+            "edition 1; int 7; int 5; entry: push 0; push 1; add",
+            0,
+            &[2],
+        ),
+    },
+];
+
 /// All samples.
 pub fn all() -> impl Iterator<Item = &'static Sample> {
     W_SAMPLES
@@ -624,6 +791,7 @@ pub fn all() -> impl Iterator<Item = &'static Sample> {
         .chain(&NUMBERS)
         .chain(&LIMITS)
         .chain(&REFUSED)
+        .chain(&OLD)
 }
 
 /// A formula line, and the parameters of runs of its module.

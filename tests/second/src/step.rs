@@ -5,7 +5,7 @@
 //! test: an instruction that raises "leaves the state as before it".
 
 use crate::machine::{Frame, Machine, Slot};
-use crate::opcode::Op;
+use crate::opcode::{Edition, Op};
 use crate::reader::{Instruction, ENTRY};
 use crate::rules::{Fault, Rules};
 use crate::types::{run_time, DOUBLE, INT, LONG, POINTER};
@@ -200,20 +200,48 @@ fn tstore(m: &mut Machine<'_>) -> Result<(), u32> {
     Ok(())
 }
 
-/// "`inc`, `dec` work through the pointer, by 1 wrapping or by 1.0 rounded once; a pointer
+/// Edition 3: "`inc`, `dec` work through the pointer, by 1 wrapping or by 1.0 rounded once; a pointer
 /// there is 32."
 fn by_one(m: &mut Machine<'_>, op: Op) -> Result<(), u32> {
+    let old = m.module.edition == Edition::One;
+    if old && !m.rules.wrong(Fault::OldIncThroughPointer) {
+        return top_by_one(m, op);
+    }
     let pointer = operands(m, 1)?[0];
     let slot = reached(m, pointer, 1)?;
     let Slot { ty, payload } = m.stack[slot];
     raise(ty == POINTER, 32)?;
+    m.stack[slot].payload = one_more(m.rules, op, ty, payload);
+    drop_operands(m, 1);
+    Ok(())
+}
+
+/// "by 1 wrapping or by 1.0 rounded once"
+fn one_more(rules: Rules, op: Op, ty: u8, payload: u64) -> u64 {
     let one = if op == Op::Inc { 1 } else { -1 };
-    m.stack[slot].payload = match width(ty) {
-        Some(_) if m.rules.wrong(Fault::IncCarries) => integer::wrap(64, i128::from(payload) + one),
+    match width(ty) {
+        Some(_) if rules.wrong(Fault::IncCarries) => integer::wrap(64, i128::from(payload) + one),
         Some(width) => integer::wrap(width, i128::from(payload) + one),
         None => double::by_one(op, payload),
-    };
-    drop_operands(m, 1);
+    }
+}
+
+/// Edition 1: "There `inc` and `dec` change the top value itself." A bound local on top is no
+/// operand (21).
+fn top_by_one(m: &mut Machine<'_>, op: Op) -> Result<(), u32> {
+    if m.rules.wrong(Fault::OldIncOfLocal) {
+        raise(m.stack.len() <= m.frame().first, 21)?;
+    } else {
+        operands(m, 1)?;
+    }
+    let top = m.stack.len() - 1;
+    let Slot { ty, payload } = m.stack[top];
+    raise(ty == POINTER, 32)?;
+    raise(ty == DOUBLE && m.rules.wrong(Fault::OldIncOfDouble), 34)?;
+    m.stack[top].payload = one_more(m.rules, op, ty, payload);
+    if m.rules.wrong(Fault::OldIncPops) {
+        drop_operands(m, 1);
+    }
     Ok(())
 }
 
@@ -291,8 +319,15 @@ fn compare(m: &mut Machine<'_>, op: Op) -> Result<(), u32> {
         raise(target(a) != target(b), 22)?;
     }
     let signed = op == Op::Icmp || m.rules.wrong(Fault::CmpSigned);
+    // "A2 holds in both"
+    let old = m.module.edition == Edition::One;
+    let rules = if old && m.rules.wrong(Fault::OldNanCompares) {
+        Rules::with(Fault::NanCompares)
+    } else {
+        m.rules
+    };
     let order = match (signed, width(a.ty)) {
-        _ if a.ty == DOUBLE => double::compare(m.rules, op, a.payload, b.payload)?,
+        _ if a.ty == DOUBLE => double::compare(rules, op, a.payload, b.payload)?,
         (true, Some(width)) => order(
             integer::signed(width, a.payload),
             integer::signed(width, b.payload),

@@ -36,6 +36,7 @@ impl Subject for Second {
 
     fn write(&mut self, memory: &mut WriteMemory) -> u32 {
         let tables = Tables {
+            edition: memory.edition,
             constants: memory.constants.slice(),
             functions: memory.functions.slice(),
             labels: memory.labels.slice(),

@@ -88,7 +88,7 @@ impl Search<'_> {
         if place == self.judge.module.range(self.judge.body).end {
             return Ok(());
         }
-        let Some(at) = self.judge.module.instruction(place) else {
+        let Some(at) = self.judge.module.instruction(self.judge.rules, place) else {
             return Ok(());
         };
         let lists = self.typing[&place].clone();

@@ -1,6 +1,8 @@
-//! The writer, document 02's A1: answers 4 to 9 and 16, and the module that is written.
+//! The writer, document 02's A1 and A5: answers 2, 4 to 9 and 16, and the module that is
+//! written, of either edition.
 
 use crate::check::{check, Checked, RECORD};
+use crate::opcode::Edition;
 use crate::reader::{
     read, refuse, Module, CONSTANT, FUNCTION, HEADER, LABEL, MAX_CODE, MAX_CONSTANTS,
     MAX_FUNCTIONS, MAX_LABELS,
@@ -13,6 +15,8 @@ use crate::words::word;
 /// tables hold the file's own records.
 #[derive(Clone, Copy, Debug, PartialEq, Eq)]
 pub struct Tables<'a> {
+    /// "A1, told which, writes either".
+    pub edition: u32,
     pub constants: &'a [u8],
     pub functions: &'a [u8],
     pub labels: &'a [u8],
@@ -29,12 +33,21 @@ pub fn write(rules: Rules, tables: Tables<'_>, out: &mut [u8]) -> Result<usize, 
     }
     // "Refusals: the reader's 4 to 9 (part of a record at a table's end is 5); then 16, output
     // too short."
+    // "2, now A1's too, means neither 1 nor 3"
+    let known =
+        Edition::from_word(rules, tables.edition).is_some() || rules.wrong(Fault::WritesTwo);
+    if !rules.wrong(Fault::EditionLast) {
+        refuse(!known, 2)?;
+    }
     tables.limits_and_parts(rules)?;
     let file = tables.file(rules);
     if rules.wrong(Fault::HeaderFirst) && out.len() >= HEADER {
         out[..HEADER].copy_from_slice(&file[..HEADER]);
     }
-    records_and_code(rules, &file)?;
+    if known {
+        records_and_code(rules, &file)?;
+    }
+    refuse(!known, 2)?;
     refuse(too_short(rules, out.len(), file.len()), 16)?;
     let (module, rest) = out.split_at_mut(file.len());
     module.copy_from_slice(&file);
@@ -53,6 +66,7 @@ fn records_and_code(rules: Rules, file: &[u8]) -> Result<(), u32> {
         // the header is the writer's own, and no offset of it is looked at again
         Err(5) if rules.wrong(Fault::EmptySectionUnplaced) => {}
         Err(9) if rules.wrong(Fault::LabelsUntested) => {}
+        Err(2) if rules.wrong(Fault::WritesTwo) => {}
         answer => drop(answer?),
     }
     if rules.wrong(Fault::TypingAsked) {
@@ -92,6 +106,7 @@ impl<'a> Tables<'a> {
     pub fn of(module: Module<'a>) -> Tables<'a> {
         let [constants, functions, labels, code] = module.sections();
         Tables {
+            edition: module.edition.word(),
             constants,
             functions,
             labels,
@@ -140,7 +155,10 @@ impl<'a> Tables<'a> {
         let put = |file: &mut Vec<u8>, at: usize, number: usize| {
             file[at..at + 4].copy_from_slice(&(number as u32).to_le_bytes());
         };
-        put(&mut file, 0, 3);
+        put(&mut file, 0, self.edition as usize);
+        if rules.wrong(Fault::WritesThree) {
+            put(&mut file, 0, 3);
+        }
         for (n, (table, record, _)) in self.each().into_iter().enumerate() {
             let count = table.len() / record;
             put(&mut file, 8 + 8 * n, count);

@@ -12,7 +12,7 @@ fn the_second_program_gives_what_is_stated() {
 }
 
 /// The wrong variants of reader and check.
-const WRONG_CHECKS: [&str; 22] = [
+const WRONG_CHECKS: [&str; 31] = [
     "dead-code-typed",
     "first-typing-kept",
     "parameters-reversed",
@@ -35,6 +35,15 @@ const WRONG_CHECKS: [&str; 22] = [
     "pointers-shown-as-7",
     "room-all-zeroed",
     "35-untyped",
+    "edition-1-refused",
+    "edition-2-taken",
+    "new-numbers-in-1",
+    "26-taken",
+    "old-ret-operand",
+    "pointer-parameter-taken",
+    "old-inc-through-pointer",
+    "old-inc-pops",
+    "old-inc-of-double",
 ];
 
 #[test]

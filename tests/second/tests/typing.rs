@@ -16,7 +16,7 @@ const PLAIN: Rules = Rules::PLAIN;
 /// Every sentence of "Consistent typing" for one body.
 fn is_consistent(module: Module<'_>, body: u32, typing: &Typing) -> bool {
     let range = module.range(body);
-    let (starts, _) = module.starts(body);
+    let (starts, _) = module.starts(Rules::PLAIN, body);
     let locals = module.function(body).map_or(Vec::new(), |f| f.parameters);
     let operands = Vec::new();
     let start = typing.get(&range.start) == Some(&Lists { locals, operands });
@@ -31,7 +31,9 @@ fn is_consistent(module: Module<'_>, body: u32, typing: &Typing) -> bool {
         if place == range.end {
             return short;
         }
-        let at = module.instruction(place).expect("an instruction");
+        let at = module
+            .instruction(Rules::PLAIN, place)
+            .expect("an instruction");
         let follows = judge.judge(at, lists).is_ok_and(|left| {
             let mut next = left.next.iter();
             next.all(|place| typing.get(place) == Some(&left.lists))

@@ -103,6 +103,7 @@ pub unsafe extern "C" fn limpetskein_run(
 #[no_mangle]
 #[allow(clippy::too_many_arguments)]
 pub unsafe extern "C" fn limpetskein_write(
+    edition: u32,
     constants: *const u8,
     constants_len: usize,
     functions: *const u8,
@@ -117,6 +118,7 @@ pub unsafe extern "C" fn limpetskein_write(
     written: *mut u64,
 ) -> u32 {
     let tables = Tables {
+        edition,
         constants: lent(constants, constants_len),
         functions: lent(functions, functions_len),
         labels: lent(labels, labels_len),

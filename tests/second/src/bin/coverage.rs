@@ -7,10 +7,10 @@ use second::coverage::Coverage;
 use second::gen::case::Case;
 use second::gen::lines::LineCase;
 use second::gen::tables::WriteCase;
-use second::opcode::ALL;
+use second::opcode::{Edition, EDITIONS};
 use second::possible::{
-    exceptions, executions, reasons, CHECK_ANSWERS, FORMULA_ANSWERS, LINE_EDGES, RUN_ANSWERS,
-    WRITE_ANSWERS,
+    exceptions, executions, old_answer, reasons, CHECK_ANSWERS, FORMULA_ANSWERS, LINE_EDGES,
+    RUN_ANSWERS, WRITE_ANSWERS,
 };
 
 fn main() {
@@ -25,12 +25,13 @@ fn main() {
     }
     println!("coverage of {cases} cases from seed {seed}");
     let full = args::has("--full");
-    let missing = kinds(&coverage)
-        + lines(&coverage)
-        + answers(&coverage)
-        + executed(&coverage, full)
-        + raised(&coverage, full)
-        + refused(&coverage, full);
+    let mut missing = kinds(&coverage) + lines(&coverage) + answers(&coverage);
+    for edition in EDITIONS {
+        missing += answers_of(&coverage, edition)
+            + executed(&coverage, edition, full)
+            + raised(&coverage, edition, full)
+            + refused(&coverage, edition, full);
+    }
     println!(
         "runs of accepted modules that break demand 3: {}",
         coverage.broken
@@ -91,57 +92,75 @@ fn row(title: &str, counts: impl Iterator<Item = (String, u64)>) -> u64 {
 }
 
 fn answers(coverage: &Coverage) -> u64 {
-    let of = |map: &std::collections::BTreeMap<u32, u64>, n: u32| {
-        (n.to_string(), map.get(&n).copied().unwrap_or(0))
-    };
-    let checks = CHECK_ANSWERS.iter().map(|&n| of(&coverage.checks, n));
-    let runs = RUN_ANSWERS.iter().map(|&n| of(&coverage.runs, n));
-    let writes = WRITE_ANSWERS.iter().map(|&n| of(&coverage.writes, n));
-    let formulas = FORMULA_ANSWERS.iter().map(|&n| of(&coverage.formulas, n));
+    let formulas = FORMULA_ANSWERS.iter().map(|&n| {
+        let count = coverage.formulas.get(&n).copied();
+        (n.to_string(), count.unwrap_or(0))
+    });
     let edges = LINE_EDGES.iter().map(|&edge| {
         let count = coverage.line_edges.get(edge).copied();
         (edge.to_string(), count.unwrap_or(0))
     });
     let misfit = std::iter::once(("20".to_string(), coverage.misfits));
-    row("answers of checks:", checks)
-        + row("answers of runs:", runs)
-        + row("answers of writes:", writes)
-        + row("answers of formulas:", formulas)
+    row("answers of formulas:", formulas)
         + row("edges of formula lines:", edges)
         + row("arguments that don't fit:", misfit)
 }
 
-fn executed(coverage: &Coverage, full: bool) -> u64 {
+fn answers_of(coverage: &Coverage, edition: Edition) -> u64 {
+    let word = edition.word();
     let mut missing = 0;
-    let mut pairs = 0;
-    for (op, name) in ALL {
-        let of = |&variant: &u8| {
-            let count = coverage.executed.get(&(op, variant));
-            (variant.to_string(), count.copied().unwrap_or(0))
-        };
-        let counts: Vec<(String, u64)> = executions(op).iter().map(of).collect();
-        pairs += counts.len();
-        missing += show(&format!("  {name}"), counts, full);
+    for (call, numbers, counts) in [
+        ("checks", &CHECK_ANSWERS[..], &coverage.checks),
+        ("runs", &RUN_ANSWERS[..], &coverage.runs),
+        ("writes", &WRITE_ANSWERS[..], &coverage.writes),
+    ] {
+        let possible = numbers
+            .iter()
+            .filter(|&&n| edition == Edition::Three || old_answer(n));
+        let counted = possible.map(|&n| {
+            let count = counts.get(&(edition, n)).copied();
+            (n.to_string(), count.unwrap_or(0))
+        });
+        missing += row(&format!("answers of {call}, edition {word}:"), counted);
     }
-    println!("executed: {pairs} pairs of opcode and type (or way), {missing} not reached");
     missing
 }
 
-fn raised(coverage: &Coverage, full: bool) -> u64 {
+fn executed(coverage: &Coverage, edition: Edition, full: bool) -> u64 {
     let mut missing = 0;
     let mut pairs = 0;
-    for (op, name) in ALL {
-        let of = |&number: &u32| {
-            let count = coverage.raised.get(&(op, number));
+    for op in edition.ops() {
+        let of = |variant: u8| {
+            let count = coverage.executed.get(&(edition, op, variant));
+            (variant.to_string(), count.copied().unwrap_or(0))
+        };
+        let counts: Vec<(String, u64)> = executions(edition, op).into_iter().map(of).collect();
+        pairs += counts.len();
+        missing += show(&format!("  {}", op.name()), counts, full);
+    }
+    let word = edition.word();
+    println!("executed, edition {word}: {pairs} pairs of opcode and type (or way), {missing} not reached");
+    missing
+}
+
+fn raised(coverage: &Coverage, edition: Edition, full: bool) -> u64 {
+    let mut missing = 0;
+    let mut pairs = 0;
+    for op in edition.ops() {
+        let of = |number: u32| {
+            let count = coverage.raised.get(&(edition, op, number));
             (number.to_string(), count.copied().unwrap_or(0))
         };
-        let counts: Vec<(String, u64)> = exceptions(op).iter().map(of).collect();
+        let counts: Vec<(String, u64)> = exceptions(edition, op).into_iter().map(of).collect();
         pairs += counts.len();
-        missing += show(&format!("  {name} raises"), counts, full);
+        missing += show(&format!("  {} raises", op.name()), counts, full);
     }
-    println!("raised: {pairs} pairs of opcode and exception, {missing} not reached");
-    for (op, number) in coverage.raised.keys() {
-        if !exceptions(*op).contains(number) {
+    let word = edition.word();
+    println!(
+        "raised, edition {word}: {pairs} pairs of opcode and exception, {missing} not reached"
+    );
+    for (of, op, number) in coverage.raised.keys() {
+        if *of == edition && !exceptions(edition, *op).contains(number) {
             println!("  {} raised {number}, which is not possible", op.name());
             missing += 1;
         }
@@ -149,14 +168,22 @@ fn raised(coverage: &Coverage, full: bool) -> u64 {
     missing
 }
 
-fn refused(coverage: &Coverage, full: bool) -> u64 {
-    let all = reasons();
+fn refused(coverage: &Coverage, edition: Edition, full: bool) -> u64 {
+    let all = reasons(edition);
     let mut missing = 0;
     for reason in &all {
-        let count = coverage.reasons.get(reason).copied().unwrap_or(0);
+        let count = coverage
+            .reasons
+            .get(&(edition, *reason))
+            .copied()
+            .unwrap_or(0);
         missing += show("  no typing:", vec![(format!("{reason:?}"), count)], full);
     }
-    println!("no typing: {} reasons, {missing} not reached", all.len());
+    let word = edition.word();
+    println!(
+        "no typing, edition {word}: {} reasons, {missing} not reached",
+        all.len()
+    );
     missing
 }
 

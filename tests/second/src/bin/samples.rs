@@ -6,7 +6,8 @@ use second::desk::{self, Left};
 use second::formula;
 use second::rules::Rules;
 use second::samples::{
-    all, LineSample, Sample, LIMITS, LINES, NUMBERS, PROGRAMS, REFUSED, REFUSED_LINES, W_SAMPLES,
+    all, LineSample, Sample, LIMITS, LINES, NUMBERS, OLD, PROGRAMS, REFUSED, REFUSED_LINES,
+    W_SAMPLES,
 };
 use second::show::small;
 use std::collections::BTreeMap;
@@ -118,6 +119,7 @@ fn readme() -> String {
         ("Numbers", &NUMBERS[..]),
         ("Limits, ends, typings", &LIMITS[..]),
         ("Files that can't be read", &REFUSED[..]),
+        ("Old recipes, edition 1", &OLD[..]),
     ] {
         text += &table(title, samples);
     }

@@ -109,6 +109,7 @@ fn show_module(file: &[u8]) {
         Ok(module) => module,
         Err(number) => return println!("can't be read: {number}"),
     };
+    println!("edition {}", module.edition.word());
     for n in 0..module.constants {
         if let Some((ty, payload)) = module.constant(n) {
             println!("constant {n}: type {ty}, {payload:016X}");
@@ -133,13 +134,13 @@ fn show_body(module: Module<'_>, body: u32) {
             function.returns
         ),
     }
-    for place in module.starts(body).0 {
+    for place in module.starts(Rules::PLAIN, body).0 {
         for n in 0..module.labels {
             if module.label(n) == Some((body, place)) {
                 println!("  label {n}");
             }
         }
-        if let Some(at) = module.instruction(place) {
+        if let Some(at) = module.instruction(Rules::PLAIN, place) {
             let operand = if at.op.has_operand() {
                 format!(" {}", at.operand)
             } else {

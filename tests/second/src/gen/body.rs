@@ -3,15 +3,26 @@
 
 use super::rng::Rng;
 use crate::judge::Lists;
-use crate::opcode::{Op, ALL};
+use crate::opcode::{Edition, Op};
 use crate::program::Constant;
-use crate::types::{is_number, pointee, DOUBLE, INT, LONG, POINTER_TO};
+use crate::types::{is_number, pointee, DOUBLE, INT, LONG, NUMBERS, POINTER_TO, SIX};
 
 /// Parameter types and return type.
 pub type Signature = (Vec<u8>, u8);
 
+/// The types that an edition's values have.
+pub fn types(edition: Edition) -> &'static [u8] {
+    match edition {
+        Edition::One => &NUMBERS,
+        Edition::Three => &SIX,
+    }
+}
+
 /// What all bodies of a module share.
 pub struct Shared {
+    pub edition: Edition,
+    /// The edition's opcodes.
+    pub ops: Vec<Op>,
     pub constants: Vec<Constant>,
     pub signatures: Vec<Signature>,
 }
@@ -81,6 +92,7 @@ impl Body<'_> {
         let top = self.lists.operands.last().copied().unwrap_or(0);
         let (taken, left) = match op {
             Op::Jmp | Op::Ret | Op::Swap | Op::Neg | Op::Not => (0, None),
+            Op::Inc | Op::Dec if self.shared.edition == Edition::One => (0, None),
             Op::Pop | Op::Inc | Op::Dec => (1, None),
             Op::Tstore => (2, None),
             Op::Copy => (0, Some(top)),
@@ -108,6 +120,9 @@ impl Body<'_> {
             Op::Store => self.store_target(rng, top?),
             Op::Copy => (room && top.is_some()).then_some(0),
             Op::Pop => top.map(|_| 0),
+            Op::Inc | Op::Dec if self.shared.edition == Edition::One => {
+                is_number(top?).then_some(0)
+            }
             Op::Tload | Op::Inc | Op::Dec => pointee(top?).map(|_| 0),
             Op::Neg | Op::Toi | Op::Tol | Op::Tod => is_number(top?).then_some(0),
             Op::Not => (is_number(top?) && top != Some(DOUBLE)).then_some(0),
@@ -147,12 +162,12 @@ impl Body<'_> {
     /// Writes one instruction that doesn't jump.
     pub fn simple(&mut self, rng: &mut Rng) {
         if self.lists.operands.len() < 2 && rng.percent(50) {
-            let ty = rng.pick(&crate::types::SIX);
+            let ty = rng.pick(types(self.shared.edition));
             self.produce(rng, ty);
             return;
         }
         let mut fits = Vec::new();
-        for (op, _) in ALL {
+        for &op in &self.shared.ops {
             if let Some(operand) = self.fitting(rng, op) {
                 fits.push((op, operand));
             }

@@ -4,6 +4,7 @@ use super::rng::Rng;
 use super::{calls, damage, expression, flow, limits, loose, mixed, near, pointers, typed};
 use crate::check::RECORD;
 use crate::memory::{CheckMemory, Lent, RunMemory};
+use crate::opcode::Edition;
 use crate::program::Program;
 use crate::reader::{read, LONGEST};
 use crate::rules::Rules;
@@ -92,32 +93,42 @@ impl Case {
 
 /// A module file, and the name of its generator.
 pub fn module(rng: &mut Rng) -> (&'static str, Vec<u8>) {
+    let edition = edition(rng);
     match rng.below(100) {
-        0..=21 => ("typed", well_typed(rng).file()),
-        22..=25 => ("flow", flow::program(rng).file()),
+        0..=21 => ("typed", well_typed(rng, edition).file()),
+        22..=25 => ("flow", flow::program(rng, edition).file()),
         26..=43 => {
-            let mut program = well_typed(rng);
+            let mut program = well_typed(rng, edition);
             near::change(rng, &mut program);
             ("near miss", program.file())
         }
         44..=45 => ("pointers", pointers::program(rng).file()),
-        46..=55 => ("expression", expression::program(rng).file()),
-        56..=67 => ("mixed operands", mixed::program(rng).file()),
-        68..=75 => ("loose", loose::program(rng).file()),
+        46..=55 => ("expression", expression::program(rng, edition).file()),
+        56..=67 => ("mixed operands", mixed::program(rng, edition).file()),
+        68..=75 => ("loose", loose::program(rng, edition).file()),
         76..=80 => ("stale pointer", loose::stale(rng).file()),
-        81..=84 => ("limit", limits::program(rng).file()),
-        85..=87 => ("random code", loose::random(rng).file()),
+        81..=84 => ("limit", limits::program(rng, edition).file()),
+        85..=87 => ("random code", loose::random(rng, edition).file()),
         88 => ("random bytes", random_bytes(rng)),
         _ => {
-            let program = well_typed(rng);
+            let program = well_typed(rng, edition);
             ("damaged", damage::file(rng, &program))
         }
     }
 }
 
-pub fn well_typed(rng: &mut Rng) -> Program {
+/// Edition 1 in two of five times.
+pub fn edition(rng: &mut Rng) -> Edition {
+    if rng.percent(40) {
+        Edition::One
+    } else {
+        Edition::Three
+    }
+}
+
+pub fn well_typed(rng: &mut Rng, edition: Edition) -> Program {
     let size = typed::size(rng);
-    typed::program(rng, size)
+    typed::program(rng, edition, size)
 }
 
 /// Any bytes, of any length up to more than the longest module.
@@ -129,7 +140,8 @@ fn random_bytes(rng: &mut Rng) -> Vec<u8> {
     };
     let mut bytes = rng.bytes(len);
     if rng.percent(60) {
-        for (byte, wanted) in bytes.iter_mut().zip([3, 0, 0, 0]) {
+        let edition = rng.pick(&[1, 3, 3, 2]);
+        for (byte, wanted) in bytes.iter_mut().zip([edition, 0, 0, 0]) {
             *byte = wanted;
         }
         let len = (len as u32).to_le_bytes();

@@ -1,14 +1,16 @@
 //! Damaged files: fields of the header and of records, opcode bytes, length, single bits.
 
 use super::rng::Rng;
+use crate::opcode::Edition;
 use crate::program::{Mark, Program};
 use crate::reader::{CONSTANT, FUNCTION, HEADER, LABEL};
 use crate::words::word;
 
-/// Bytes that are no opcode.
+/// Bytes that are no opcode of edition 3, and of edition 1.
 const UNKNOWN: [u8; 11] = [
     0x00, 0x06, 0x29, 0x2A, 0x2D, 0x2F, 0x30, 0x34, 0x35, 0x80, 0xFF,
 ];
+const OLD_UNKNOWN: [u8; 10] = [0x00, 0x26, 0x26, 0x26, 0x27, 0x28, 0x2B, 0x2E, 0x80, 0xFF];
 
 struct Damage<'a> {
     program: &'a Program,
@@ -45,6 +47,7 @@ impl Damage<'_> {
     /// One of twenty kinds of faults; from 7 on they are in records, code and entry length.
     fn once(&mut self, rng: &mut Rng, kind: usize) {
         match kind {
+            0 if rng.one_in(4) => self.edition(rng),
             0..=2 => self.header(rng),
             3 => self.bit(rng, HEADER),
             4 => {
@@ -105,6 +108,12 @@ impl Damage<'_> {
             4 * rng.below(12)
         };
         self.change_word(rng, at);
+    }
+
+    /// The other edition, or none.
+    fn edition(&mut self, rng: &mut Rng) {
+        let word = rng.pick(&[0, 1, 1, 2, 2, 3, 3, 4, 0x0100_0001, 0x0000_0301]);
+        self.put_word(0, word);
     }
 
     fn entry_length(&mut self, rng: &mut Rng) {
@@ -227,11 +236,12 @@ impl Damage<'_> {
             rng.below(length)
         };
         let place = self.program.place(Mark { owner, index });
-        let byte = if rng.percent(60) {
-            rng.pick(&UNKNOWN)
-        } else {
-            rng.pick(&[0x01, 0x20, 0x27, 0x28, 0x2B])
+        let (unknown, others): (&[u8], &[u8]) = match self.program.edition {
+            Edition::One => (&OLD_UNKNOWN, &[0x01, 0x1A, 0x21, 0x22, 0x23, 0x25]),
+            Edition::Three => (&UNKNOWN, &[0x01, 0x20, 0x27, 0x28, 0x2B]),
         };
+        let from = if rng.percent(60) { unknown } else { others };
+        let byte = rng.pick(from);
         let at = self.code_at() + place;
         self.put_byte(at, byte);
     }

@@ -2,7 +2,7 @@
 
 use super::constants::constant;
 use super::rng::Rng;
-use crate::opcode::Op;
+use crate::opcode::{Edition, Op};
 use crate::program::{Instr, Program};
 use crate::types::{DOUBLE, INT, NUMBERS};
 
@@ -29,8 +29,11 @@ const ON_INTEGERS: [Op; 9] = [
 ];
 const UNARY: [Op; 4] = [Op::Neg, Op::Toi, Op::Tol, Op::Tod];
 
-pub fn program(rng: &mut Rng) -> Program {
-    let mut program = Program::default();
+pub fn program(rng: &mut Rng, edition: Edition) -> Program {
+    let mut program = Program {
+        edition,
+        ..Program::default()
+    };
     if rng.one_in(3) {
         through_a_local(rng, &mut program);
     }
@@ -40,6 +43,8 @@ pub fn program(rng: &mut Rng) -> Program {
         if rng.percent(35) {
             let op = if ty != DOUBLE && rng.one_in(5) {
                 Op::Not
+            } else if edition == Edition::One && rng.one_in(3) {
+                rng.pick(&[Op::Inc, Op::Dec])
             } else {
                 rng.pick(&UNARY)
             };
@@ -79,9 +84,15 @@ fn through_a_local(rng: &mut Rng, program: &mut Program) {
     push(rng, program, ty);
     emit(program, Op::Store, 0);
     for _ in 0..rng.range(1, 3) {
-        emit(program, Op::Lea, 0);
         let op = rng.pick(&[Op::Inc, Op::Dec]);
-        emit(program, op, 0);
+        if program.edition == Edition::One {
+            emit(program, Op::Load, 0);
+            emit(program, op, 0);
+            emit(program, Op::Store, 0);
+        } else {
+            emit(program, Op::Lea, 0);
+            emit(program, op, 0);
+        }
     }
 }
 

@@ -4,7 +4,7 @@
 
 use super::loose::instrs;
 use super::rng::Rng;
-use crate::opcode::Op;
+use crate::opcode::{Edition, Op};
 use crate::program::{Constant, Mark, Program, Routine};
 use crate::reader::ENTRY;
 use crate::types::{DOUBLE, INT, LONG};
@@ -20,6 +20,7 @@ struct Risk {
 
 /// A body while it is written.
 struct Body<'a> {
+    edition: Edition,
     owner: u32,
     functions: &'a [Routine],
     /// Numbers of the body's labels, and how many labels there are.
@@ -32,12 +33,13 @@ struct Body<'a> {
     fixed: Vec<usize>,
 }
 
-pub fn program(rng: &mut Rng) -> Program {
+pub fn program(rng: &mut Rng, edition: Edition) -> Program {
     let constant = |ty: u8, payload| Constant {
         ty: u32::from(ty),
         payload,
     };
     let mut program = Program {
+        edition,
         constants: vec![constant(INT, 1), constant(LONG, 2), constant(DOUBLE, 0)],
         ..Program::default()
     };
@@ -61,6 +63,7 @@ pub fn program(rng: &mut Rng) -> Program {
     for owner in owners {
         let own = (0..labels as u32).filter(|&n| owned[n as usize] == owner);
         let mut body = Body {
+            edition,
             owner,
             functions: &functions,
             own: own.collect(),
@@ -201,6 +204,9 @@ impl Body<'_> {
         let n = rng.below(3) as u32;
         match rng.below(5) {
             0 => self.code.extend([(Op::Push, n), (Op::Store, n)]),
+            1 if self.edition == Edition::One => {
+                self.code.extend([(Op::Load, n), (Op::Inc, 0)]);
+            }
             1 => self.code.extend([(Op::Lea, n), (Op::Tload, 0)]),
             2 => self.code.push((Op::Pop, 0)),
             3 => self.code.push((Op::Load, n)),

@@ -3,19 +3,32 @@
 use super::constants::pool;
 use super::loose::instrs;
 use super::rng::Rng;
-use crate::opcode::Op;
+use crate::opcode::{Edition, Op};
 use crate::program::{Constant, Mark, Program, Routine};
 use crate::reader::ENTRY;
 use crate::types::{INT, LONG};
 
-pub fn program(rng: &mut Rng) -> Program {
-    match rng.below(12) {
+pub fn program(rng: &mut Rng, edition: Edition) -> Program {
+    let mut program = match rng.below(12) {
         0..=2 => operands(rng),
         3 => locals(rng),
         4..=9 => frames(rng),
         10 => slots(rng),
         _ => counts(rng),
+    };
+    program.edition = edition;
+    if edition == Edition::One {
+        for owner in program.owners() {
+            for instr in program.body_mut(owner) {
+                instr.op = match instr.op {
+                    Op::Lea => Op::Load,
+                    Op::Copy => Op::Inc,
+                    op => op,
+                };
+            }
+        }
     }
+    program
 }
 
 /// 30 to 35 operands, in the entry or in a function.

@@ -4,7 +4,7 @@
 use super::constants::pool;
 use super::rng::Rng;
 use super::typed::signature;
-use crate::opcode::{Op, ALL};
+use crate::opcode::{Edition, Op};
 use crate::program::{Instr, Mark, Program, Routine};
 use crate::types::{run_time, DOUBLE, INT, LONG, POINTER};
 
@@ -18,14 +18,15 @@ struct Track<'a> {
     locals: Vec<usize>,
 }
 
-pub fn program(rng: &mut Rng) -> Program {
+pub fn program(rng: &mut Rng, edition: Edition) -> Program {
     let extra = rng.range(0, 4);
     let mut program = Program {
+        edition,
         constants: pool(rng, extra),
         ..Program::default()
     };
     for _ in 0..rng.pick(&[0, 1, 1, 2, 3]) {
-        let (parameters, returns) = signature(rng);
+        let (parameters, returns) = signature(rng, edition);
         program.functions.push(Routine {
             parameters,
             returns,
@@ -58,9 +59,10 @@ fn body(rng: &mut Rng, program: &Program, owner: u32, strict: usize) -> Vec<Inst
         locals: (0..parameters.len()).collect(),
     };
     let length = rng.pick(&[1, 4, 8, 16, 30]);
+    let ops = program.edition.ops();
     let mut code = Vec::new();
     while code.len() < length {
-        let (op, _) = rng.pick(&ALL);
+        let op = rng.pick(&ops);
         let operand = track.operand(rng, op);
         let instr = Instr { op, operand };
         if track.fits(instr) {
@@ -116,6 +118,7 @@ impl Track<'_> {
                 self.own() > 0 && n <= self.locals.len() && n < 16 && self.storable(n, top)
             }
             Op::Pop | Op::Copy => self.own() > 0,
+            Op::Inc | Op::Dec if self.old() => self.own() > 0,
             Op::Tload | Op::Inc | Op::Dec => self.own() > 0 && top == POINTER,
             Op::Neg | Op::Toi | Op::Tol | Op::Tod => self.own() > 0 && number,
             Op::Not => self.own() > 0 && number && top != DOUBLE,
@@ -126,6 +129,10 @@ impl Track<'_> {
             Op::Jmp | Op::Ret => false,
             _ => self.own() > 1 && top == under && number && top != DOUBLE,
         }
+    }
+
+    fn old(&self) -> bool {
+        self.program.edition == Edition::One
     }
 
     fn storable(&self, n: usize, top: u8) -> bool {
@@ -165,6 +172,7 @@ impl Track<'_> {
             Op::Tod => self.replace(1, (DOUBLE, None)),
             Op::Cmp | Op::Icmp => self.replace(2, (INT, None)),
             Op::Neg | Op::Not | Op::Swap => {}
+            Op::Inc | Op::Dec if self.old() => {}
             Op::Tstore => self.drop_top(2),
             Op::Call => {
                 let routine = &self.program.functions[n];
@@ -264,21 +272,22 @@ pub fn instrs(code: &[(Op, u32)]) -> Vec<Instr> {
 }
 
 /// Any instructions at all, with small operands.
-pub fn random(rng: &mut Rng) -> Program {
+pub fn random(rng: &mut Rng, edition: Edition) -> Program {
     let mut program = Program {
+        edition,
         constants: pool(rng, 0),
         ..Program::default()
     };
     for _ in 0..rng.below(3) {
-        let (parameters, returns) = signature(rng);
-        let code = random_code(rng, 1);
+        let (parameters, returns) = signature(rng, edition);
+        let code = random_code(rng, edition, 1);
         program.functions.push(Routine {
             parameters,
             returns,
             code,
         });
     }
-    program.entry = random_code(rng, 0);
+    program.entry = random_code(rng, edition, 0);
     for _ in 0..rng.below(4) {
         let owners = program.owners();
         let owner = rng.pick(&owners);
@@ -291,14 +300,16 @@ pub fn random(rng: &mut Rng) -> Program {
     program
 }
 
-fn random_code(rng: &mut Rng, least: usize) -> Vec<Instr> {
+fn random_code(rng: &mut Rng, edition: Edition, least: usize) -> Vec<Instr> {
     let length = rng.range(least, 12);
+    let ops = edition.ops();
     (0..length)
         .map(|_| {
             let op = if rng.percent(40) {
-                rng.pick(&[Op::Push, Op::Push, Op::Load, Op::Lea, Op::Store])
+                let last = ops[rng.pick(&[3, 4])];
+                rng.pick(&[Op::Push, Op::Push, Op::Load, last])
             } else {
-                rng.pick(&ALL).0
+                rng.pick(&ops)
             };
             let operand = if rng.one_in(30) {
                 rng.any() as u32

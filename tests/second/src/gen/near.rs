@@ -2,7 +2,8 @@
 
 use super::constants::constant;
 use super::rng::Rng;
-use crate::opcode::{Op, ALL};
+use crate::opcode::Edition;
+use crate::opcode::Op;
 use crate::program::{Instr, Mark, Program};
 use crate::reader::ENTRY;
 use crate::types::{NUMBERS, SIX};
@@ -68,10 +69,10 @@ fn operand(rng: &mut Rng, program: &mut Program) {
 
 fn opcode(rng: &mut Rng, program: &mut Program) {
     if let Some((owner, index)) = spot(rng, program) {
+        let ops = program.edition.ops();
         let instr = &mut program.body_mut(owner)[index];
-        let alike: Vec<Op> = ALL
-            .iter()
-            .map(|&(op, _)| op)
+        let alike: Vec<Op> = ops
+            .into_iter()
             .filter(|op| op.has_operand() == instr.op.has_operand())
             .collect();
         instr.op = rng.pick(&alike);
@@ -80,7 +81,7 @@ fn opcode(rng: &mut Rng, program: &mut Program) {
 
 fn insert(rng: &mut Rng, program: &mut Program) {
     if let Some((owner, index)) = spot(rng, program) {
-        let (op, _) = rng.pick(&ALL);
+        let op = rng.pick(&program.edition.ops());
         let operand = rng.below(6) as u32;
         program.body_mut(owner).insert(index, Instr { op, operand });
         move_labels(program, owner, index, 1);
@@ -142,14 +143,17 @@ fn parameters(rng: &mut Rng, program: &mut Program) {
         return operand(rng, program);
     }
     let n = rng.below(program.functions.len());
+    // a pointer in edition 1 is 7, which is wanted now and then
+    let old = program.edition == Edition::One && !rng.one_in(4);
+    let types: &[u8] = if old { &NUMBERS } else { &SIX };
     let list = &mut program.functions[n].parameters;
     match rng.below(4) {
-        0 if list.len() < 8 => list.push(rng.pick(&SIX)),
+        0 if list.len() < 8 => list.push(rng.pick(types)),
         1 => drop(list.pop()),
         2 => list.reverse(),
         _ if !list.is_empty() => {
             let k = rng.below(list.len());
-            list[k] = rng.pick(&SIX);
+            list[k] = rng.pick(types);
         }
         _ => {}
     }

@@ -3,7 +3,7 @@
 use super::body::{Body, Item};
 use super::rng::Rng;
 use crate::judge::Lists;
-use crate::opcode::{Op, ALL};
+use crate::opcode::{Edition, Op};
 use crate::types::INT;
 
 const CONDITIONS: [Op; 6] = [Op::Je, Op::Jne, Op::Ja, Op::Jae, Op::Jb, Op::Jbe];
@@ -183,8 +183,14 @@ impl Body<'_> {
         if !self.convert(rng, &lists) {
             return false;
         }
-        self.emit(Op::Lea, counter);
-        self.emit(Op::Dec, 0);
+        if self.shared.edition == Edition::One {
+            self.emit(Op::Load, counter);
+            self.emit(Op::Dec, 0);
+            self.emit(Op::Store, counter);
+        } else {
+            self.emit(Op::Lea, counter);
+            self.emit(Op::Dec, 0);
+        }
         self.emit(Op::Load, counter);
         self.emit(Op::Jne, top);
         true
@@ -204,7 +210,7 @@ impl Body<'_> {
             return;
         }
         for _ in 0..rng.range(1, 3) {
-            let (op, _) = rng.pick(&ALL);
+            let op = rng.pick(&self.shared.ops);
             let operand = rng.below(20) as u32;
             let raw = true;
             self.items.push(Item { op, operand, raw });

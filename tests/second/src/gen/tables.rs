@@ -1,11 +1,12 @@
 //! Tables to be written as a module, good and damaged, and outputs around the module's length.
 
-use super::case::{module, well_typed};
+use super::case::{edition, module, well_typed};
 use super::constants::constant;
 use super::damage;
 use super::rng::Rng;
 use crate::hex;
 use crate::memory::{Lent, WriteMemory};
+use crate::opcode::Op;
 use crate::reader::{
     read, CONSTANT, ENTRY, FUNCTION, HEADER, LABEL, LONGEST, MAX_CODE, MAX_CONSTANTS,
     MAX_FUNCTIONS, MAX_LABELS,
@@ -16,13 +17,29 @@ use crate::words::word;
 use crate::writer::Tables;
 
 /// The tables' bytes.
-#[derive(Clone, Debug, Default, PartialEq, Eq)]
+#[derive(Clone, Debug, PartialEq, Eq)]
 pub struct Owned {
+    /// The edition that is asked for.
+    pub edition: u32,
     pub constants: Vec<u8>,
     pub functions: Vec<u8>,
     pub labels: Vec<u8>,
     pub code: Vec<u8>,
     pub entry_length: u32,
+}
+
+/// No records, for edition 3.
+impl Default for Owned {
+    fn default() -> Owned {
+        Owned {
+            edition: 3,
+            constants: Vec::new(),
+            functions: Vec::new(),
+            labels: Vec::new(),
+            code: Vec::new(),
+            entry_length: 0,
+        }
+    }
 }
 
 /// One write to be made.
@@ -39,10 +56,6 @@ pub struct WriteCase {
 /// Value of the out-parameter before a write: it stays where nothing is to be written.
 pub const WRITTEN_BEFORE: u64 = 0x3717_3717_3717_3717;
 
-/// Opcode bytes of instructions without operand.
-const NEG: u8 = 0x13;
-const RET: u8 = 0x28;
-
 impl Owned {
     /// The sections of a file, by the counts in its header; they must lie within it.
     pub fn cut(file: &[u8]) -> Owned {
@@ -51,6 +64,7 @@ impl Owned {
         let (functions, rest) = rest.split_at(FUNCTION * count(16));
         let (labels, code) = rest.split_at(LABEL * count(24));
         Owned {
+            edition: word(file, 0),
             constants: constants.to_vec(),
             functions: functions.to_vec(),
             labels: labels.to_vec(),
@@ -61,6 +75,7 @@ impl Owned {
 
     pub fn lent(&self) -> Tables<'_> {
         Tables {
+            edition: self.edition,
             constants: &self.constants,
             functions: &self.functions,
             labels: &self.labels,
@@ -77,6 +92,7 @@ impl Owned {
 
     pub fn memory(&self, out: &[u8], shift: usize) -> WriteMemory {
         WriteMemory {
+            edition: self.edition,
             constants: Lent::new(&self.constants, shift),
             functions: Lent::new(&self.functions, shift + 1),
             labels: Lent::new(&self.labels, shift + 2),
@@ -96,6 +112,10 @@ impl WriteCase {
         if rng.one_in(40) {
             tables.entry_length = entry_length(&mut rng, &tables);
         }
+        if rng.one_in(12) {
+            // the other edition, or none, or one that is only so in its low bits
+            tables.edition = rng.pick(&[1, 3, 0, 2, 2, 4, 257, 0x0001_0003, 0xFFFF_FFFF]);
+        }
         let len = output(&mut rng, tables.length());
         let out = rng.bytes(len);
         let shift = rng.below(8);
@@ -114,8 +134,9 @@ impl WriteCase {
     /// The tables and the output's length, enough to repeat the write by hand.
     pub fn describe(&self) -> String {
         format!(
-            "constants \"{}\", functions \"{}\", labels \"{}\", code \"{}\", entry length {}, \
+            "edition {}, constants \"{}\", functions \"{}\", labels \"{}\", code \"{}\", entry length {}, \
              output of {} bytes",
+            self.tables.edition,
             hex::encode(&self.tables.constants),
             hex::encode(&self.tables.functions),
             hex::encode(&self.tables.labels),
@@ -130,7 +151,8 @@ fn tables(rng: &mut Rng) -> (&'static str, Owned) {
     match rng.below(20) {
         0..=6 => ("good", good(rng)),
         7..=12 => {
-            let program = well_typed(rng);
+            let edition = edition(rng);
+            let program = well_typed(rng, edition);
             ("damaged", Owned::cut(&damage::records(rng, &program)))
         }
         13..=15 => {
@@ -151,7 +173,8 @@ fn good(rng: &mut Rng) -> Owned {
     if read(Rules::PLAIN, &file).is_ok() {
         return Owned::cut(&file);
     }
-    Owned::cut(&well_typed(rng).file())
+    let edition = edition(rng);
+    Owned::cut(&well_typed(rng, edition).file())
 }
 
 /// A table that ends in part of a record.
@@ -179,7 +202,12 @@ fn limits(rng: &mut Rng) -> Owned {
     };
     let (constants, functions) = (count(MAX_CONSTANTS), count(MAX_FUNCTIONS));
     let (labels, code) = (count(MAX_LABELS), count(MAX_CODE).max(functions + 1));
-    let mut tables = Owned::default();
+    let edition = edition(rng);
+    let byte = |op: Op| op.byte(edition).expect("an opcode of both editions");
+    let mut tables = Owned {
+        edition: edition.word(),
+        ..Owned::default()
+    };
     for _ in 0..constants {
         let ty = rng.pick(&NUMBERS);
         let constant = constant(rng, ty);
@@ -189,8 +217,8 @@ fn limits(rng: &mut Rng) -> Owned {
     // an entry of `neg` alone, functions of `ret` alone
     let entry = code - functions;
     tables.entry_length = entry as u32;
-    tables.code = vec![NEG; entry];
-    tables.code.resize(code, RET);
+    tables.code = vec![byte(Op::Neg); entry];
+    tables.code.resize(code, byte(Op::Ret));
     for n in entry..code {
         tables.functions.extend((n as u32).to_le_bytes());
         tables.functions.extend([1, 0, 0, 0]);
@@ -215,6 +243,7 @@ fn random(rng: &mut Rng) -> Owned {
         rng.bytes(len)
     };
     Owned {
+        edition: 3,
         constants: bytes(40),
         functions: bytes(50),
         labels: bytes(30),

@@ -1,13 +1,13 @@
 //! Well-typed programs of several functions.
 
-use super::body::{Body, Shared, Signature};
+use super::body::{types, Body, Shared, Signature};
 use super::constants::pool;
 use super::rng::Rng;
 use crate::judge::Lists;
-use crate::opcode::Op;
+use crate::opcode::{Edition, Op};
 use crate::program::{Instr, Mark, Program, Routine};
 use crate::reader::ENTRY;
-use crate::types::{NUMBERS, SIX};
+use crate::types::NUMBERS;
 
 /// How large the program may become.
 #[derive(Clone, Copy)]
@@ -31,28 +31,33 @@ pub fn size(rng: &mut Rng) -> Size {
     }
 }
 
-pub fn signature(rng: &mut Rng) -> Signature {
+pub fn signature(rng: &mut Rng, edition: Edition) -> Signature {
     let count = rng.pick(&[0, 0, 1, 1, 2, 2, 3, 4, 8]);
     let parameters = (0..count)
         .map(|_| {
             if rng.percent(70) {
                 rng.pick(&NUMBERS)
             } else {
-                rng.pick(&SIX)
+                rng.pick(types(edition))
             }
         })
         .collect();
     (parameters, rng.pick(&[0, 3, 4, 6]))
 }
 
-pub fn program(rng: &mut Rng, size: Size) -> Program {
+pub fn program(rng: &mut Rng, edition: Edition, size: Size) -> Program {
     let extra = rng.range(0, 8);
     let shared = Shared {
+        edition,
+        ops: edition.ops(),
         constants: pool(rng, extra),
-        signatures: (0..size.functions).map(|_| signature(rng)).collect(),
+        signatures: (0..size.functions)
+            .map(|_| signature(rng, edition))
+            .collect(),
     };
     let mut builder = Builder {
         program: Program {
+            edition,
             constants: shared.constants.clone(),
             ..Program::default()
         },

@@ -4,6 +4,7 @@
 
 mod bodies;
 mod calls;
+pub mod editions;
 mod ends;
 pub mod formulas;
 mod instructions;
@@ -49,6 +50,7 @@ pub fn all() -> Vec<Stated> {
     all.extend(bodies::cases());
     all.extend(instructions::cases());
     all.extend(refusals::cases());
+    all.extend(editions::cases());
     all
 }
 

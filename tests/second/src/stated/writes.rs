@@ -51,6 +51,7 @@ pub fn all() -> Vec<StatedWrite> {
     all.extend(patched());
     all.extend(first_number());
     all.extend(outputs());
+    all.extend(editions());
     all
 }
 
@@ -72,6 +73,7 @@ fn w1() -> Owned {
 /// function of an int and a pointer to long that returns its first, one that only returns.
 fn base() -> Owned {
     Owned {
+        edition: 3,
         constants: bytes("03000000 07000000 00000000 04000000 05000000 00000000"),
         functions: bytes(
             "0A000000 06000000 02 03 0384000000000000 0000
@@ -344,6 +346,88 @@ fn outputs() -> Vec<StatedWrite> {
         patch(&mut tables, table, at, with);
         let name = format!("{name}, output one byte short");
         all.push(stated(&name, tables, 144, Err(number)));
+    }
+    all
+}
+
+/// The base for edition 1: the same code in its numbers, and a long in the pointer's place.
+fn old() -> Owned {
+    let mut tables = base();
+    tables.edition = 1;
+    tables.functions[11] = 4;
+    tables.code = bytes("0100000000 0101000000 0300000000 22 22");
+    tables
+}
+
+/// "A1, told which, writes either"; "2, now A1's too, means neither 1 nor 3".
+fn editions() -> Vec<StatedWrite> {
+    let header = BASE_HEADER.replacen("03000000", "01000000", 1);
+    let with = |mut tables: Owned, edition| {
+        tables.edition = edition;
+        tables
+    };
+    let empty = "01000000 30000000 00000000 30000000 00000000 30000000
+        00000000 30000000 00000000 30000000 00000000 00000000";
+    let mut all = vec![
+        stated("edition 1", old(), 145, Ok(joined(&header, &old()))),
+        stated("edition 1 to more", old(), 150, Ok(joined(&header, &old()))),
+        stated("edition 1, one byte short", old(), 144, Err(16)),
+        stated(
+            "edition 1, nothing at all",
+            with(Owned::default(), 1),
+            48,
+            Ok(bytes(empty)),
+        ),
+        refused(8, "edition 3, code of edition 1", with(old(), 3)),
+        refused(7, "edition 1, a pointer parameter", with(base(), 1)),
+    ];
+    for edition in [0, 2, 4, 257, 259, 0x0001_0000, 0x0100_0003, 0xFFFF_FFFF] {
+        all.push(refused(
+            2,
+            &format!("edition {edition}"),
+            with(base(), edition),
+        ));
+        all.push(stated(
+            &format!("edition {edition}, no output"),
+            with(base(), edition),
+            0,
+            Err(2),
+        ));
+    }
+    // 2 is the first
+    all.push(refused(
+        2,
+        "edition 2, 1,025 constants",
+        with(counts(1025, 0, 0, 1), 2),
+    ));
+    let mut part = with(base(), 4);
+    part.labels.push(0);
+    all.push(refused(2, "edition 4, part of a label", part));
+    // each opcode byte, as the entry: those of both editions, of one, of none
+    for byte in 0..=255u8 {
+        for edition in [1, 3] {
+            let tables = Owned {
+                edition,
+                code: vec![byte],
+                entry_length: 1,
+                ..Owned::default()
+            };
+            let short = match edition {
+                1 => matches!(byte, 0x02 | 0x05..=0x19 | 0x22..=0x25),
+                _ => matches!(byte, 0x02 | 0x07..=0x1F | 0x28 | 0x2B | 0x2C | 0x2E),
+            };
+            let name = format!("opcode {byte:02X} in edition {edition}");
+            if short {
+                let header = format!(
+                    "0{edition}000000 31000000 00000000 30000000 00000000 30000000
+                     00000000 30000000 01000000 30000000 01000000 00000000"
+                );
+                let file = joined(&header, &tables);
+                all.push(stated(&name, tables, 60, Ok(file)));
+            } else {
+                all.push(refused(8, &name, tables));
+            }
+        }
     }
     all
 }
