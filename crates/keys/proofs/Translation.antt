@@ -11,7 +11,7 @@ use lib.ListN.{length, set, length-set}
 use lib.Seq.{getD-set-same, getD-set-other}
 use lib.Dec.{ltb, eqb}
 use Rattle.rules.specs.Bytes.{byte, some-below}
-use Rattle.rules.specs.Instructions.{edition1, opcodeOf, operandBytes}
+use Rattle.rules.specs.Instructions.{Opcode, absent, bare, wide, edition1, opcodeOf, operandBytes}
 use Rattle.rules.specs.Tables.{differs, dueAfter, due}
 use Rattle.soundness.specs.Numbering.{keyOf}
 use Rattle.soundness.specs.Tests.{eqb-other}
@@ -66,6 +66,10 @@ unfolding due
 begins code own = record { inside = omega arith; same = refl; due-is = refl; keys = λ q l. absurd (omega arith) }
 
 module _ (code own₀ own : List ℕ) (p d : ℕ) (t : Translating code own₀ own p d) where
+  -- a second loop goes on where the first stopped
+  pub again : Translating code own own p d
+  again = record { inside = t .inside; same = refl; due-is = t .due-is; keys = t .keys }
+
   pub goes-on : length code ≤ length own₀ → p < length code → (k d′ : ℕ) → k ≡ cond (eqb d 0) (keyOf 1 (byte code p)) (byte code p)
       → d′ ≡ dueAfter d (opcodeOf edition1 (byte code p)) → Translating code own₀ (set own p k) (p + 1) d′
   unfolding due
@@ -82,6 +86,12 @@ module _ (code own₀ own : List ℕ) (p d : ℕ) (t : Translating code own₀ o
 
   pub ended : length code ≤ length own₀ → length code ≤ p → InKeys 1 code own
   ended l h = record { long = omega (arith, t .same); keys = λ q m. t .keys q (omega arith) }
+
+-- an opcode that no word follows
+pub no-word : (o : Opcode) (d : ℕ) → d ≡ operandBytes o → (d ≡ 4 → ⊥) → d ≡ 0
+no-word absent d e n = e
+no-word (bare i) d e n = e
+no-word (wide i) d e n = absurd (n e)
 
 -- a word behind its opcode
 pub word-copied : (code own₀ own : List ℕ) (p : ℕ) → Translating code own₀ own p 4 → length code ≤ length own₀ → p + 4 ≤ length code

@@ -65,36 +65,44 @@ fn in_keys(due: u32, b: u8) -> u8
     b
 }
 
-// Four bytes from p on, as they are.
+// Four bytes from p on, as they are. All are read before one is written: so the compiler copies them at once.
 fn copy_word(code: &[u8], own: &mut [u8], p: usize)
     requires { ⌜ (p + 4 ≤ length (now code)) × (p + 4 ≤ length (now own)) ⌝ }
     ensures { λ r. ⌜ now (own .exit) ≡ withWord (now (code .entry)) (now (own .entry)) p ⌝ }
 {
-    own[p] = code[p];
-    own[p + 1] = code[p + 1];
-    own[p + 2] = code[p + 2];
-    own[p + 3] = code[p + 3];
+    let w = code[p];
+    let x = code[p + 1];
+    let y = code[p + 2];
+    let z = code[p + 3];
+    own[p] = w;
+    own[p + 1] = x;
+    own[p + 2] = y;
+    own[p + 3] = z;
 }
 
-// Puts the code in keys into lent bytes. A word that is all there is copied at once.
+// Puts the code in keys into lent bytes: by instruction where a whole one is left for certain, then byte by byte.
 pub fn translate(code: &[u8], own: &mut [u8])
     requires { ⌜ length (now code) ≤ length (now own) ⌝ }
     ensures { λ r. ⌜ InKeys 1 (now (code .entry)) (now (own .exit)) ⌝ }
 {
-    let mut due = 0;
     let mut p = 0;
+    while p + 5 <= code.len() {
+        let b = code[p];
+        let k = key(b);
+        own[p] = k;
+        let operands = due_after(0, b);
+        p += 1;
+        if operands == 4 {
+            copy_word(code, own, p);
+            p += 4;
+        }
+    }
+    let mut due = 0;
     while p < code.len() {
         let b = code[p];
         let k = in_keys(due, b);
         own[p] = k;
         due = due_after(due, b);
         p += 1;
-        if due == 4 {
-            if p + 4 <= code.len() {
-                copy_word(code, own, p);
-                p += 4;
-                due = 0;
-            }
-        }
     }
 }
