@@ -11,7 +11,8 @@ use Rattle.rules.specs.Numbers.{done}
 use Rattle.rules.specs.Instructions.{call}
 use Rattle.rules.specs.Tables.{Body, entry, fn, bodyOf, bodyNumber, Function, Module}
 use Rattle.rules.specs.ModuleFile.{refusal, labels, functions, read}
-use Rattle.rules.specs.Stack.{Slot, Lent, pointerTo, at}
+use Rattle.rules.specs.Stack.{Slot, Lent, capacity, pointerTo, at}
+use Rattle.rules.specs.Heap.{LentHeap, heapCapacity}
 use Rattle.rules.specs.Machine.{Memory, State, Next, goes, finishes, advance, Outcome, outcome, run}
 use Rattle.rules.specs.Typing.{Lists, Typing, Consistent, WellTyped, Reached}
 use Rattle.rules.specs.Check.{recordBytes}
@@ -49,13 +50,16 @@ Shows m b p bytes =
 
 -- ---- the second part: "how a run can end"
 
--- "The four ends are outcomes 0, 15, 20 and 24." 02, A2: "Demand 3's ends .. gain this", 35. Exactly these: `exactly-five` of `Ends`
-pub data End : ℕ → Type 0 where
-  finished : End 0
-  used-up : End 15
-  overflow : End 20
-  zero-divide : End 24
-  no-order : End 35
+-- "The four ends are outcomes 0, 15, 20 and 24." 02: "Demand 3's ends .. gain this", 35 (A2); "gain, in edition 4, 33 and 36" (A6). By
+-- edition; exactly these: `Ends`
+pub data End : ℕ → ℕ → Type 0 where
+  finished : {e : ℕ} → End e 0
+  used-up : {e : ℕ} → End e 15
+  overflow : {e : ℕ} → End e 20
+  zero-divide : {e : ℕ} → End e 24
+  no-order : {e : ℕ} → End e 35
+  no-block : End 4 33
+  null-followed : End 4 36
 
 -- ---- the third part: "the slots below a call"
 
@@ -88,7 +92,8 @@ pub data During (m : Module) (cap d : ℕ) (s : State) : State → Type 0 where
 abbrev pub firstSlot : Function → State → ℕ
 firstSlot F s = length (s .memory .stack) - length (F .params)
 
--- "a pointer argument names the slot that it points to then": an argument, a slot from b on, is a pointer to x
+-- "a pointer argument names the slot that it points to then": an argument, a slot from b on, is a pointer to x. A heap pointer names
+-- none: its payload is no slot's number (`heap-names-none` of the crate soundness)
 abbrev pub Named : ℕ → List Slot → ℕ → Type 0
 Named b st x = (y : ℕ) × (b ≤ y) × (at st y ≡ some (pointerTo x))
 
@@ -122,14 +127,15 @@ pub record Demand3 : Type 0 where
   pub same-lists : (m : Module) (b : Body) (p : ℕ) → Reached m b p → (T U : Typing) → Consistent m b T → Consistent m b U → T p ≡ U p
   -- "Take any accepted module, run from its entry or from any function without pointer parameters on any arguments that
   -- document 01 admits. Whatever the allowance and the lent stack, this run can only finish, use up its allowance, overflow
-  -- the stack or divide by zero"; or compare with a NaN (02, A2). (With a pointer parameter, or with arguments that are not admitted, the run is refused: 13.)
+  -- the stack or divide by zero"; or compare with a NaN (02, A2); or, in edition 4, follow a pointer to no live block, or null (A6). (With a pointer parameter, or with arguments that are not admitted, the run is refused: 13.)
   pub ends : (s room : List ℕ) → IsAccepted s room → (f : ℕ) (args : Lent) → runRefusal s f args ≡ 0
-      → (n : ℕ) (x : Lent) → End (runNumber (runModule s f args n x .answer))
+      → (n : ℕ) (x : Lent) (y : LentHeap) → End (read s .edition) (runNumber (runModule s f args n x y .answer))
   -- "Take any call made in such a run, at whatever depth. At every moment from that call to its return, or to the run's end
   -- where it doesn't return, each slot below the called frame has the type and payload that it had at the call. The only
-  -- exceptions are the slots named by that call's own pointer arguments."
+  -- exceptions are the slots named by that call's own pointer arguments." (A run whose arguments don't fit makes no call.)
   pub kept : (s room : List ℕ) → IsAccepted s room → (f : ℕ) (args : Lent) → runRefusal s f args ≡ 0
-      → (cap : ℕ) → Kept (read s) cap (startState (read s) (bodyOf f) (arguments args))
+      → (x : Lent) (y : LentHeap) → length (arguments args) ≤ capacity x
+      → Kept (read s) (capacity x) (startState (read s) (bodyOf f) (arguments args) (heapCapacity y))
   -- the moments are those of `run`: it goes on from each with what is left of the allowance; and what it leaves is tied to one
   pub moments : (m : Module) (cap : ℕ) (s₀ s : State) (k : ℕ) → Moment m cap s₀ k s → (n : ℕ) → run m cap (k + n) 0 s₀ ≡ run m cap n k s
   pub leaves : (m : Module) (cap : ℕ) (s₀ : State) (n : ℕ) → Leaves m cap s₀ n (run m cap n 0 s₀)

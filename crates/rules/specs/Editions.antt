@@ -1,4 +1,4 @@
--- A table that is not of the paper: 02's A5, edition 1 beside edition 3.
+-- A table that is not of the paper: 02's A5, edition 1 beside edition 3. (Edition 4 is in `Heaps`.)
 use mathlib.Core.Path.{_≡_, refl}
 use Prim.Native.Nat.{ℕ, _-_, _^_}
 use mathlib.Core.List.{List, [], _∷_, _++_}
@@ -123,9 +123,9 @@ old-rows =
     -- what `inc` leaves is of the type that it took: it is added to a long, it is an argument
     ∷ (recipe 1 0x22 (PUSH 5 ++ (PUSH 5 ++ (0x0e ∷ 0x05 ∷ []))), shows Accepted 0 4 (slot 4 15 ∷ [])) ∷ (recipe 1 0x22 (PUSH 2 ++ (0x0e ∷ 0x21 ∷ bytes 4 0)), shows Accepted 0 5 (slot 3 6 ∷ []))
     ∷ (recipe 1 0x22 (PUSH 5 ++ (0x0e ∷ 0x21 ∷ bytes 4 0)), shows (Untyped 0xffffffff) 22 2 (slot 4 8 ∷ []))
-    -- 26 hex is no opcode; a pointer parameter; neither 1 nor 3
+    -- 26 hex is no opcode; a pointer parameter; no edition
     ∷ refused 8 (recipe 1 0x22 (0x26 ∷ [])) ∷ refused 8 (recipe 1 0x28 []) ∷ refused 7 (fileIn 1 [] (function (131 ∷ []) 0 (0x22 ∷ []) ∷ []) [] [])
-    ∷ refused 2 (recipe 0 0x22 POP) ∷ refused 2 (recipe 2 0x22 POP) ∷ refused 2 (recipe 4 0x22 POP)
+    ∷ refused 2 (recipe 0 0x22 POP) ∷ refused 2 (recipe 2 0x22 POP) ∷ refused 2 (recipe 5 0x22 POP)
     ∷ []
 
 pub old-computed : List (List ℕ × Shown) → List Shown

@@ -1,26 +1,44 @@
--- 01, Demand 3, its words: "The four ends are outcomes 0, 15, 20 and 24." and 02, A2, which adds 35. `End` holds of these numbers
--- and of no other.
+-- 01, Demand 3, its words: "The four ends are outcomes 0, 15, 20 and 24." and 02: A2, which adds 35, and A6, which adds 33 and 36 "in
+-- edition 4". `End` holds of these numbers and of no other.
 use mathlib.Core.Path.{_≡_, refl, sym, subst}
 use mathlib.Core.Logic.{_⊎_, inl, inr}
 use Prim.Native.Nat.{ℕ}
-use Rattle.rules.specs.Demand3.{End, finished, used-up, overflow, zero-divide, no-order}
+use Rattle.rules.specs.Demand3.{End, finished, used-up, overflow, zero-divide, no-order, no-block, null-followed}
 
+-- in every edition
 abbrev pub OneOfFive : ℕ → Type 0
-OneOfFive e = (e ≡ 0) ⊎ ((e ≡ 15) ⊎ ((e ≡ 20) ⊎ ((e ≡ 24) ⊎ (e ≡ 35))))
+OneOfFive n = (n ≡ 0) ⊎ ((n ≡ 15) ⊎ ((n ≡ 20) ⊎ ((n ≡ 24) ⊎ (n ≡ 35))))
 
-one-of-five : (e : ℕ) → End e → OneOfFive e
-one-of-five e finished = inl refl
-one-of-five e used-up = inr (inl refl)
-one-of-five e overflow = inr (inr (inl refl))
-one-of-five e zero-divide = inr (inr (inr (inl refl)))
-one-of-five e no-order = inr (inr (inr (inr refl)))
+-- and in edition 4
+abbrev pub OneOfTwo : ℕ → Type 0
+OneOfTwo n = (n ≡ 33) ⊎ (n ≡ 36)
 
-is-end : (e : ℕ) → OneOfFive e → End e
-is-end e (inl h) = subst End (sym h) finished
-is-end e (inr (inl h)) = subst End (sym h) used-up
-is-end e (inr (inr (inl h))) = subst End (sym h) overflow
-is-end e (inr (inr (inr (inl h)))) = subst End (sym h) zero-divide
-is-end e (inr (inr (inr (inr h)))) = subst End (sym h) no-order
+abbrev pub IsEnd : ℕ → ℕ → Type 0
+IsEnd e n = OneOfFive n ⊎ ((e ≡ 4) × OneOfTwo n)
 
-pub exactly-five : (e : ℕ) → (End e → OneOfFive e) × (OneOfFive e → End e)
-exactly-five e = (one-of-five e, is-end e)
+listed : (e n : ℕ) → End e n → IsEnd e n
+listed e n finished = inl (inl refl)
+listed e n used-up = inl (inr (inl refl))
+listed e n overflow = inl (inr (inr (inl refl)))
+listed e n zero-divide = inl (inr (inr (inr (inl refl))))
+listed e n no-order = inl (inr (inr (inr (inr refl))))
+listed e n no-block = inr (refl, inl refl)
+listed e n null-followed = inr (refl, inr refl)
+
+is-five : (e n : ℕ) → OneOfFive n → End e n
+is-five e n (inl h) = subst (End e) (sym h) finished
+is-five e n (inr (inl h)) = subst (End e) (sym h) used-up
+is-five e n (inr (inr (inl h))) = subst (End e) (sym h) overflow
+is-five e n (inr (inr (inr (inl h)))) = subst (End e) (sym h) zero-divide
+is-five e n (inr (inr (inr (inr h)))) = subst (End e) (sym h) no-order
+
+is-two : (n : ℕ) → OneOfTwo n → End 4 n
+is-two n (inl h) = subst (End 4) (sym h) no-block
+is-two n (inr h) = subst (End 4) (sym h) null-followed
+
+is-end : (e n : ℕ) → IsEnd e n → End e n
+is-end e n (inl h) = is-five e n h
+is-end e n (inr h) = subst (λ x. End x n) (sym (h .0)) (is-two n (h .1))
+
+pub exactly : (e n : ℕ) → (End e n → IsEnd e n) × (IsEnd e n → End e n)
+exactly e n = (listed e n, is-end e n)

@@ -81,7 +81,7 @@ codeBytes t = assembled (steps t)
 
 abbrev pub formulaTables : Tree → Tables
 formulaTables t =
-    tables 3 (constantBytes (ints (numbers t))) (functionBytes 0 (function (3 ∷ 3 ∷ 3 ∷ []) 3 (codeBytes t) ∷ [])) [] (codeBytes t) 0
+    tables 3 (constantBytes (ints (numbers t))) (functionBytes 0 (function (3 ∷ 3 ∷ 3 ∷ []) 3 (codeBytes t) ∷ [])) [] [] (codeBytes t) 0
 
 -- ---- "the reading's value in wrapping unsigned ints"; none "where a quotient is by zero"
 

@@ -9,6 +9,7 @@ pub mod Tables
 pub mod ModuleFile
 pub mod Writing
 pub mod Operations
+pub mod Heap
 pub mod Machine
 pub mod Typing
 pub mod Check
@@ -30,6 +31,7 @@ pub mod Exceptions
 pub mod HostCalls
 pub mod Refusals
 pub mod Editions
+pub mod Heaps
 pub mod Writings
 pub mod Formulas
 pub mod Typings

@@ -1,10 +1,12 @@
 -- A table that is not of the paper: refusals 1 to 9, each limit from both sides, and which of two comes first.
 use mathlib.Core.Path.{_≡_, refl}
 use Prim.Native.Nat.{ℕ, zero, suc}
+use mathlib.Core.Bool.{true, false}
 use mathlib.Core.List.{List, [], _∷_, _++_}
+use lib.Dec.{eqb}
 use lib.ListN.{take, set}
 use Rattle.rules.specs.Bytes.{words}
-use Rattle.rules.specs.Files.{PUSH, POP, LOAD, RET, function, fileIn, file}
+use Rattle.rules.specs.Files.{PUSH, POP, LOAD, RET, function, fileIn, file, file4}
 use Rattle.rules.specs.Samples.{w1}
 use Rattle.rules.specs.Evaluate.{refusalNow}
 
@@ -36,8 +38,8 @@ labelled ls = file ((3, 5) ∷ []) (function [] 3 (PUSH 0 ++ RET) ∷ function [
 pub rows : List (List ℕ × ℕ)
 rows =
     (w1, 0) ∷ ([], 1) ∷ (take 47 w1, 1) ∷ (take 48 w1, 3)
-    -- 2: neither 1 nor 3; 2 before 3, 3 before the rest
-    ∷ (set w1 0 0, 2) ∷ (set w1 0 1, 0) ∷ (set w1 0 2, 2) ∷ (set w1 0 4, 2) ∷ (set w1 3 1, 2) ∷ (set (set w1 0 1) 3 1, 2) ∷ (set (set w1 0 4) 4 0, 2) ∷ (w1 ++ (0 ∷ []), 3) ∷ (set w1 4 0x54, 3) ∷ (set (set w1 4 0x54) 44 1, 3)
+    -- 2: none of 1, 3 and 4; 2 before 3, 3 before the rest
+    ∷ (set w1 0 0, 2) ∷ (set w1 0 1, 0) ∷ (set w1 0 2, 2) ∷ (set w1 0 5, 2) ∷ (set w1 3 1, 2) ∷ (set (set w1 0 1) 3 1, 2) ∷ (set (set w1 0 5) 4 0, 2) ∷ (w1 ++ (0 ∷ []), 3) ∷ (set w1 4 0x54, 3) ∷ (set (set w1 4 0x54) 44 1, 3)
     -- the empty module; 4, each limit, and word 44; 4 before 5
     ∷ (bare 48 0 0 0 0 0 0, 0) ∷ (bare 48 1025 0 0 0 0 0, 4) ∷ (bare 48 1024 0 0 0 0 0, 5) ∷ (bare 48 0 129 0 0 0 0, 4) ∷ (bare 48 0 128 0 0 0 0, 5)
     ∷ (bare 48 0 0 257 0 0 0, 4) ∷ (bare 48 0 0 256 0 0 0, 5) ∷ (bare 48 0 0 0 16385 0 0, 4) ∷ (bare 48 0 0 0 16384 0 0, 5) ∷ (bare 48 0 0 0 0 0 1, 4) ∷ (bare 48 0 0 0 0 99999 0, 5)
@@ -83,9 +85,12 @@ table = refl
 
 -- ---- the opcodes of edition e: the bytes below n with which an entry can begin, four more after them
 
+beginning : ℕ → List ℕ → List ℕ
+beginning e code = elim (eqb e 4) [ true ↦ file4 [] [] [] code [] | false ↦ fileIn e [] [] [] code ]
+
 pub before : ℕ → ℕ → List ℕ → List ℕ
 before e zero bs = bs
-before e (suc b) bs = elim (refusalNow (fileIn e [] [] [] (b ∷ 2 ∷ 2 ∷ 2 ∷ 2 ∷ []))) [ zero ↦ before e b (b ∷ bs) | suc r ↦ before e b bs ]
+before e (suc b) bs = elim (refusalNow (beginning e (b ∷ 2 ∷ 2 ∷ 2 ∷ 2 ∷ []))) [ zero ↦ before e b (b ∷ bs) | suc r ↦ before e b bs ]
 
 abbrev from-to : ℕ → ℕ → List ℕ
 from-to b zero = []
@@ -93,10 +98,15 @@ from-to b (suc n) = b ∷ from-to (suc b) n
 
 -- "opcodes 01 to 05, 07 to 28, 2B, 2C, 2E (hex), 42 in all"
 pub opcodes-table : before 3 256 [] ≡ from-to 0x01 5 ++ (from-to 0x07 34 ++ (0x2b ∷ 0x2c ∷ 0x2e ∷ []))
-unfolding refusalNow before
+unfolding refusalNow beginning before
 opcodes-table = refl
+
+-- 02, A6: "It adds `null`, `new`, `delete`, `flea`"
+pub fourth-opcodes-table : before 4 256 [] ≡ from-to 0x01 40 ++ (0x2b ∷ 0x2c ∷ 0x2e ∷ 0x30 ∷ 0x31 ∷ 0x32 ∷ [])
+unfolding refusalNow beginning before
+fourth-opcodes-table = refl
 
 -- 02, A5: "01 to 25 (hex)"
 pub old-opcodes-table : before 1 256 [] ≡ from-to 0x01 37
-unfolding refusalNow before
+unfolding refusalNow beginning before
 old-opcodes-table = refl

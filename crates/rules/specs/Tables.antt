@@ -1,19 +1,21 @@
--- 01, Module file; Answers by number, 2, 4 and 6 to 9; 02, A1: "constant, function and label tables, code and entry length". The rows of
--- the table of refusals that look into the sections, and the module that these are. Reader and writer share all of it.
-use Prim.Native.Nat.{ℕ, zero, suc, _+_, _*_, _/_}
+-- 01, Module file; Answers by number, 2, 4 and 6 to 9; 02, A1: "constant, function and label tables, code and entry length"; A6: structures.
+-- The rows of the table of refusals that look into the sections, and the module that these are. Reader and writer share all of it.
+use Prim.Native.Nat.{ℕ, zero, suc, _+_, _*_, _-_, _/_}
 use mathlib.Core.Bool.{Bool, true, false, not, _&&_, _||_, cond}
-use mathlib.Core.Option.{Option}
+use mathlib.Core.Option.{Option, none, some}
 use mathlib.Core.List.{List, [], _∷_}
 use lib.ListN.{length}
 use lib.Dec.{ltb, leb, eqb}
-use Rattle.rules.specs.Bytes.{byte, word, within, some-below}
-use Rattle.rules.specs.Instructions.{Num, Ty, numOf, tyOf, Opcode, opcodes, opcodeOf, isAbsent, operandBytes, instructionOf, Instruction}
+use Rattle.rules.specs.Bytes.{byte, word, maybe, within, some-below}
+use Rattle.rules.specs.Instructions.{Num, int, Ty, numOf, tyOf, Opcode, opcodes, opcodeOf, isAbsent, operandBytes, instructionOf, Instruction}
 use Rattle.rules.specs.Stack.{Slot, slot}
 
--- the entry and the functions: the function records, the code of them all, the length of the entry's
+-- the entry and the functions: the function records, the structures that their signatures name, the code of them all, the length of
+-- the entry's
 pub record Bodies : Type 0 where
   pub edition : ℕ
   pub functions : List ℕ
+  pub structures : List ℕ
   pub code : List ℕ
   pub entry : ℕ
 
@@ -23,14 +25,15 @@ pub record Tables : Type 0 where
   pub labels : List ℕ
   pub bodies : Bodies
 
-abbrev pub bodies : ℕ → List ℕ → List ℕ → ℕ → Bodies
-bodies e fs code n = record { edition = e; functions = fs; code = code; entry = n }
+abbrev pub bodies : ℕ → List ℕ → List ℕ → List ℕ → ℕ → Bodies
+bodies e fs zs code n = record { edition = e; functions = fs; structures = zs; code = code; entry = n }
 
--- in the file's order: constants, functions, labels, code; edition first, the entry's length last
-abbrev pub tables : ℕ → List ℕ → List ℕ → List ℕ → List ℕ → ℕ → Tables
-tables e cs fs ls code n = record { constants = cs; labels = ls; bodies = bodies e fs code n }
+-- edition first; constants, functions, labels, structures, code; the entry's length last
+abbrev pub tables : ℕ → List ℕ → List ℕ → List ℕ → List ℕ → List ℕ → ℕ → Tables
+tables e cs fs ls zs code n = record { constants = cs; labels = ls; bodies = bodies e fs zs code n }
 
--- "Constant, 12 bytes", "Function, 20 bytes", "Label, 8 bytes": how many whole records a table has, and where they stand
+-- "Constant, 12 bytes", "Function, 20 bytes", "Label, 8 bytes", "12-byte structure records" (02, A6): how many whole records a table
+-- has, and where they stand
 abbrev pub constantCount : List ℕ → ℕ
 constantCount cs = length cs / 12
 
@@ -39,6 +42,9 @@ functionCount fs = length fs / 20
 
 abbrev pub labelCount : List ℕ → ℕ
 labelCount ls = length ls / 8
+
+abbrev pub structureCount : List ℕ → ℕ
+structureCount zs = length zs / 12
 
 abbrev pub constantAt : ℕ → ℕ
 constantAt i = 12 * i
@@ -49,20 +55,32 @@ functionAt i = 20 * i
 abbrev pub labelAt : ℕ → ℕ
 labelAt i = 8 * i
 
+abbrev pub structureAt : ℕ → ℕ
+structureAt i = 12 * i
+
 abbrev pub differs : ℕ → ℕ → Bool
 differs a b = not (eqb a b)
 
--- ---- 2: "neither 1 nor 3" (02, A5)
+-- "Edition 4 has a 56-byte header" (02, A6)
+abbrev pub headerSize : ℕ → ℕ
+headerSize e = cond (eqb e 4) 56 48
+
+-- ---- 2: "none of 1, 3 and 4" (02, A6)
 
 abbrev pub unknownEdition : ℕ → Bool
-unknownEdition e = differs e 1 && differs e 3
+unknownEdition e = differs e 1 && differs e 3 && differs e 4
 
 -- ---- 4: "a count or the code length is over its limit"
 
-abbrev pub overLimits : ℕ → ℕ → ℕ → ℕ → Bool
-overLimits c f l n = ltb 1024 c || ltb 128 f || ltb 256 l || ltb 16384 n
+-- "structure count, at most 16"; "a structure for another edition is 4" (02, A6)
+abbrev pub structureLimit : ℕ → ℕ
+structureLimit e = cond (eqb e 4) 16 0
 
--- ---- 6: "a constant of another type, or an int with upper bytes set"
+-- in edition e: constants, functions, labels, bytes of code, structures
+abbrev pub overLimits : ℕ → ℕ → ℕ → ℕ → ℕ → ℕ → Bool
+overLimits e c f l n z = ltb 1024 c || ltb 128 f || ltb 256 l || ltb 16384 n || ltb (structureLimit e) z
+
+-- ---- 6: "a constant of another type, or an int with upper bytes set"; "a bad structure record is 6" (02, A6)
 
 -- type word t, upper payload word u
 abbrev pub oddConstant : ℕ → ℕ → Bool
@@ -74,26 +92,49 @@ badConstant cs i = oddConstant (word 4 cs (constantAt i)) (word 4 cs (constantAt
 unfoldable pub badConstants : List ℕ → Bool
 badConstants cs = some-below (constantCount cs) (badConstant cs)
 
--- ---- 7: "a bad function record, or bodies that don't fill the code"
-
 abbrev pub numberType : ℕ → Bool
 numberType t = eqb t 3 || eqb t 4 || eqb t 6
 
--- "return type (one byte: 0, 3, 4, 6)"
-abbrev pub oddReturn : ℕ → Bool
-oddReturn t = differs t 0 && not (numberType t)
+-- "field count 1 to 8, eight type bytes (3, 4, 6, unused 0), three zeros"
+abbrev pub oddField : Bool → ℕ → Bool
+oddField used t = (used && not (numberType t)) || (not used && differs t 0)
+
+-- type byte j of the record at byte a
+unfoldable pub badField : List ℕ → ℕ → ℕ → Bool
+badField zs a j = oddField (ltb j (byte zs a)) (byte zs (a + 1 + j))
+
+unfoldable pub badStructureRecord : List ℕ → ℕ → Bool
+badStructureRecord zs a =
+    eqb (byte zs a) 0 || ltb 8 (byte zs a) || some-below 8 (badField zs a) || differs (byte zs (a + 9)) 0 || differs (byte zs (a + 10)) 0
+    || differs (byte zs (a + 11)) 0
+
+unfoldable pub badStructure : List ℕ → ℕ → Bool
+badStructure zs i = badStructureRecord zs (structureAt i)
+
+unfoldable pub badStructures : List ℕ → Bool
+badStructures zs = some-below (structureCount zs) (badStructure zs)
+
+-- ---- 7: "a bad function record, or bodies that don't fill the code"; a structure that is "an undeclared one in a signature" (02, A6)
+
+-- "8A to 99 (hex) mean pointer to a structure", numbered from 10, of which z are declared
+abbrev pub structureType : ℕ → ℕ → Bool
+structureType z t = leb 138 t && ltb t (138 + z)
+
+-- "return type (one byte: 0, 3, 4, 6)"; "functions may return those", pointers to structures (02, A6)
+abbrev pub oddReturn : ℕ → ℕ → Bool
+oddReturn z t = differs t 0 && not (numberType t || structureType z t)
 
 -- "83, 84, 86 hex for pointer to one"; in edition 1 "No pointer types in signatures (7)" (02, A5)
 abbrev pub pointerType : ℕ → ℕ → Bool
 pointerType e t = differs e 1 && (eqb t 131 || eqb t 132 || eqb t 134)
 
--- "eight parameter type bytes (3, 4, 6, or 83, 84, 86 hex for pointer to one; unused are 0)", in edition e
-abbrev pub oddParam : ℕ → Bool → ℕ → Bool
-oddParam e used t = (used && not (numberType t || pointerType e t)) || (not used && differs t 0)
+-- "eight parameter type bytes (3, 4, 6, or 83, 84, 86 hex for pointer to one; unused are 0)", in edition e with z structures
+abbrev pub oddParam : ℕ → ℕ → Bool → ℕ → Bool
+oddParam e z used t = (used && not (numberType t || pointerType e t || structureType z t)) || (not used && differs t 0)
 
 -- parameter byte j of the record at byte a
-unfoldable pub badParam : ℕ → List ℕ → ℕ → ℕ → Bool
-badParam e s a j = oddParam e (ltb j (byte s (a + 8))) (byte s (a + 10 + j))
+unfoldable pub badParam : ℕ → ℕ → List ℕ → ℕ → ℕ → Bool
+badParam e z s a j = oddParam e z (ltb j (byte s (a + 8))) (byte s (a + 10 + j))
 
 -- "Code begins with the entry's body; function bodies follow in number order without gaps": the place where the body
 -- before function i ends, the lengths summed without wrapping
@@ -103,13 +144,13 @@ endBefore b (suc i) = endBefore b i + word 4 (b .functions) (functionAt i + 4)
 
 -- the record at byte a, of a body that must start at the place `from`: "start, length (≥ 1), parameter count (0 to 8,
 -- one byte), return type, .., two zero bytes"
-unfoldable pub badRecord : ℕ → List ℕ → ℕ → ℕ → Bool
-badRecord e s a from =
-    differs (word 4 s a) from || eqb (word 4 s (a + 4)) 0 || ltb 8 (byte s (a + 8)) || oddReturn (byte s (a + 9))
-    || some-below 8 (badParam e s a) || differs (byte s (a + 18)) 0 || differs (byte s (a + 19)) 0
+unfoldable pub badRecord : ℕ → ℕ → List ℕ → ℕ → ℕ → Bool
+badRecord e z s a from =
+    differs (word 4 s a) from || eqb (word 4 s (a + 4)) 0 || ltb 8 (byte s (a + 8)) || oddReturn z (byte s (a + 9))
+    || some-below 8 (badParam e z s a) || differs (byte s (a + 18)) 0 || differs (byte s (a + 19)) 0
 
 unfoldable pub badFunction : Bodies → ℕ → Bool
-badFunction b i = badRecord (b .edition) (b .functions) (functionAt i) (endBefore b i)
+badFunction b i = badRecord (b .edition) (structureCount (b .structures)) (b .functions) (functionAt i) (endBefore b i)
 
 -- "and fill the section"
 unfoldable pub badFunctions : Bodies → Bool
@@ -172,7 +213,8 @@ firstOf n (false ∷ ts) = firstOf (suc n) ts
 
 -- rows 6 to 9
 abbrev pub contentTests : Tables → List Bool
-contentTests t = badConstants (t .constants) ∷ badFunctions (t .bodies) ∷ badCode (t .bodies) ∷ badLabels (t .bodies) (t .labels) ∷ []
+contentTests t =
+    (badConstants (t .constants) || badStructures (t .bodies .structures)) ∷ badFunctions (t .bodies) ∷ badCode (t .bodies) ∷ badLabels (t .bodies) (t .labels) ∷ []
 
 -- ---- the module that these tables are; everything after speaks of a `Module` and not of bytes
 
@@ -200,10 +242,13 @@ pub record Function : Type 0 where
   pub start : ℕ
   pub end : ℕ
   pub params : List Ty
-  pub result : Option Num
+  pub result : Option Ty
 
--- isPlace: "its places (instruction starts, its end)", of a body; extent: the code's length
+-- edition: whose rules hold; structure: the fields of a structure by its type number, from 10 on, the last one first; isPlace: "its
+-- places (instruction starts, its end)", of a body; extent: the code's length
 pub record Module : Type 0 where
+  pub edition : ℕ
+  pub structure : ℕ → Option (List Num)
   pub constant : ℕ → Option Slot
   pub function : ℕ → Option Function
   pub label : ℕ → Option (Body × ℕ)
@@ -217,9 +262,25 @@ abbrev pub paramsFrom : List ℕ → ℕ → ℕ → List Ty
 paramsFrom s a zero = []
 paramsFrom s a (suc n) = tyOf (byte s (a + n)) ∷ paramsFrom s a n
 
+-- no result for 0
+abbrev pub resultOf : ℕ → Option Ty
+resultOf t = cond (eqb t 0) none (some (tyOf t))
+
 unfoldable pub functionOf : List ℕ → ℕ → Function
 functionOf s a =
-    record { start = word 4 s a; end = word 4 s a + word 4 s (a + 4); params = paramsFrom s (a + 10) (byte s (a + 8)); result = numOf (byte s (a + 9)) }
+    record { start = word 4 s a; end = word 4 s a + word 4 s (a + 4); params = paramsFrom s (a + 10) (byte s (a + 8)); result = resultOf (byte s (a + 9)) }
+
+-- the type of a field. A file that can be read has no other number there: refusal 6
+abbrev pub fieldOf : ℕ → Num
+fieldOf t = maybe (numOf t) int (λ τ. τ)
+
+-- n type bytes from byte a on, the last one first
+abbrev pub fieldsFrom : List ℕ → ℕ → ℕ → List Num
+fieldsFrom zs a zero = []
+fieldsFrom zs a (suc n) = fieldOf (byte zs (a + n)) ∷ fieldsFrom zs a n
+
+unfoldable pub structureOf : List ℕ → ℕ → List Num
+structureOf zs i = fieldsFrom zs (structureAt i + 1) (byte zs (structureAt i))
 
 -- the type word is 3, 4 or 6 where row 6 doesn't hold, so its first byte is the type
 unfoldable pub constantOf : List ℕ → ℕ → Slot
@@ -246,6 +307,8 @@ placeIn b x p = leb (bodyStart b x) p && leb p (bodyEnd b x) && eqb (dueIn b p) 
 unfoldable pub moduleOf : Tables → Module
 moduleOf t =
     record {
+      edition = t .bodies .edition;
+      structure = λ k. within (leb 10 k && ltb k (10 + structureCount (t .bodies .structures))) (structureOf (t .bodies .structures) (k - 10));
       constant = λ k. within (ltb k (constantCount (t .constants))) (constantOf (t .constants) k);
       function = λ k. within (ltb k (functionCount (t .bodies .functions))) (functionOf (t .bodies .functions) (functionAt k));
       label = λ k. within (ltb k (labelCount (t .labels))) (labelOf (t .labels) k);
