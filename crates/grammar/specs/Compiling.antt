@@ -14,6 +14,8 @@ use Rattle.rules.specs.Tables.{moduleOf}
 use Rattle.rules.specs.ModuleFile.{labels, tablesIn, refusal, read}
 use Rattle.rules.specs.Writing.{fileOf}
 use Rattle.rules.specs.Stack.{slot, Lent, capacity, slotAt, slotsOf, payloadBytes, typeBytes, payloadsAfter, typesAfter, lentAfter}
+use Rattle.rules.specs.Instructions.{num}
+use Rattle.rules.specs.Heap.{LentHeap, heapCapacity}
 use Rattle.rules.specs.Machine.{Outcome, run}
 use Rattle.rules.specs.Answers.{topSlot, arguments, runRefusal, outcomeOf, ran, runModule}
 use Rattle.rules.specs.Demand3.{IsAccepted}
@@ -49,9 +51,9 @@ unfolding slotAt payloadsAfter typesAfter payloadBytes typeBytes word
 top-is v x h c = ap (λ (k : ℕ). some (slot 3 k)) (number-bytes 8 v (omega arith))
 
 -- an int's value fits, so that its payload is the value
-gives : (v : Option ℕ) → Fits v → (x : Lent) → 1 ≤ capacity x → (o : Outcome) → Ends v o → GivesValue v (ran o x)
-gives none f x c o d = rw (d .2) refl
-gives (some k) f x c o d = (rw (d .1) refl, rw (d .1) (top-is k x f c))
+gives : (v : Option ℕ) → Fits v → (x : Lent) (y : LentHeap) → 1 ≤ capacity x → (n : ℕ) (o : Outcome) → Ends n v o → GivesValue v (ran o x y)
+gives none f x y c n o d = rw (d .2) refl
+gives (some k) f x y c n o d = (rw (d .1) refl, rw (d .1) (top-is k x f c))
 
 -- ---- the file of a tree of at most 256 instructions
 
@@ -79,18 +81,18 @@ module _ (t : Tree) (w : Proper t) (few : count t ≤ 256) where
     started =
         rw (readable .0, file-holds .is-function, arguments-are r g b hr hg hb, ltb-yes r 4294967296 hr, ltb-yes g 4294967296 hg, ltb-yes b 4294967296 hb) refl
 
-    ran-is : (A : ℕ) (x : Lent) → 3 ≤ capacity x
-        → runModule (fileFor t) 0 (threeInts r g b) A x ≡ ran (run (read (fileFor t)) (capacity x) A 0 (here (file-holds .stop) 0 (three r g b))) x
+    ran-is : (A : ℕ) (x : Lent) (y : LentHeap) → 3 ≤ capacity x
+        → runModule (fileFor t) 0 (threeInts r g b) A x y ≡ ran (run (read (fileFor t)) (capacity x) A 0 (here (heapCapacity y) (file-holds .stop) 0 (three r g b))) x y
     unfolding runModule outcomeOf
-    ran-is A x c = rw (started, arguments-are r g b hr hg hb, leb-yes 3 (capacity x) c, file-holds .is-function) refl
+    ran-is A x y c = rw (started, arguments-are r g b hr hg hb, leb-yes 3 (capacity x) c, file-holds .is-function) refl
 
-    tree-gives : need t ≤ 32 → (A : ℕ) (x : Lent) → 257 ≤ A → 35 ≤ capacity x
-        → GivesValue (value (parameters r g b) t) (runModule (fileFor t) 0 (threeInts r g b) A x)
-    tree-gives n A x l c =
+    tree-gives : need t ≤ 32 → (A : ℕ) (x : Lent) (y : LentHeap) → 257 ≤ A → 35 ≤ capacity x
+        → GivesValue (value (parameters r g b) t) (runModule (fileFor t) 0 (threeInts r g b) A x y)
+    tree-gives n A x y l c =
         let h : Holds (read (fileFor t)) t = file-holds in
-        rw (ran-is A x (omega arith))
-        (gives (value (parameters r g b) t) (value-fits (parameters r g b) (three-small r g b hr hg hb) t w) x (omega arith) (run (read (fileFor t)) (capacity x) A 0 (here (h .stop) 0 (three r g b)))
-        (code-runs (read (fileFor t)) (capacity x) (h .stop) (record { start = 0; end = h .stop; params = locals; result = some int }) (h .is-function) refl r g b hr hg hb t A w (h .laid) (h .pool) (omega arith) (omega (arith, postfix-count t 0))))
+        rw (ran-is A x y (omega arith))
+        (gives (value (parameters r g b) t) (value-fits (parameters r g b) (three-small r g b hr hg hb) t w) x y (omega arith) (heapCapacity y) (run (read (fileFor t)) (capacity x) A 0 (here (heapCapacity y) (h .stop) 0 (three r g b)))
+        (code-runs (read (fileFor t)) (capacity x) (heapCapacity y) (h .stop) (record { start = 0; end = h .stop; params = locals; result = some (num int) }) (h .is-function) refl r g b hr hg hb t A w (h .laid) (h .pool) (omega arith) (omega (arith, postfix-count t 0))))
 
 -- ---- lines
 
@@ -135,7 +137,7 @@ compiles =
       unique = λ s t u a b. unique a b;
       unique-within = λ d s t u a b. unique (a .line) (b .line);
       accepted = λ line out n e room. let c = compiled-as line out n e in rw (c .file) (tree-accepted (c .tree) (spells-proper (c .derived)) (c .few) (c .narrow) room);
-      gives = λ line out n e r g b hr hg hb A x l k.
+      gives = λ line out n e r g b hr hg hb A x y l k.
           let c = compiled-as line out n e in
-          rw (c .file) (c .tree, c .derived, tree-gives (c .tree) (spells-proper (c .derived)) (c .few) r g b hr hg hb (c .narrow) A x l k);
+          rw (c .file) (c .tree, c .derived, tree-gives (c .tree) (spells-proper (c .derived)) (c .few) r g b hr hg hb (c .narrow) A x y l k);
     }

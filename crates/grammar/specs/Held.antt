@@ -10,8 +10,8 @@ use lib.Seq.{drop-drop, getD-drop, drop-at}
 use lib.Dec.{ltb, eqb}
 use Rattle.soundness.specs.Names.{push, load, one, two, ret, neg, arith as arithmetic, int}
 use Rattle.rules.specs.Bytes.{number, bytes, byte, word, some-below}
-use Rattle.rules.specs.Instructions.{size, Opcode, bare, wide, edition3, opcodeOf, isAbsent, operandBytes, instructionOf}
-use Rattle.rules.specs.Tables.{constantCount, constantAt, badConstant, badConstants, badParam, endBefore, badRecord, badFunction, badFunctions, opcodeAt, due, unknownAt, crossed, badCode, badLabels, firstOf, fn, Module, functionOf, constantOf, codeOf, placeIn, moduleOf}
+use Rattle.rules.specs.Instructions.{num, size, Opcode, bare, wide, edition3, opcodeOf, isAbsent, operandBytes, instructionOf}
+use Rattle.rules.specs.Tables.{constantCount, constantAt, badConstant, badConstants, badStructures, badParam, endBefore, badRecord, badFunction, badFunctions, opcodeAt, due, unknownAt, crossed, badCode, badLabels, firstOf, fn, Module, functionOf, constantOf, codeOf, placeIn, moduleOf}
 use Rattle.rules.specs.Writing.{fileLength, tooMany, broken, tableRefusal}
 use Rattle.rules.specs.Stack.{slot}
 use Rattle.rules.specs.Files.{constantBytes}
@@ -265,7 +265,7 @@ module _ (t : Tree) (w : Proper t) (few : count t ≤ 256) where
   ninth = refl
 
   pub tables-good : tableRefusal (formulaTables t) ≡ 0
-  unfolding tableRefusal firstOf
+  unfolding tableRefusal firstOf badStructures some-below
   tables-good = rw (fourth, fifth, sixth (numbers t) (numbers-fit t w), seventh, eighth, ninth) refl
 
   -- ---- the module
@@ -279,7 +279,7 @@ module _ (t : Tree) (w : Proper t) (few : count t ≤ 256) where
       let h = int-at (numbers t) (numbers-fit t w) i l in
       rw (q, c, ltb-yes i (length (numbers t)) l, h .type-byte, h .payload) refl)
 
-  function-held : moduleOf (formulaTables t) .function 0 ≡ some (record { start = 0; end = length (codeBytes t); params = locals; result = some int })
+  function-held : moduleOf (formulaTables t) .function 0 ≡ some (record { start = 0; end = length (codeBytes t); params = locals; result = some (num int) })
   unfolding moduleOf functionOf word
   function-held = let n : 0 + length (codeBytes t) ≡ length (codeBytes t) = omega arith in rw (length-word, n) refl
 

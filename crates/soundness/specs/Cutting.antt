@@ -2,17 +2,17 @@
 use mathlib.Core.Path.{_≡_, _∙_, subst}
 use Prim.Native.Nat.{ℕ, zero, suc, _+_, _*_, _%_, _≤_, _<_}
 use native.Mathlib.Omega.{arith}
-use mathlib.Core.Bool.{false}
+use mathlib.Core.Bool.{Bool, true, false, _&&_}
 use mathlib.Core.List.{List, [], _∷_}
 use lib.ListN.{length, getD, take, drop, length-drop}
 use lib.Seq.{length-take-le, getD-drop}
-use lib.Dec.{ltb}
+use lib.Dec.{ltb, eqb}
 use Rattle.rules.specs.Bytes.{word, cut}
-use Rattle.rules.specs.Tables.{differs, overLimits, firstOf, contentTests, constantCount, functionCount, labelCount, badConstants, badFunctions}
-use Rattle.rules.specs.ModuleFile.{constants, functions, labels, codeLength, entryLength, functionsAt, labelsAt, codeAt, constantsIn, functionsIn, labelsIn, codeIn, bodiesIn, tablesIn, short, otherEdition, otherTotal, overLimit, notPacked, refusal}
+use Rattle.rules.specs.Tables.{differs, overLimits, firstOf, contentTests, constantCount, functionCount, labelCount, structureCount, badConstants, badStructures, badFunctions}
+use Rattle.rules.specs.ModuleFile.{edition, constants, functions, labels, codeLength, entryLength, structures, constantsAt, functionsAt, labelsAt, codeAt, structuresAt, constantsIn, functionsIn, labelsIn, codeIn, structuresIn, bodiesIn, tablesIn, short, otherEdition, otherTotal, overLimit, notPacked, refusal}
 use Rattle.rules.specs.Writing.{tooMany, broken, tableRefusal}
 use Rattle.rules.specs.Claims.{AreBytes}
-use Rattle.soundness.specs.Tests.{ltb-isnt, ltb-no, or-neither}
+use Rattle.soundness.specs.Tests.{ltb-isnt, ltb-no, and-not, or-neither}
 use Rattle.soundness.specs.Readable.{AllFalse, none-first, same-numbers, good-tables}
 
 -- ---- a part of a list
@@ -45,17 +45,21 @@ function-count-le s = let h : length (functionsIn s) ≤ 20 * functions s = leng
 pub label-count-le : (s : List ℕ) → labelCount (labelsIn s) ≤ labels s
 label-count-le s = let h : length (labelsIn s) ≤ 8 * labels s = length-cut-le s (labelsAt s) (8 * labels s) in omega arith
 
+pub structure-count-le : (s : List ℕ) → structureCount (structuresIn s) ≤ structures s
+structure-count-le s = let h : length (structuresIn s) ≤ 12 * structures s = length-cut-le s (structuresAt s) (12 * structures s) in omega arith
+
 -- ---- rows 1 to 5
 
 pub record Packed (s : List ℕ) : Type 0 where
   pub total : word 4 s 4 ≡ length s
-  pub limits : overLimits (constants s) (functions s) (labels s) (codeLength s) ≡ false
+  pub limits : overLimits (edition s) (constants s) (functions s) (labels s) (codeLength s) (structures s) ≡ false
   pub zero-word : word 4 s 44 ≡ 0
-  pub constants-at : word 4 s 12 ≡ 48
+  pub constants-at : word 4 s 12 ≡ constantsAt s
   pub functions-at : word 4 s 20 ≡ functionsAt s
   pub labels-at : word 4 s 28 ≡ labelsAt s
   pub code-at : word 4 s 36 ≡ codeAt s
-  pub whole : codeAt s + codeLength s ≡ length s
+  pub structures-at : eqb (edition s) 4 ≡ true → word 4 s 52 ≡ structuresAt s
+  pub whole : structuresAt s + 12 * structures s ≡ length s
   pub inside : entryLength s ≤ codeLength s
 
 module _ (s : List ℕ) (e : refusal s ≡ 0) where
@@ -66,40 +70,45 @@ module _ (s : List ℕ) (e : refusal s ≡ 0) where
   pub packed : Packed s
   unfolding overLimit notPacked
   packed =
-      let l : (overLimits (constants s) (functions s) (labels s) (codeLength s) ≡ false) × (differs (word 4 s 44) 0 ≡ false) =
-      or-neither (overLimits (constants s) (functions s) (labels s) (codeLength s)) (differs (word 4 s 44) 0) (rows .1 .1 .1 .0) in
-      let p6 : _ × (ltb (codeLength s) (entryLength s) ≡ false) = or-neither _ (ltb (codeLength s) (entryLength s)) (rows .1 .1 .1 .1 .0) in
-      let p5 : _ × (differs (codeAt s + codeLength s) (word 4 s 4) ≡ false) = or-neither _ (differs (codeAt s + codeLength s) (word 4 s 4)) (p6 .0) in
+      let over : Bool = overLimits (edition s) (constants s) (functions s) (labels s) (codeLength s) (structures s) in
+      let l : (over ≡ false) × (differs (word 4 s 44) 0 ≡ false) = or-neither over (differs (word 4 s 44) 0) (rows .1 .1 .1 .0) in
+      let p7 : _ × (ltb (codeLength s) (entryLength s) ≡ false) = or-neither _ (ltb (codeLength s) (entryLength s)) (rows .1 .1 .1 .1 .0) in
+      let p6 : _ × (differs (structuresAt s + 12 * structures s) (word 4 s 4) ≡ false) = or-neither _ (differs (structuresAt s + 12 * structures s) (word 4 s 4)) (p7 .0) in
+      let p5 : _ × ((eqb (edition s) 4 && differs (word 4 s 52) (structuresAt s)) ≡ false) = or-neither _ (eqb (edition s) 4 && differs (word 4 s 52) (structuresAt s)) (p6 .0) in
       let p4 : _ × (differs (word 4 s 36) (codeAt s) ≡ false) = or-neither _ (differs (word 4 s 36) (codeAt s)) (p5 .0) in
       let p3 : _ × (differs (word 4 s 28) (labelsAt s) ≡ false) = or-neither _ (differs (word 4 s 28) (labelsAt s)) (p4 .0) in
-      let p2 : (differs (word 4 s 12) 48 ≡ false) × (differs (word 4 s 20) (functionsAt s) ≡ false) =
-      or-neither (differs (word 4 s 12) 48) (differs (word 4 s 20) (functionsAt s)) (p3 .0) in
+      let p2 : (differs (word 4 s 12) (constantsAt s) ≡ false) × (differs (word 4 s 20) (functionsAt s) ≡ false) =
+      or-neither (differs (word 4 s 12) (constantsAt s)) (differs (word 4 s 20) (functionsAt s)) (p3 .0) in
       let t : word 4 s 4 ≡ length s = same-numbers (word 4 s 4) (length s) (rows .1 .1 .0) in
       record {
         total = t;
         limits = l .0;
         zero-word = same-numbers (word 4 s 44) 0 (l .1);
-        constants-at = same-numbers (word 4 s 12) 48 (p2 .0);
+        constants-at = same-numbers (word 4 s 12) (constantsAt s) (p2 .0);
         functions-at = same-numbers (word 4 s 20) (functionsAt s) (p2 .1);
         labels-at = same-numbers (word 4 s 28) (labelsAt s) (p3 .1);
         code-at = same-numbers (word 4 s 36) (codeAt s) (p4 .1);
-        whole = same-numbers (codeAt s + codeLength s) (word 4 s 4) (p5 .1) ∙ t;
-        inside = ltb-isnt (codeLength s) (entryLength s) (p6 .1);
+        structures-at = λ y. same-numbers (word 4 s 52) (structuresAt s) (and-not (eqb (edition s) 4) (differs (word 4 s 52) (structuresAt s)) (p5 .1) y);
+        whole = same-numbers (structuresAt s + 12 * structures s) (word 4 s 4) (p6 .1) ∙ t;
+        inside = ltb-isnt (codeLength s) (entryLength s) (p7 .1);
       }
 
   -- ---- the tables are as long as the header counts
 
   pub constants-length : length (constantsIn s) ≡ 12 * constants s
-  constants-length = let w : codeAt s + codeLength s ≡ length s = packed .whole in length-cut s 48 (12 * constants s) (omega arith)
+  constants-length = let w : structuresAt s + 12 * structures s ≡ length s = packed .whole in length-cut s (constantsAt s) (12 * constants s) (omega arith)
 
   pub functions-length : length (functionsIn s) ≡ 20 * functions s
-  functions-length = let w : codeAt s + codeLength s ≡ length s = packed .whole in length-cut s (functionsAt s) (20 * functions s) (omega arith)
+  functions-length = let w : structuresAt s + 12 * structures s ≡ length s = packed .whole in length-cut s (functionsAt s) (20 * functions s) (omega arith)
 
   pub labels-length : length (labelsIn s) ≡ 8 * labels s
-  labels-length = let w : codeAt s + codeLength s ≡ length s = packed .whole in length-cut s (labelsAt s) (8 * labels s) (omega arith)
+  labels-length = let w : structuresAt s + 12 * structures s ≡ length s = packed .whole in length-cut s (labelsAt s) (8 * labels s) (omega arith)
 
   pub code-length : length (codeIn s) ≡ codeLength s
-  code-length = let w : codeAt s + codeLength s ≡ length s = packed .whole in length-cut s (codeAt s) (codeLength s) (omega arith)
+  code-length = let w : structuresAt s + 12 * structures s ≡ length s = packed .whole in length-cut s (codeAt s) (codeLength s) (omega arith)
+
+  pub structures-length : length (structuresIn s) ≡ 12 * structures s
+  structures-length = let w : structuresAt s + 12 * structures s ≡ length s = packed .whole in length-cut s (structuresAt s) (12 * structures s) (omega arith)
 
   pub constant-count : constantCount (constantsIn s) ≡ constants s
   constant-count = let h : length (constantsIn s) ≡ 12 * constants s = constants-length in omega arith
@@ -110,10 +119,13 @@ module _ (s : List ℕ) (e : refusal s ≡ 0) where
   pub label-count : labelCount (labelsIn s) ≡ labels s
   label-count = let h : length (labelsIn s) ≡ 8 * labels s = labels-length in omega arith
 
+  pub structure-count : structureCount (structuresIn s) ≡ structures s
+  structure-count = let h : length (structuresIn s) ≡ 12 * structures s = structures-length in omega arith
+
   -- rows 4 and 5 of the writer don't hold of the tables of a file that can be read
   not-many : tooMany (tablesIn s) ≡ false
   unfolding tooMany
-  not-many = rw (constant-count, function-count, label-count, code-length) (packed .limits)
+  not-many = rw (constant-count, function-count, label-count, code-length, structure-count) (packed .limits)
 
   not-broken : broken (tablesIn s) ≡ false
   unfolding broken
@@ -121,7 +133,8 @@ module _ (s : List ℕ) (e : refusal s ≡ 0) where
       let c : length (constantsIn s) % 12 ≡ 0 = let h : length (constantsIn s) ≡ 12 * constants s = constants-length in omega arith in
       let f : length (functionsIn s) % 20 ≡ 0 = let h : length (functionsIn s) ≡ 20 * functions s = functions-length in omega arith in
       let l : length (labelsIn s) % 8 ≡ 0 = let h : length (labelsIn s) ≡ 8 * labels s = labels-length in omega arith in
-      rw (c, f, l, code-length) (ltb-no (codeLength s) (entryLength s) (packed .inside))
+      let z : length (structuresIn s) % 12 ≡ 0 = let h : length (structuresIn s) ≡ 12 * structures s = structures-length in omega arith in
+      rw (c, f, l, z, code-length) (ltb-no (codeLength s) (entryLength s) (packed .inside))
 
   pub good-file : tableRefusal (tablesIn s) ≡ 0
   unfolding tableRefusal firstOf
@@ -132,6 +145,9 @@ module _ (s : List ℕ) (e : refusal s ≡ 0) where
   pub constants-good : badConstants (constantsIn s) ≡ false
   constants-good = good-tables (tablesIn s) good-file .sixth
 
+  pub structures-good : badStructures (structuresIn s) ≡ false
+  structures-good = good-tables (tablesIn s) good-file .shapes
+
   pub functions-good : badFunctions (bodiesIn s) ≡ false
   functions-good = good-tables (tablesIn s) good-file .good .seventh
 
@@ -140,3 +156,6 @@ module _ (s : List ℕ) (e : refusal s ≡ 0) where
 
   pub little-code : length (codeIn s) ≤ 16384
   little-code = good-tables (tablesIn s) good-file .good .little-code
+
+  pub few-structures : structures s ≤ 16
+  few-structures = subst (λ n. n ≤ 16) structure-count (good-tables (tablesIn s) good-file .good .few-structures)

@@ -1,9 +1,9 @@
 -- Every type number in a run is 3, 4, 6 or 7.
-use mathlib.Core.Path.{_≡_, refl, subst, _∙_}
+use mathlib.Core.Path.{_≡_, refl, subst}
 use mathlib.Core.Logic.{_⊎_, inl, inr}
-use Prim.Native.Nat.{ℕ, _+_, _≤_, _<_}
+use Prim.Native.Nat.{ℕ, _≤_}
 use native.Mathlib.Omega.{arith}
-use mathlib.Core.Bool.{Bool, true, false, cond, _&&_}
+use mathlib.Core.Bool.{true, _&&_}
 use mathlib.Core.Option.{some}
 use mathlib.Core.List.{List, [], _∷_}
 use lib.ListN.{length}
@@ -11,17 +11,21 @@ use lib.Dec.{eqb, ltb}
 use Rattle.soundness.specs.Names.{Num, int, long, double, Slot, Unary, pop, copy, neg, complement, convert, count, Binary, swap, arith as arithmetic, cmp}
 use Rattle.rules.specs.Bytes.{byte}
 use Rattle.rules.specs.Instructions.{Ty, num, ptr, numKind}
-use Rattle.rules.specs.Tables.{constantCount, constantAt, constantOf, bodyOf, moduleOf}
+use Rattle.rules.specs.Tables.{constantCount, constantAt, constantOf, bodyOf, Module, moduleOf}
 use Rattle.rules.specs.ModuleFile.{constantsIn, refusal, read}
 use Rattle.rules.specs.Stack.{Lent}
+use Rattle.rules.specs.Heap.{Block, Heap}
 use Rattle.rules.specs.Operations.{zeroDivide, unordered, class1, class2, refuse, eval1, eval2}
 use Rattle.rules.specs.Answers.{fits, declared, arguments, runRefusal, startState}
+use Rattle.rules.specs.Claims.{Each, HeapLaid}
 use Rattle.soundness.specs.Tests.{decide, none-some, some-inj, eqb-is, ltb-is, false-true, and-both}
 use Rattle.soundness.specs.Readable.{NumberByte, constant-type}
 use Rattle.soundness.specs.Cutting.{constants-good}
 use Rattle.soundness.specs.Started.{All, Yielded, Closed, Fit, exception}
 use Rattle.soundness.specs.Narrow.{refuse-raises, applied}
-use Rattle.soundness.specs.Claimed.{start-fits}
+use Rattle.soundness.specs.Heaps.{CellsOk, HeapOk}
+use Rattle.soundness.specs.Begun.{start-fits}
+use Rattle.soundness.specs.Whole.{run-readable, started}
 
 -- int, long, double, pointer
 abbrev pub Kind : ℕ → Type 0
@@ -78,6 +82,7 @@ kinds-closed s e =
     record {
       constants = constant-kind s e;
       pointers = λ x. inr (inr (inr refl));
+      zeros = num-kind;
       ones = λ o v p. applied OfKind (refuse (class1 o) (v .kind) (v .kind)) (refuse-raises (class1 o) (v .kind) (v .kind)) (eval1 o v) (ones o v p);
       twos = λ o v w p q. applied OfKind (refuse (class2 o) (v .kind) (w .kind)) (refuse-raises (class2 o) (v .kind) (w .kind)) (eval2 o v w) (twos o v w p q);
       bumps = λ u w p. p;
@@ -93,8 +98,17 @@ declared-kinds (num τ ∷ ts) (v ∷ vs) h =
     let a : ((eqb (v .kind) (numKind τ) && fits τ (v .payload)) ≡ true) × (declared ts vs ≡ true) = and-both (eqb (v .kind) (numKind τ) && fits τ (v .payload)) (declared ts vs) h in
     let b : (eqb (v .kind) (numKind τ) ≡ true) × (fits τ (v .payload) ≡ true) = and-both (eqb (v .kind) (numKind τ)) (fits τ (v .payload)) (a .0) in
     (rw (eqb-is (v .kind) (numKind τ) (b .0)) (num-kind τ), declared-kinds ts vs (a .1))
-declared-kinds (ptr τ ∷ ts) (v ∷ vs) h = false-true h
+declared-kinds (ptr w ∷ ts) (v ∷ vs) h = false-true h
 
-pub start-kinds : (s : List ℕ) (f : ℕ) (args : Lent) → runRefusal s f args ≡ 0 → (cap : ℕ) → length (arguments args) ≤ cap
-    → Fit (read s) OfKind cap (startState (read s) (bodyOf f) (arguments args))
-start-kinds s f args e = start-fits s f args e OfKind declared-kinds
+pub start-kinds : (s : List ℕ) (f : ℕ) (args : Lent) → runRefusal s f args ≡ 0 → (cap n : ℕ) → length (arguments args) ≤ cap
+    → Fit (read s) OfKind cap (startState (read s) (bodyOf f) (arguments args) n)
+start-kinds s f args e = start-fits s (run-readable s f args e) (bodyOf f) (arguments args) (started s f args e) OfKind declared-kinds
+
+-- ---- the heap: cells are numbers, so nothing is asked of them
+
+pub heap-kinds : (m : Module) (h : Heap) → HeapLaid m h → HeapOk m OfKind h
+heap-kinds m h l = record { places = l; cells = go (h .blocks) }
+  where
+    go : (bs : List Block) → Each (CellsOk m OfKind) bs
+    go [] = tt
+    go (b ∷ bs) = ((λ i τ q. num-kind τ), go bs)

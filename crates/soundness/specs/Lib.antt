@@ -1,10 +1,14 @@
 pub mod Names
 pub mod Tests
 pub mod Slots
+pub mod Framed
 pub mod Invariant
+pub mod Layout
+pub mod Heaps
 pub mod Foot
 pub mod Sound
 pub mod Runs
+pub mod Begun
 pub mod Exact
 pub mod Forced
 pub mod Walks

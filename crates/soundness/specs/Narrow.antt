@@ -18,13 +18,13 @@ use Rattle.rules.specs.Bytes.{byte, number, word, maybe}
 use Rattle.rules.specs.Words.{signedOf, patternOf, idivOf, imodOf, shlOf, shrOf, sarOf, notOf, orderOf, cmpOf, icmpOf}
 use Rattle.rules.specs.Doubles.{decodeOf, wordOf, cutOf}
 use Rattle.rules.specs.Tables.{constantCount, constantAt, badConstants, differs, oddConstant, badConstant, constantOf, Module, moduleOf}
-use Rattle.rules.specs.ModuleFile.{constants, constantsIn, tablesIn, refusal, read}
+use Rattle.rules.specs.ModuleFile.{constants, constantsAt, constantsIn, refusal, read}
 use Rattle.rules.specs.Stack.{slot, pointerTo}
 use Rattle.rules.specs.Operations.{low, onWords, computed, zeroDivide, negated, complemented, converted, compared, unordered, bumped, Class, any, number as numbers, whole, class1, class2, refuse, Result, yields, raises, eval1, eval2, apply1, apply2}
 use Rattle.rules.specs.Claims.{RunEnd, AreBytes}
 use Rattle.soundness.specs.Tests.{decide, none-some, some-inj, eqb-is, ltb-is, or-neither, not-false}
-use Rattle.soundness.specs.Readable.{good-constant, constant-word, good-tables}
-use Rattle.soundness.specs.Cutting.{good-file, bytes-cut}
+use Rattle.soundness.specs.Readable.{good-constant, constant-word}
+use Rattle.soundness.specs.Cutting.{constants-good, bytes-cut}
 use Rattle.soundness.specs.Started.{All, Yielded, Closed, exception}
 
 -- an int is narrow, where B holds
@@ -193,7 +193,7 @@ module _ (s : List ℕ) (e : refusal s ≡ 0) where
       let cs : List ℕ = constantsIn s in
       decide (ltb k (constantCount cs))
       (λ y. subst (Narrow (AreBytes s)) (some-inj (constantOf cs k) c (rw y at q))
-      (λ B. constant-narrow cs (good-tables (tablesIn s) (good-file s e) .sixth) k (ltb-is k (constantCount cs) y) (bytes-cut s 48 (12 * constants s) B)))
+      (λ B. constant-narrow cs (constants-good s e) k (ltb-is k (constantCount cs) y) (bytes-cut s (constantsAt s) (12 * constants s) B)))
       (λ y. none-some (rw y at q))
 
   pub narrow-closed : Closed (read s) (Narrow (AreBytes s))
@@ -201,6 +201,7 @@ module _ (s : List ℕ) (e : refusal s ≡ 0) where
       record {
         constants = constants-narrow;
         pointers = λ x b q. absurd (omega arith);
+        zeros = λ τ b q. omega arith;
         ones = λ o v p. applied (Narrow (AreBytes s)) (refuse (class1 o) (v .kind) (v .kind)) (refuse-raises (class1 o) (v .kind) (v .kind)) (eval1 o v) (ones (AreBytes s) o v p);
         twos = λ o v w p q. applied (Narrow (AreBytes s)) (refuse (class2 o) (v .kind) (w .kind)) (refuse-raises (class2 o) (v .kind) (w .kind)) (eval2 o v w) (twos (AreBytes s) o v w p q);
         bumps = λ u w p b q. bumped-narrow u (w .kind) (w .payload) q;

@@ -1,24 +1,17 @@
 -- The place of a running frame has an instruction whose bytes are all in the code, and a step keeps this.
-use mathlib.Core.Path.{_≡_, refl, sym, subst, _∙_}
+use mathlib.Core.Path.{_≡_, subst}
 use Prim.Native.Nat.{ℕ, _+_, _≤_, _<_}
-use native.Mathlib.Omega.{arith}
-use mathlib.Core.Bool.{Bool, true, false, cond}
 use mathlib.Core.Option.{some}
 use mathlib.Core.List.{List}
-use lib.Dec.{leb}
 use Rattle.soundness.specs.Names.{Slot, Instruction}
 use Rattle.rules.specs.Instructions.{size}
-use Rattle.rules.specs.Tables.{Body, bodyEnd, due, moduleOf}
+use Rattle.rules.specs.Tables.{bodyEnd, due, moduleOf}
 use Rattle.rules.specs.ModuleFile.{edition, codeIn, bodiesIn, codeLength, read, refusal, tablesIn}
 use Rattle.rules.specs.Machine.{State, Next, advance, step}
-use Rattle.soundness.specs.Tests.{decide, leb-is}
-use Rattle.soundness.specs.Readable.{Has, end-is, place-is, place-inside, orderly}
+use Rattle.soundness.specs.Tests.{leb-no}
+use Rattle.soundness.specs.Readable.{end-is, place-is, place-inside, orderly}
 use Rattle.soundness.specs.Cutting.{code-length, good-file}
 use Rattle.soundness.specs.Started.{Closed, Fit, NextFit, advance-fit, has-instruction}
-
--- short of its end
-lt-not-leb : (a b : ℕ) → a < b → leb b a ≡ false
-lt-not-leb a b h = decide (leb b a) (λ y. absurd (let q : b ≤ a = leb-is b a y in omega arith)) (λ y. y)
 
 module _ (s : List ℕ) (e : refusal s ≡ 0) (P : Slot → Type 0) (C : Closed (read s) P) (cap : ℕ) (st : State) (I : Fit (read s) P cap st) where
   -- its body ends in the code
@@ -31,7 +24,7 @@ module _ (s : List ℕ) (e : refusal s ≡ 0) (P : Slot → Type 0) (C : Closed 
   pub whole-instruction : st .top .place < st .top .stop
       → (i : Instruction) × (read s .code (st .top .place) ≡ some i) × (st .top .place + size i ≤ st .top .stop)
   whole-instruction l =
-      let x = has-instruction (read s) (orderly (tablesIn s) (good-file s e)) P C cap st I (lt-not-leb (st .top .place) (st .top .stop) l) in
+      let x = has-instruction (read s) (orderly (tablesIn s) (good-file s e)) P C cap st I (leb-no (st .top .stop) (st .top .place) l) in
       let y = end-is (tablesIn s) (good-file s e) (st .top .body) (st .top .stop) (I .frames .0 .ends) in
       let w = place-inside (tablesIn s) (good-file s e) (st .top .body) (st .top .place + size (x .0)) (y .0) (x .2) in
       (x .0, x .1, subst (λ z. st .top .place + size (x .0) ≤ z) (y .1) (w .1))
@@ -43,4 +36,4 @@ module _ (s : List ℕ) (e : refusal s ≡ 0) (P : Slot → Type 0) (C : Closed 
 
   pub step-fit : st .top .place < st .top .stop → NextFit (read s) P cap (step (read s) cap st)
   unfolding advance
-  step-fit l = rw (lt-not-leb (st .top .place) (st .top .stop) l) at (advance-fit (read s) (orderly (tablesIn s) (good-file s e)) P C cap st I)
+  step-fit l = rw (leb-no (st .top .stop) (st .top .place) l) at (advance-fit (read s) (orderly (tablesIn s) (good-file s e)) P C cap st I)

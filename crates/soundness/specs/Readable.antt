@@ -9,14 +9,15 @@ use mathlib.Core.List.{List, [], _∷_}
 use lib.ListN.{length, getD, take, drop}
 use lib.Seq.{getD-drop}
 use lib.Dec.{ltb, leb, eqb}
-use Rattle.soundness.specs.Names.{Instruction}
+use Rattle.soundness.specs.Names.{Num, Instruction, push, load, store, lea, one, two, tload, tstore, bump, jmp, branch, call, ret, null, new, delete, flea, count, copy, convert, swap, int, long, double}
 use Rattle.rules.specs.Bytes.{byte, word, number, some-below}
-use Rattle.rules.specs.Instructions.{Ty, typeByte, tyOf, Opcode, absent, bare, wide, opcodes, opcodeOf, isAbsent, operandBytes, instructionOf, size}
-use Rattle.rules.specs.Tables.{Bodies, Tables, constantCount, functionCount, labelCount, constantAt, functionAt, labelAt, differs, unknownEdition, oddConstant, badConstant, badConstants, oddReturn, oddParam, badParam, badRecord, badFunction, badFunctions, endBefore, opcodeAt, dueAfter, due, dueIn, unknownAt, crossed, badCode, owns, badLabel, badLabels, firstOf, contentTests, Body, entry, fn, bodyOf, Function, Module, paramsFrom, functionOf, labelOf, codeOf, bodyStart, bodyEnd, placeIn, moduleOf}
+use Rattle.rules.specs.Instructions.{struct, Ty, ptr, typeByte, tyOf, Opcode, absent, bare, wide, fromZero, fromAdd, edition1, edition3, opcodes, opcodeOf, isAbsent, operandBytes, instructionOf, size}
+use Rattle.rules.specs.Tables.{Bodies, Tables, constantCount, functionCount, labelCount, structureCount, constantAt, functionAt, labelAt, structureAt, differs, unknownEdition, structureLimit, oddConstant, badConstant, badConstants, numberType, badField, badStructureRecord, badStructure, badStructures, structureType, oddReturn, pointerType, oddParam, badParam, badRecord, badFunction, badFunctions, endBefore, opcodeAt, dueAfter, due, dueIn, unknownAt, crossed, badCode, owns, badLabel, badLabels, firstOf, contentTests, Body, entry, fn, bodyOf, Function, Module, paramsFrom, resultOf, functionOf, fieldsFrom, structureOf, labelOf, codeOf, bodyStart, bodyEnd, placeIn, moduleOf}
 use Rattle.rules.specs.Writing.{tooMany, broken, tableRefusal}
 use Rattle.rules.specs.Typing.{startOf, endOf}
 use Rattle.rules.specs.Claims.{dueFrom}
 use Rattle.soundness.specs.Tests.{decide, none-some, some-inj, eqb-is, eqb-isnt, eqb-other, leb-is, leb-isnt, leb-yes, ltb-is, ltb-isnt, ltb-yes, ltb-no, false-true, and-both, and-intro, or-neither, not-false}
+use Rattle.soundness.specs.Invariant.{Free}
 use Rattle.soundness.specs.Numbering.{keyTable, keyOf, keyed}
 
 -- ---- rows
@@ -64,30 +65,89 @@ constant-type-word t u e =
     (λ a. decide (eqb t 4) (λ b. inr (inl (eqb-is t 4 b)))
     (λ b. decide (eqb t 6) (λ c. inr (inr (eqb-is t 6 c))) (λ c. false-true (sym (rw (a, b, c) at x)))))
 
-return-type : (t : ℕ) → oddReturn t ≡ false → (t ≡ 0) ⊎ NumberByte t
-return-type t e =
-    decide (eqb t 0) (λ z. inl (eqb-is t 0 z))
-    (λ z. decide (eqb t 3) (λ a. inr (inl (eqb-is t 3 a)))
-    (λ a. decide (eqb t 4) (λ b. inr (inr (inl (eqb-is t 4 b))))
-    (λ b. decide (eqb t 6) (λ c. inr (inr (inr (eqb-is t 6 c)))) (λ c. false-true (sym (rw (z, a, b, c) at e))))))
+-- the bytes of pointers to numbers, and to one of z structures
+abbrev pub PointerByte : ℕ → Type 0
+PointerByte t = (t ≡ 131) ⊎ ((t ≡ 132) ⊎ (t ≡ 134))
 
-param-type : (ed : ℕ) (used : Bool) (t : ℕ) → used ≡ true → oddParam ed used t ≡ false → typeByte (tyOf t) ≡ t
-param-type ed used t u h =
-    let e : oddParam ed true t ≡ false = rw u at h in
-    decide (eqb t 3) (λ a. let q : t ≡ 3 = eqb-is t 3 a in rw q refl)
-    (λ a. decide (eqb t 4) (λ b. let q : t ≡ 4 = eqb-is t 4 b in rw q refl)
-    (λ b. decide (eqb t 6) (λ c. let q : t ≡ 6 = eqb-is t 6 c in rw q refl)
-    (λ c. decide (eqb t 131) (λ d. let q : t ≡ 131 = eqb-is t 131 d in rw q refl)
-    (λ d. decide (eqb t 132) (λ f. let q : t ≡ 132 = eqb-is t 132 f in rw q refl)
-    (λ f. decide (eqb t 134) (λ g. let q : t ≡ 134 = eqb-is t 134 g in rw q refl)
-    (λ g. decide (eqb ed 1) (λ o. false-true (sym (rw (o, a, b, c) at e))) (λ o. false-true (sym (rw (o, a, b, c, d, f, g) at e)))))))))
+abbrev pub StructureByte : ℕ → ℕ → Type 0
+StructureByte z t = (138 ≤ t) × (t < 138 + z)
+
+-- the bytes of what functions may return and take, where there are z structures
+abbrev pub ResultByte : ℕ → ℕ → Type 0
+ResultByte z t = NumberByte t ⊎ StructureByte z t
+
+abbrev pub ParameterByte : ℕ → ℕ → Type 0
+ParameterByte z t = ResultByte z t ⊎ PointerByte t
+
+one-of : (t i j k : ℕ) → (eqb t i || eqb t j || eqb t k) ≡ true → (t ≡ i) ⊎ ((t ≡ j) ⊎ (t ≡ k))
+one-of t i j k e =
+    decide (eqb t i) (λ a. inl (eqb-is t i a))
+    (λ a. decide (eqb t j) (λ b. inr (inl (eqb-is t j b)))
+    (λ b. decide (eqb t k) (λ c. inr (inr (eqb-is t k c))) (λ c. false-true (rw (a, b, c) at e))))
+
+number-type : (t : ℕ) → numberType t ≡ true → NumberByte t
+number-type t e = one-of t 3 4 6 e
+
+pointer-type : (e t : ℕ) → pointerType e t ≡ true → PointerByte t
+pointer-type e t h = one-of t 131 132 134 (and-both (differs e 1) (eqb t 131 || eqb t 132 || eqb t 134) h .1)
+
+structure-type : (z t : ℕ) → structureType z t ≡ true → StructureByte z t
+structure-type z t e =
+    let x : (leb 138 t ≡ true) × (ltb t (138 + z) ≡ true) = and-both (leb 138 t) (ltb t (138 + z)) e in (leb-is 138 t (x .0), ltb-is t (138 + z) (x .1))
+
+return-type : (z t : ℕ) → oddReturn z t ≡ false → (t ≡ 0) ⊎ ResultByte z t
+return-type z t e =
+    decide (eqb t 0) (λ a. inl (eqb-is t 0 a))
+    (λ a. decide (numberType t) (λ b. inr (inl (number-type t b)))
+    (λ b. inr (inr (structure-type z t (not-false (structureType z t) (rw (a, b) at e))))))
+
+param-type : (ed z : ℕ) (used : Bool) (t : ℕ) → used ≡ true → oddParam ed z used t ≡ false → ParameterByte z t
+param-type ed z used t u e =
+    let o : oddParam ed z true t ≡ false = rw u at e in
+    decide (numberType t) (λ a. inl (inl (number-type t a)))
+    (λ a. decide (pointerType ed t) (λ b. inr (pointer-type ed t b))
+    (λ b. decide (structureType z t) (λ c. inl (inr (structure-type z t c))) (λ c. false-true (sym (rw (a, b, c) at o)))))
+
+pub structure-ty : (t : ℕ) → 138 ≤ t → tyOf t ≡ ptr (struct (t - 128))
+structure-ty t l =
+    rw (
+      eqb-other t 3 (omega arith),
+      eqb-other t 4 (omega arith),
+      eqb-other t 6 (omega arith),
+      eqb-other (t - 128) 0 (omega arith),
+      eqb-other (t - 128) 3 (omega arith),
+      eqb-other (t - 128) 4 (omega arith),
+      eqb-other (t - 128) 6 (omega arith),
+    ) refl
+
+-- the byte of the type that was read from it
+pub byte-back : (z t : ℕ) → ParameterByte z t → typeByte (tyOf t) ≡ t
+byte-back z t (inl (inl (inl q))) = rw q refl
+byte-back z t (inl (inl (inr (inl q)))) = rw q refl
+byte-back z t (inl (inl (inr (inr q)))) = rw q refl
+byte-back z t (inl (inr h)) = let l : 138 ≤ t = h .0 in ap typeByte (structure-ty t l) ∙ omega arith
+byte-back z t (inr (inl q)) = rw q refl
+byte-back z t (inr (inr (inl q))) = rw q refl
+byte-back z t (inr (inr (inr q))) = rw q refl
+
+-- values of these types name no slot
+pub result-free : (z t : ℕ) → ResultByte z t → Free (tyOf t)
+result-free z t (inl (inl q)) = rw q tt
+result-free z t (inl (inr (inl q))) = rw q tt
+result-free z t (inl (inr (inr q))) = rw q tt
+result-free z t (inr h) = subst Free (sym (structure-ty t (h .0))) tt
 
 -- the editions that there are
 abbrev pub KnownEdition : ℕ → Type 0
-KnownEdition e = (e ≡ 1) ⊎ (e ≡ 3)
+KnownEdition e = (e ≡ 1) ⊎ ((e ≡ 3) ⊎ (e ≡ 4))
 
-known-edition : (e : ℕ) → unknownEdition e ≡ false → KnownEdition e
-known-edition e h = decide (eqb e 1) (λ y. inl (eqb-is e 1 y)) (λ y. inr (same-numbers e 3 (rw y at h)))
+pub known-edition : (e : ℕ) → unknownEdition e ≡ false → KnownEdition e
+known-edition e h =
+    decide (eqb e 1) (λ y. inl (eqb-is e 1 y))
+    (λ y. decide (eqb e 3) (λ z. inr (inl (eqb-is e 3 z))) (λ z. inr (inr (same-numbers e 4 (rw (y, z) at h)))))
+
+structure-limit : (e : ℕ) → structureLimit e ≤ 16
+structure-limit e = decide (eqb e 4) (λ y. rw y (omega arith)) (λ y. rw y (omega arith))
 
 -- a body that exists
 abbrev pub Has : Bodies → Body → Type 0
@@ -97,6 +157,7 @@ Has B (fn k) = k < functionCount (B .functions)
 -- what rows 4, 5, 7 and 8 leave of the bodies
 pub record Good (B : Bodies) : Type 0 where
   pub few-functions : functionCount (B .functions) ≤ 128
+  pub few-structures : structureCount (B .structures) ≤ 16
   pub little-code : length (B .code) ≤ 16384
   pub inside : B .entry ≤ length (B .code)
   pub seventh : badFunctions B ≡ false
@@ -110,7 +171,10 @@ pub record GoodTables (t : Tables) : Type 0 where
   pub whole-constants : length (t .constants) % 12 ≡ 0
   pub whole-functions : length (t .bodies .functions) % 20 ≡ 0
   pub whole-labels : length (t .labels) % 8 ≡ 0
+  pub whole-structures : length (t .bodies .structures) % 12 ≡ 0
+  pub few-allowed : structureCount (t .bodies .structures) ≤ structureLimit (t .bodies .edition)
   pub sixth : badConstants (t .constants) ≡ false
+  pub shapes : badStructures (t .bodies .structures) ≡ false
   pub ninth : badLabels (t .bodies) (t .labels) ≡ false
   pub good : Good (t .bodies)
 
@@ -121,15 +185,20 @@ good-tables t e =
     let F : ℕ = length (t .bodies .functions) in
     let L : ℕ = length (t .labels) in
     let N : ℕ = length (t .bodies .code) in
+    let Z : ℕ = length (t .bodies .structures) in
+    let most : ℕ = structureLimit (t .bodies .edition) in
     let tests : List Bool = unknownEdition (t .bodies .edition) ∷ false ∷ tooMany t ∷ broken t ∷ contentTests t in
     let f : AllFalse tests = none-first 1 tests e in
     let r : AllFalse (tooMany t ∷ broken t ∷ contentTests t) = f .1 .1 in
-    let x : _ × (ltb 16384 N ≡ false) = or-neither _ (ltb 16384 N) (r .0) in
+    let o : _ × (ltb most (Z / 12) ≡ false) = or-neither _ (ltb most (Z / 12)) (r .0) in
+    let x : _ × (ltb 16384 N ≡ false) = or-neither _ (ltb 16384 N) (o .0) in
     let y : _ × (ltb 256 (L / 8) ≡ false) = or-neither _ (ltb 256 (L / 8)) (x .0) in
     let z : (ltb 1024 (C / 12) ≡ false) × (ltb 128 (F / 20) ≡ false) = or-neither (ltb 1024 (C / 12)) (ltb 128 (F / 20)) (y .0) in
     let u : _ × (ltb N (t .bodies .entry) ≡ false) = or-neither _ (ltb N (t .bodies .entry)) (r .1 .0) in
-    let v : _ × (differs (L % 8) 0 ≡ false) = or-neither _ (differs (L % 8) 0) (u .0) in
+    let q : _ × (differs (Z % 12) 0 ≡ false) = or-neither _ (differs (Z % 12) 0) (u .0) in
+    let v : _ × (differs (L % 8) 0 ≡ false) = or-neither _ (differs (L % 8) 0) (q .0) in
     let w : (differs (C % 12) 0 ≡ false) × (differs (F % 20) 0 ≡ false) = or-neither (differs (C % 12) 0) (differs (F % 20) 0) (v .0) in
+    let k : (badConstants (t .constants) ≡ false) × (badStructures (t .bodies .structures) ≡ false) = or-neither (badConstants (t .constants)) (badStructures (t .bodies .structures)) (r .1 .1 .0) in
     record {
       known = known-edition (t .bodies .edition) (f .0);
       few-constants = ltb-isnt 1024 (C / 12) (z .0);
@@ -137,11 +206,15 @@ good-tables t e =
       whole-constants = same-numbers (C % 12) 0 (w .0);
       whole-functions = same-numbers (F % 20) 0 (w .1);
       whole-labels = same-numbers (L % 8) 0 (v .1);
-      sixth = r .1 .1 .0;
+      whole-structures = same-numbers (Z % 12) 0 (q .1);
+      few-allowed = ltb-isnt most (Z / 12) (o .1);
+      sixth = k .0;
+      shapes = k .1;
       ninth = r .1 .1 .1 .1 .1 .0;
       good =
           record {
             few-functions = ltb-isnt 128 (F / 20) (z .1);
+            few-structures = let a : Z / 12 ≤ most = ltb-isnt most (Z / 12) (o .1) in let b : most ≤ 16 = structure-limit (t .bodies .edition) in omega arith;
             little-code = ltb-isnt 16384 N (x .1);
             inside = ltb-isnt N (t .bodies .entry) (u .1);
             seventh = r .1 .1 .1 .0;
@@ -181,6 +254,9 @@ ends-rise B i (suc j) h =
     (λ y. let r : endBefore B i ≤ endBefore B j = ends-rise B i j (ltb-isnt j i y) in omega arith)
 
 module _ (B : Bodies) (g : badFunctions B ≡ false) where
+  abbrev Z : ℕ
+  Z = structureCount (B .structures)
+
   good-functions : (some-below (functionCount (B .functions)) (badFunction B) ≡ false) × (differs (endBefore B (functionCount (B .functions))) (length (B .code)) ≡ false)
   unfolding badFunctions
   good-functions = or-neither (some-below (functionCount (B .functions)) (badFunction B)) (differs (endBefore B (functionCount (B .functions))) (length (B .code))) g
@@ -189,15 +265,15 @@ module _ (B : Bodies) (g : badFunctions B ≡ false) where
   fills = same-numbers (endBefore B (functionCount (B .functions))) (length (B .code)) (good-functions .1)
 
   record-parts : (k : ℕ) → k < functionCount (B .functions)
-      → (differs (word 4 (B .functions) (functionAt k)) (endBefore B k) ≡ false) × (ltb 8 (byte (B .functions) (functionAt k + 8)) ≡ false) × (oddReturn (byte (B .functions) (functionAt k + 9)) ≡ false)
-      × (some-below 8 (badParam (B .edition) (B .functions) (functionAt k)) ≡ false)
+      → (differs (word 4 (B .functions) (functionAt k)) (endBefore B k) ≡ false) × (ltb 8 (byte (B .functions) (functionAt k + 8)) ≡ false) × (oddReturn Z (byte (B .functions) (functionAt k + 9)) ≡ false)
+      × (some-below 8 (badParam (B .edition) Z (B .functions) (functionAt k)) ≡ false)
   unfolding badFunction badRecord
   record-parts k h =
       let a : ℕ = functionAt k in
       let f : badFunction B k ≡ false = none-below (functionCount (B .functions)) (badFunction B) (good-functions .0) k h in
-      let x : _ × (some-below 8 (badParam (B .edition) (B .functions) a) ≡ false) =
-      or-neither _ (some-below 8 (badParam (B .edition) (B .functions) a)) (or-neither _ (differs (byte (B .functions) (a + 18)) 0) (or-neither _ (differs (byte (B .functions) (a + 19)) 0) f .0) .0) in
-      let y : _ × (oddReturn (byte (B .functions) (a + 9)) ≡ false) = or-neither _ (oddReturn (byte (B .functions) (a + 9))) (x .0) in
+      let x : _ × (some-below 8 (badParam (B .edition) Z (B .functions) a) ≡ false) =
+      or-neither _ (some-below 8 (badParam (B .edition) Z (B .functions) a)) (or-neither _ (differs (byte (B .functions) (a + 18)) 0) (or-neither _ (differs (byte (B .functions) (a + 19)) 0) f .0) .0) in
+      let y : _ × (oddReturn Z (byte (B .functions) (a + 9)) ≡ false) = or-neither _ (oddReturn Z (byte (B .functions) (a + 9))) (x .0) in
       let z : _ × (ltb 8 (byte (B .functions) (a + 8)) ≡ false) = or-neither _ (ltb 8 (byte (B .functions) (a + 8))) (y .0) in
       (or-neither (differs (word 4 (B .functions) a) (endBefore B k)) (eqb (word 4 (B .functions) (a + 4)) 0) (z .0) .0, z .1, y .1, x .1)
 
@@ -208,21 +284,51 @@ module _ (B : Bodies) (g : badFunctions B ≡ false) where
   pub few-parameters : (k : ℕ) → k < functionCount (B .functions) → byte (B .functions) (functionAt k + 8) ≤ 8
   few-parameters k h = ltb-isnt 8 (byte (B .functions) (functionAt k + 8)) (record-parts k h .1)
 
-  pub result-type : (k : ℕ) → k < functionCount (B .functions) → (byte (B .functions) (functionAt k + 9) ≡ 0) ⊎ NumberByte (byte (B .functions) (functionAt k + 9))
-  result-type k h = return-type (byte (B .functions) (functionAt k + 9)) (record-parts k h .2)
+  pub result-type : (k : ℕ) → k < functionCount (B .functions) → (byte (B .functions) (functionAt k + 9) ≡ 0) ⊎ ResultByte (structureCount (B .structures)) (byte (B .functions) (functionAt k + 9))
+  result-type k h = return-type Z (byte (B .functions) (functionAt k + 9)) (record-parts k h .2)
+
+  pub parameter-byte : (k j : ℕ) → k < functionCount (B .functions) → j < byte (B .functions) (functionAt k + 8) → ParameterByte (structureCount (B .structures)) (byte (B .functions) (functionAt k + 10 + j))
+  unfolding badParam
+  parameter-byte k j h l =
+      let few : byte (B .functions) (functionAt k + 8) ≤ 8 = few-parameters k h in
+      param-type (B .edition) Z (ltb j (byte (B .functions) (functionAt k + 8))) (byte (B .functions) (functionAt k + 10 + j)) (ltb-yes j (byte (B .functions) (functionAt k + 8)) l)
+      (none-below 8 (badParam (B .edition) Z (B .functions) (functionAt k)) (record-parts k h .3) j (omega arith))
 
   pub parameter-type : (k j : ℕ) → k < functionCount (B .functions) → j < byte (B .functions) (functionAt k + 8) → typeByte (tyOf (byte (B .functions) (functionAt k + 10 + j))) ≡ byte (B .functions) (functionAt k + 10 + j)
-  unfolding badParam
-  parameter-type k j h l =
-      let few : byte (B .functions) (functionAt k + 8) ≤ 8 = few-parameters k h in
-      param-type (B .edition) (ltb j (byte (B .functions) (functionAt k + 8))) (byte (B .functions) (functionAt k + 10 + j)) (ltb-yes j (byte (B .functions) (functionAt k + 8)) l)
-      (none-below 8 (badParam (B .edition) (B .functions) (functionAt k)) (record-parts k h .3) j (omega arith))
+  parameter-type k j h l = byte-back Z (byte (B .functions) (functionAt k + 10 + j)) (parameter-byte k j h l)
 
   pub unused-parameter : (k j : ℕ) → k < functionCount (B .functions) → byte (B .functions) (functionAt k + 8) ≤ j → j < 8 → byte (B .functions) (functionAt k + 10 + j) ≡ 0
   unfolding badParam
   unused-parameter k j h l m =
-      let x : oddParam (B .edition) (ltb j (byte (B .functions) (functionAt k + 8))) (byte (B .functions) (functionAt k + 10 + j)) ≡ false = none-below 8 (badParam (B .edition) (B .functions) (functionAt k)) (record-parts k h .3) j m in
+      let x : oddParam (B .edition) Z (ltb j (byte (B .functions) (functionAt k + 8))) (byte (B .functions) (functionAt k + 10 + j)) ≡ false = none-below 8 (badParam (B .edition) Z (B .functions) (functionAt k)) (record-parts k h .3) j m in
       same-numbers (byte (B .functions) (functionAt k + 10 + j)) 0 (rw (ltb-no j (byte (B .functions) (functionAt k + 8)) l) at x)
+
+-- ---- structures
+
+-- a record of 1 to 8 fields, each a number
+pub record GoodShape (zs : List ℕ) (i : ℕ) : Type 0 where
+  pub some-field : 1 ≤ byte zs (structureAt i)
+  pub few-fields : byte zs (structureAt i) ≤ 8
+  pub field-type : (j : ℕ) → j < byte zs (structureAt i) → NumberByte (byte zs (structureAt i + 1 + j))
+
+pub good-shape : (zs : List ℕ) → badStructures zs ≡ false → (i : ℕ) → i < structureCount zs → GoodShape zs i
+unfolding badStructures badStructure badStructureRecord badField
+good-shape zs g i h =
+    let a : ℕ = structureAt i in
+    let n : ℕ = byte zs a in
+    let f : badStructure zs i ≡ false = none-below (structureCount zs) (badStructure zs) g i h in
+    let x : _ × (some-below 8 (badField zs a) ≡ false) =
+    or-neither _ (some-below 8 (badField zs a)) (or-neither _ (differs (byte zs (a + 9)) 0) (or-neither _ (differs (byte zs (a + 10)) 0) (or-neither _ (differs (byte zs (a + 11)) 0) f .0) .0) .0) in
+    let y : (eqb n 0 ≡ false) × (ltb 8 n ≡ false) = or-neither (eqb n 0) (ltb 8 n) (x .0) in
+    let few : n ≤ 8 = ltb-isnt 8 n (y .1) in
+    record {
+      some-field = let o : n ≢ 0 = eqb-isnt n 0 (y .0) in omega arith;
+      few-fields = few;
+      field-type = λ j l.
+          let t : ℕ = byte zs (a + 1 + j) in
+          let b : badField zs a j ≡ false = none-below 8 (badField zs a) (x .1) j (omega arith) in
+          decide (numberType t) (λ c. number-type t c) (λ c. false-true (sym (rw (ltb-yes j n l, c) at b)));
+    }
 
 -- ---- code
 
@@ -299,26 +405,93 @@ Sized absent = Unit {0}
 Sized (bare i) = size i ≡ 1
 Sized (wide i) = (w : ℕ) → size (i w) ≡ 5
 
-abbrev AllSized : List Opcode → Type 0
-AllSized [] = Unit {0}
-AllSized (h ∷ hs) = Sized h × AllSized hs
+-- what holds of every row of a table
+abbrev Rows : (Opcode → Type 0) → List Opcode → Type 0
+Rows P [] = Unit {0}
+Rows P (h ∷ hs) = P h × Rows P hs
 
-all-sized : AllSized keyTable
+rows-at : (P : Opcode → Type 0) → P absent → (t : List Opcode) → Rows P t → (b : ℕ) → P (opcodeOf t b)
+rows-at P n [] a b = n
+rows-at P n (h ∷ t) a zero = a .0
+rows-at P n (h ∷ t) a (suc b) = rows-at P n t (a .1) b
+
+all-sized : Rows Sized keyTable
 all-sized =
-    (tt, ((λ w. refl), (refl, ((λ w. refl), ((λ w. refl), ((λ w. refl), (tt, (refl, (refl, (refl, (refl, (refl, (refl, (refl, (refl, (refl, (refl, (refl, (refl, (refl, (refl, (refl, (refl, (refl, (refl, (refl, (refl, (refl, (refl, (refl, (refl, (refl, ((λ w. refl), ((λ w. refl), ((λ w. refl), ((λ w. refl), ((λ w. refl), ((λ w. refl), ((λ w. refl), ((λ w. refl), (refl, (tt, (tt, (refl, (refl, (tt, (refl, (tt, (refl, (refl, tt))))))))))))))))))))))))))))))))))))))))))))))))))
-
-sized-at : (t : List Opcode) → AllSized t → (b : ℕ) → Sized (opcodeOf t b)
-sized-at [] a b = tt
-sized-at (h ∷ t) a zero = a .0
-sized-at (h ∷ t) a (suc b) = sized-at t (a .1) b
+    (tt, ((λ w. refl), (refl, ((λ w. refl), ((λ w. refl), ((λ w. refl), ((λ w. refl), (refl, (refl, (refl, (refl, (refl, (refl, (refl, (refl, (refl, (refl, (refl, (refl, (refl, (refl, (refl, (refl, (refl, (refl, (refl, (refl, (refl, (refl, (refl, (refl, (refl, ((λ w. refl), ((λ w. refl), ((λ w. refl), ((λ w. refl), ((λ w. refl), ((λ w. refl), ((λ w. refl), ((λ w. refl), (refl, (refl, (refl, (refl, (refl, (tt, (refl, (tt, (refl, ((λ w. refl), (refl, tt)))))))))))))))))))))))))))))))))))))))))))))))))))
 
 pub sized : (e b : ℕ) → Sized (opcodeOf (opcodes e) b)
 sized e b = go (opcodeOf (opcodes e) b) (λ h. keyed e b h)
   where
     go : (o : Opcode) → (isAbsent o ≡ false → opcodeOf keyTable (keyOf e b) ≡ o) → Sized o
     go absent k = tt
-    go (bare i) k = subst Sized (k refl) (sized-at keyTable all-sized (keyOf e b))
-    go (wide i) k = subst Sized (k refl) (sized-at keyTable all-sized (keyOf e b))
+    go (bare i) k = subst Sized (k refl) (rows-at Sized tt keyTable all-sized (keyOf e b))
+    go (wide i) k = subst Sized (k refl) (rows-at Sized tt keyTable all-sized (keyOf e b))
+
+-- ---- what only edition 4 has
+
+-- an instruction that needs the heap
+abbrev pub usesHeap : Instruction → Bool
+usesHeap (push k) = false
+usesHeap (load n) = false
+usesHeap (store n) = false
+usesHeap (lea n) = false
+usesHeap (one o) = false
+usesHeap (two o) = false
+usesHeap tload = false
+usesHeap tstore = false
+usesHeap (bump u) = false
+usesHeap (jmp l) = false
+usesHeap (branch c l) = false
+usesHeap (call k) = false
+usesHeap ret = false
+usesHeap null = true
+usesHeap (new n) = true
+usesHeap delete = true
+usesHeap (flea n) = true
+
+-- code of edition e may have the instruction
+abbrev pub Native : ℕ → Instruction → Type 0
+Native e i = usesHeap i ≡ true → e ≡ 4
+
+-- a row that needs no heap
+abbrev NoHeap : Opcode → Type 0
+NoHeap absent = Unit {0}
+NoHeap (bare i) = usesHeap i ≡ false
+NoHeap (wide i) = (w : ℕ) → usesHeap (i w) ≡ false
+
+no-heap-zero : (r : List Opcode) → Rows NoHeap r → Rows NoHeap (fromZero r)
+no-heap-zero r h = (tt, ((λ w. refl), (refl, ((λ w. refl), ((λ w. refl), h)))))
+
+no-heap-add : (i : Bool → Instruction) → ((u : Bool) → usesHeap (i u) ≡ false) → (r : List Opcode) → Rows NoHeap r → Rows NoHeap (fromAdd i r)
+no-heap-add i q r h =
+    (refl, (refl, (refl, (refl, (refl, (refl, (refl, (refl, (refl, (q true, (q false, (refl, (refl, (refl, (refl, (refl, (refl, (refl, (refl, (refl, (refl, ((λ w. refl), ((λ w. refl), ((λ w. refl), ((λ w. refl), ((λ w. refl), ((λ w. refl), ((λ w. refl), ((λ w. refl), (refl, h))))))))))))))))))))))))))))))
+
+no-heap-first : Rows NoHeap edition1
+no-heap-first =
+    let i : Bool → Instruction = λ u. one (count u) in
+    let r : List Opcode = bare (one (convert int)) ∷ bare (one (convert long)) ∷ bare (one (convert double)) ∷ [] in
+    no-heap-zero (fromAdd i r) (no-heap-add i (λ u. refl) r (refl, (refl, (refl, tt))))
+
+no-heap-third : Rows NoHeap edition3
+no-heap-third =
+    let r : List Opcode = absent ∷ absent ∷ bare (one (convert int)) ∷ bare (one (convert long)) ∷ absent ∷ bare (one (convert double)) ∷ [] in
+    no-heap-zero (wide lea ∷ absent ∷ bare tload ∷ bare tstore ∷ bare (one copy) ∷ bare (two swap) ∷ fromAdd bump r)
+    ((λ w. refl), (tt, (refl, (refl, (refl, (refl, no-heap-add bump (λ u. refl) r (tt, (tt, (refl, (refl, (tt, (refl, tt))))))))))))
+
+-- so may it have the row's
+abbrev NativeRow : ℕ → Opcode → Type 0
+NativeRow e o = (w : ℕ) (i : Instruction) → instructionOf o w ≡ some i → Native e i
+
+no-heap-row : (e : ℕ) (o : Opcode) → NoHeap o → NativeRow e o
+no-heap-row e absent h w i q = none-some q
+no-heap-row e (bare j) h w i q = λ u. false-true (sym h ∙ ap usesHeap (some-inj j i q) ∙ u)
+no-heap-row e (wide f) h w i q = λ u. false-true (sym (h w) ∙ ap usesHeap (some-inj (f w) i q) ∙ u)
+
+native-row : (e b : ℕ) → NativeRow e (opcodeOf (opcodes e) b)
+native-row e b w i h =
+    decide (eqb e 3) (λ y. let q : e ≡ 3 = eqb-is e 3 y in no-heap-row e (opcodeOf edition3 b) (rows-at NoHeap tt edition3 no-heap-third b) w i (rw q at h))
+    (λ y. decide (eqb e 1) (λ z. let q : e ≡ 1 = eqb-is e 1 z in no-heap-row e (opcodeOf edition1 b) (rows-at NoHeap tt edition1 no-heap-first b) w i (rw q at h))
+    (λ z. decide (eqb e 4) (λ v u. eqb-is e 4 v) (λ v. none-some (rw (y, z, v) at h))))
 
 module _ (ed : ℕ) (s : List ℕ) where
   pub due-suc : (p : ℕ) → due ed s (suc p) ≡ dueAfter (due ed s p) (opcodeAt ed s p)
@@ -371,6 +544,10 @@ module _ (ed : ℕ) (s : List ℕ) where
       let q : a + suc k ≡ suc (a + k) = omega arith in
       rw q (due-suc (a + k) ∙ ap (λ d. dueAfter d (opcodeAt ed s (a + k))) (cut-from a e k))
 
+  native-code : (p : ℕ) (i : Instruction) → codeOf ed s p ≡ some i → Native ed i
+  unfolding codeOf
+  native-code p i h = native-row ed (byte s p) (word 4 s (p + 1)) i h
+
 -- ---- a module whose places lead to places
 
 pub record Orderly (m : Module) : Type 0 where
@@ -379,10 +556,17 @@ pub record Orderly (m : Module) : Type 0 where
       → (i : Instruction) × (m .code p ≡ some i) × (m .isPlace b (p + size i) ≡ true)
   pub lands : (l : ℕ) (b : Body) (q : ℕ) → m .label l ≡ some (b, q) → m .isPlace b q ≡ true
   pub few-params : (k : ℕ) (F : Function) → m .function k ≡ some F → length (F .params) ≤ 8
+  pub few-fields : (k : ℕ) (fs : List Num) → m .structure k ≡ some fs → length fs ≤ 8
+  pub returns : (k : ℕ) (F : Function) (t : Ty) → m .function k ≡ some F → F .result ≡ some t → Free t
+  pub native : (p : ℕ) (i : Instruction) → m .code p ≡ some i → Native (m .edition) i
 
 pub params-length : (s : List ℕ) (a n : ℕ) → length (paramsFrom s a n) ≡ n
 params-length s a zero = refl
 params-length s a (suc n) = ap suc (params-length s a n)
+
+pub fields-length : (zs : List ℕ) (a n : ℕ) → length (fieldsFrom zs a n) ≡ n
+fields-length zs a zero = refl
+fields-length zs a (suc n) = ap suc (fields-length zs a n)
 
 module _ (t : Tables) (e : tableRefusal t ≡ 0) where
   good : Good (t .bodies)
@@ -542,6 +726,40 @@ module _ (t : Tables) (e : tableRefusal t ≡ 0) where
   unfolding functionOf
   params-few k h = rw (params-length (t .bodies .functions) (functionAt k + 10) (byte (t .bodies .functions) (functionAt k + 8))) (few-parameters (t .bodies) (good .seventh) k h)
 
+  -- a structure that is declared, by its type number
+  pub structure-is : (k : ℕ) (fs : List Num) → moduleOf t .structure k ≡ some fs → (10 ≤ k) × (k - 10 < structureCount (t .bodies .structures)) × (structureOf (t .bodies .structures) (k - 10) ≡ fs)
+  unfolding moduleOf
+  structure-is k fs q =
+      let z : ℕ = structureCount (t .bodies .structures) in
+      decide (leb 10 k && ltb k (10 + z))
+      (λ y. let x : (leb 10 k ≡ true) × (ltb k (10 + z) ≡ true) = and-both (leb 10 k) (ltb k (10 + z)) y in
+      let l : 10 ≤ k = leb-is 10 k (x .0) in
+      let u : k < 10 + z = ltb-is k (10 + z) (x .1) in
+      (l, omega arith, some-inj (structureOf (t .bodies .structures) (k - 10)) fs (rw y at q)))
+      (λ y. none-some (rw y at q))
+
+  fields-few : (k : ℕ) (fs : List Num) → moduleOf t .structure k ≡ some fs → length fs ≤ 8
+  unfolding structureOf
+  fields-few k fs q =
+      let zs : List ℕ = t .bodies .structures in
+      let a : ℕ = structureAt (k - 10) in
+      let x : (10 ≤ k) × (k - 10 < structureCount zs) × (structureOf zs (k - 10) ≡ fs) = structure-is k fs q in
+      subst (λ (z : List Num). length z ≤ 8) (x .2) (rw (fields-length zs (a + 1) (byte zs a)) (good-shape zs (good-tables t e .shapes) (k - 10) (x .1) .few-fields))
+
+  returns-free : (k : ℕ) → k < functionCount (t .bodies .functions) → (u : Ty) → functionOf (t .bodies .functions) (functionAt k) .result ≡ some u → Free u
+  unfolding functionOf
+  returns-free k h u q = go (result-type (t .bodies) (good .seventh) k h) q
+    where
+      z : ℕ
+      z = structureCount (t .bodies .structures)
+
+      x : ℕ
+      x = byte (t .bodies .functions) (functionAt k + 9)
+
+      go : (x ≡ 0) ⊎ ResultByte z x → resultOf x ≡ some u → Free u
+      go (inl y) r = none-some (rw y at r)
+      go (inr y) r = decide (eqb x 0) (λ n. none-some (rw n at r)) (λ n. subst Free (some-inj (tyOf x) u (rw n at r)) (result-free z x y))
+
   pub orderly : Orderly (moduleOf t)
   unfolding moduleOf
   orderly =
@@ -557,4 +775,9 @@ module _ (t : Tables) (e : tableRefusal t ≡ 0) where
         few-params = λ k F h.
             let y : (k < functionCount (t .bodies .functions)) × (functionOf (t .bodies .functions) (functionAt k) ≡ F) = function-is k F h in
             subst (λ (G : Function). length (G .params) ≤ 8) (y .1) (params-few k (y .0));
+        few-fields = fields-few;
+        returns = λ k F u h q.
+            let y : (k < functionCount (t .bodies .functions)) × (functionOf (t .bodies .functions) (functionAt k) ≡ F) = function-is k F h in
+            returns-free k (y .0) u (ap (λ (G : Function). G .result) (y .1) ∙ q);
+        native = λ p i h. native-code (t .bodies .edition) (t .bodies .code) p i h;
       }

@@ -1,16 +1,16 @@
 -- 02, A1: what is written can be read and gives the tables back, and what was read is written as it was.
 use mathlib.Core.Path.{_≡_, refl, sym, ap, _∙_}
-use mathlib.Core.Logic.{_≢_, inl, inr}
+use mathlib.Core.Logic.{_≢_, _⊎_, inl, inr}
 use Prim.Native.Nat.{ℕ, zero, suc, _+_, _*_, _/_, _%_, _^_, _≤_, _<_}
 use native.Mathlib.Omega.{arith}
-use mathlib.Core.Bool.{Bool, true, false, not, _||_, or-false}
-use mathlib.Core.List.{List, [], _∷_, _++_, append-assoc}
+use mathlib.Core.Bool.{Bool, true, false, not, _&&_, _||_, or-false, cond}
+use mathlib.Core.List.{List, [], _∷_, _++_, append-assoc, append-nil}
 use lib.ListN.{length, getD, take, drop, length-append, length-drop, take-append-drop}
 use lib.Seq.{take-at, drop-at, take-all, take-add, drop-drop}
 use lib.Dec.{ltb, eqb}
-use Rattle.rules.specs.Bytes.{words, word, cut}
-use Rattle.rules.specs.Tables.{Tables, differs, unknownEdition, firstOf, contentTests, constantCount, functionCount, labelCount}
-use Rattle.rules.specs.ModuleFile.{edition, constants, functions, labels, codeLength, entryLength, functionsAt, labelsAt, codeAt, constantsIn, functionsIn, labelsIn, codeIn, tablesIn, short, otherEdition, otherTotal, overLimit, notPacked, refusal}
+use Rattle.rules.specs.Bytes.{bytes, words, word, cut}
+use Rattle.rules.specs.Tables.{Tables, differs, headerSize, unknownEdition, firstOf, contentTests, constantCount, functionCount, labelCount, structureCount}
+use Rattle.rules.specs.ModuleFile.{edition, constants, functions, labels, codeLength, entryLength, structures, constantsAt, functionsAt, labelsAt, codeAt, structuresAt, constantsIn, functionsIn, labelsIn, codeIn, structuresIn, tablesIn, short, otherEdition, otherTotal, overLimit, notPacked, refusal}
 use Rattle.rules.specs.Writing.{fileLength, headerWords, fileOf, tooMany, broken, tableRefusal, writeNumber, wrote, writeWith, write}
 use Rattle.rules.specs.Numbers.{done, output-too-short}
 use Rattle.rules.specs.Claims.{AreBytes}
@@ -18,9 +18,9 @@ use Rattle.rules.specs.Saved.{Saves}
 use Rattle.memory.proofs.Words.{number-bytes}
 use Rattle.memory.proofs.Copies.{word-bytes}
 use Rattle.soundness.specs.Names.{Unwritten, Written}
-use Rattle.soundness.specs.Tests.{decide, eqb-is, eqb-same, eqb-other, ltb-no, or-neither}
+use Rattle.soundness.specs.Tests.{decide, eqb-is, eqb-same, eqb-other, ltb-no, false-true, or-neither}
 use Rattle.soundness.specs.Readable.{same-numbers, KnownEdition, Good, GoodTables, good-tables}
-use Rattle.soundness.specs.Cutting.{Packed, packed, constants-length, functions-length, labels-length, code-length, constant-count, function-count, label-count, good-file}
+use Rattle.soundness.specs.Cutting.{Packed, packed, constants-length, functions-length, labels-length, code-length, structures-length, constant-count, function-count, label-count, structure-count, good-file}
 
 -- ---- tests
 
@@ -36,42 +36,59 @@ differs-iff a b c d f g =
     decide (eqb a b) (λ y. let e : a ≡ b = eqb-is a b y in differs-same a b e ∙ sym (differs-same c d (f e)))
     (λ y. ap not y ∙ sym (decide (eqb c d) (λ z. differs-same c d (eqb-is c d z) ∙ sym (differs-same a b (g (eqb-is c d z))) ∙ ap not y) (λ z. ap not z)))
 
--- row 5 of the file against row 5 of the tables, as numbers: lengths C, F, L, N of the tables, entry length E
-module _ (C F L N E : ℕ) where
+-- row 5 of the file against row 5 of the tables, as numbers: header size H, lengths C, F, L, N, Z of the tables, entry length E; where g
+-- holds, the header's last word W is the place of the structures
+module _ (H C F L N Z E W : ℕ) (g : Bool) (last : g ≡ true → W ≡ H + C + F + L + N) where
   abbrev loose : Bool
   loose =
-      differs 48 48 || differs (48 + C) (48 + 12 * (C / 12)) || differs (48 + C + F) (48 + 12 * (C / 12) + 20 * (F / 20))
-      || differs (48 + C + F + L) (48 + 12 * (C / 12) + 20 * (F / 20) + 8 * (L / 8))
-      || differs (48 + 12 * (C / 12) + 20 * (F / 20) + 8 * (L / 8) + N) (48 + C + F + L + N) || ltb N E
+      differs H H || differs (H + C) (H + 12 * (C / 12)) || differs (H + C + F) (H + 12 * (C / 12) + 20 * (F / 20))
+      || differs (H + C + F + L) (H + 12 * (C / 12) + 20 * (F / 20) + 8 * (L / 8))
+      || (g && differs W (H + 12 * (C / 12) + 20 * (F / 20) + 8 * (L / 8) + N))
+      || differs (H + 12 * (C / 12) + 20 * (F / 20) + 8 * (L / 8) + N + 12 * (Z / 12)) (H + C + F + L + N + Z) || ltb N E
 
   abbrev parted : Bool
-  parted = differs (C % 12) 0 || differs (F % 20) 0 || differs (L % 8) 0 || ltb N E
+  parted = differs (C % 12) 0 || differs (F % 20) 0 || differs (L % 8) 0 || differs (Z % 12) 0 || ltb N E
 
   same-row : loose ≡ parted
   same-row = at-c (differs (C % 12) 0) refl
     where
-      c-test : differs (48 + C) (48 + 12 * (C / 12)) ≡ differs (C % 12) 0
-      c-test = differs-iff (48 + C) (48 + 12 * (C / 12)) (C % 12) 0 (λ e. omega arith) (λ e. omega arith)
+      h-test : differs H H ≡ false
+      h-test = differs-same H H refl
 
-      f-test : C % 12 ≡ 0 → differs (48 + C + F) (48 + 12 * (C / 12) + 20 * (F / 20)) ≡ differs (F % 20) 0
-      f-test c = differs-iff (48 + C + F) (48 + 12 * (C / 12) + 20 * (F / 20)) (F % 20) 0 (λ e. omega arith) (λ e. omega arith)
+      c-test : differs (H + C) (H + 12 * (C / 12)) ≡ differs (C % 12) 0
+      c-test = differs-iff (H + C) (H + 12 * (C / 12)) (C % 12) 0 (λ e. omega arith) (λ e. omega arith)
 
-      l-test : C % 12 ≡ 0 → F % 20 ≡ 0 → differs (48 + C + F + L) (48 + 12 * (C / 12) + 20 * (F / 20) + 8 * (L / 8)) ≡ differs (L % 8) 0
-      l-test c f = differs-iff (48 + C + F + L) (48 + 12 * (C / 12) + 20 * (F / 20) + 8 * (L / 8)) (L % 8) 0 (λ e. omega arith) (λ e. omega arith)
+      f-test : C % 12 ≡ 0 → differs (H + C + F) (H + 12 * (C / 12) + 20 * (F / 20)) ≡ differs (F % 20) 0
+      f-test c = differs-iff (H + C + F) (H + 12 * (C / 12) + 20 * (F / 20)) (F % 20) 0 (λ e. omega arith) (λ e. omega arith)
 
-      n-test : C % 12 ≡ 0 → F % 20 ≡ 0 → L % 8 ≡ 0 → differs (48 + 12 * (C / 12) + 20 * (F / 20) + 8 * (L / 8) + N) (48 + C + F + L + N) ≡ false
-      n-test c f l = differs-same (48 + 12 * (C / 12) + 20 * (F / 20) + 8 * (L / 8) + N) (48 + C + F + L + N) (omega arith)
+      l-test : C % 12 ≡ 0 → F % 20 ≡ 0 → differs (H + C + F + L) (H + 12 * (C / 12) + 20 * (F / 20) + 8 * (L / 8)) ≡ differs (L % 8) 0
+      l-test c f = differs-iff (H + C + F + L) (H + 12 * (C / 12) + 20 * (F / 20) + 8 * (L / 8)) (L % 8) 0 (λ e. omega arith) (λ e. omega arith)
+
+      w-test : C % 12 ≡ 0 → F % 20 ≡ 0 → L % 8 ≡ 0 → (g && differs W (H + 12 * (C / 12) + 20 * (F / 20) + 8 * (L / 8) + N)) ≡ false
+      w-test c f l =
+          decide g
+          (λ y. let q : W ≡ H + C + F + L + N = last y in
+          rw y (differs-same W (H + 12 * (C / 12) + 20 * (F / 20) + 8 * (L / 8) + N) (omega arith)))
+          (λ y. rw y refl)
+
+      z-test : C % 12 ≡ 0 → F % 20 ≡ 0 → L % 8 ≡ 0
+          → differs (H + 12 * (C / 12) + 20 * (F / 20) + 8 * (L / 8) + N + 12 * (Z / 12)) (H + C + F + L + N + Z) ≡ differs (Z % 12) 0
+      z-test c f l =
+          differs-iff (H + 12 * (C / 12) + 20 * (F / 20) + 8 * (L / 8) + N + 12 * (Z / 12)) (H + C + F + L + N + Z) (Z % 12) 0 (λ e. omega arith)
+          (λ e. omega arith)
 
       at-l : C % 12 ≡ 0 → F % 20 ≡ 0 → (x : Bool) → differs (L % 8) 0 ≡ x → loose ≡ parted
-      at-l c f true y = rw (c-test, f-test c, l-test c f, differs-same (C % 12) 0 c, differs-same (F % 20) 0 f, y)
-      at-l c f false y = rw (c-test, f-test c, l-test c f, n-test c f (same-numbers (L % 8) 0 y), differs-same (C % 12) 0 c, differs-same (F % 20) 0 f, y)
+      at-l c f true y = rw (h-test, c-test, f-test c, l-test c f, differs-same (C % 12) 0 c, differs-same (F % 20) 0 f, y)
+      at-l c f false y =
+          let l : L % 8 ≡ 0 = same-numbers (L % 8) 0 y in
+          rw (h-test, c-test, f-test c, l-test c f, w-test c f l, z-test c f l, differs-same (C % 12) 0 c, differs-same (F % 20) 0 f, y)
 
       at-f : C % 12 ≡ 0 → (x : Bool) → differs (F % 20) 0 ≡ x → loose ≡ parted
-      at-f c true y = rw (c-test, f-test c, differs-same (C % 12) 0 c, y)
+      at-f c true y = rw (h-test, c-test, f-test c, differs-same (C % 12) 0 c, y)
       at-f c false y = at-l c (same-numbers (F % 20) 0 y) (differs (L % 8) 0) refl
 
       at-c : (x : Bool) → differs (C % 12) 0 ≡ x → loose ≡ parted
-      at-c true y = rw (c-test, y)
+      at-c true y = rw (h-test, c-test, y)
       at-c false y = at-f (same-numbers (C % 12) 0 y) (differs (F % 20) 0) refl
 
 -- ---- words, one after the other
@@ -93,10 +110,14 @@ cut-at p q r a n h k = ap (take n) (drop-at p (q ++ r) a h) ∙ take-at q r n k
 -- ---- the file of tables
 
 abbrev numbers : Tables → List ℕ
-numbers t = headerWords (t .bodies .edition) (length (t .constants)) (length (t .bodies .functions)) (length (t .labels)) (length (t .bodies .code)) (t .bodies .entry)
+numbers t =
+    headerWords (t .bodies .edition) (headerSize (t .bodies .edition)) (length (t .constants)) (length (t .bodies .functions)) (length (t .labels)) (length (t .bodies .code)) (length (t .bodies .structures)) (t .bodies .entry)
+
+abbrev constantsFrom : Tables → ℕ
+constantsFrom t = headerSize (t .bodies .edition)
 
 abbrev functionsFrom : Tables → ℕ
-functionsFrom t = 48 + length (t .constants)
+functionsFrom t = constantsFrom t + length (t .constants)
 
 abbrev labelsFrom : Tables → ℕ
 labelsFrom t = functionsFrom t + length (t .bodies .functions)
@@ -104,17 +125,30 @@ labelsFrom t = functionsFrom t + length (t .bodies .functions)
 abbrev codeFrom : Tables → ℕ
 codeFrom t = labelsFrom t + length (t .labels)
 
+abbrev structuresFrom : Tables → ℕ
+structuresFrom t = codeFrom t + length (t .bodies .code)
+
+-- the file has a place for the structures, or there are none
+abbrev pub Placeable : Tables → Type 0
+Placeable t = (t .bodies .edition ≡ 4) ⊎ (t .bodies .structures ≡ [])
+
+header-limit : (e : ℕ) → headerSize e ≤ 56
+header-limit e = decide (eqb e 4) (λ y. rw y (omega arith)) (λ y. rw y (omega arith))
+
 module _ (t : Tables) where
+  header-length : length (words (numbers t)) ≡ constantsFrom t
+  header-length = length-words (numbers t) ∙ decide (eqb (t .bodies .edition) 4) (λ y. rw y refl) (λ y. rw y refl)
+
   pub length-file : length (fileOf t) ≡ fileLength t
   unfolding fileOf
   length-file =
-      let h : length (words (numbers t)) ≡ 48 = length-words (numbers t) in
+      let h : length (words (numbers t)) ≡ constantsFrom t = header-length in
       simp length-append (omega arith)
 
-module _ (t : Tables) (short-edition : t .bodies .edition < 2 ^ 32) (small : fileLength t < 2 ^ 32) (low : t .bodies .entry < 2 ^ 32) where
-  header-word : (i : ℕ) → i < 12 → getD (numbers t) i 0 < 2 ^ 32 → word 4 (fileOf t) (4 * i) ≡ getD (numbers t) i 0
+module _ (t : Tables) (placeable : Placeable t) (short-edition : t .bodies .edition < 2 ^ 32) (small : fileLength t < 2 ^ 32) (low : t .bodies .entry < 2 ^ 32) where
+  header-word : (i : ℕ) → i < length (numbers t) → getD (numbers t) i 0 < 2 ^ 32 → word 4 (fileOf t) (4 * i) ≡ getD (numbers t) i 0
   unfolding fileOf
-  header-word i l h = word-words (numbers t) (t .constants ++ (t .bodies .functions ++ (t .labels ++ t .bodies .code))) i h l
+  header-word i l h = word-words (numbers t) (t .constants ++ (t .bodies .functions ++ (t .labels ++ (t .bodies .code ++ t .bodies .structures)))) i h l
 
   edition-back : edition (fileOf t) ≡ t .bodies .edition
   edition-back = header-word 0 (omega arith) short-edition
@@ -125,7 +159,7 @@ module _ (t : Tables) (short-edition : t .bodies .edition < 2 ^ 32) (small : fil
   constants-back : constants (fileOf t) ≡ constantCount (t .constants)
   constants-back = header-word 2 (omega arith) (omega arith)
 
-  constants-at-back : word 4 (fileOf t) 12 ≡ 48
+  constants-at-back : word 4 (fileOf t) 12 ≡ constantsFrom t
   constants-at-back = header-word 3 (omega arith) (omega arith)
 
   functions-back : functions (fileOf t) ≡ functionCount (t .bodies .functions)
@@ -152,10 +186,36 @@ module _ (t : Tables) (short-edition : t .bodies .edition < 2 ^ 32) (small : fil
   zero-back : word 4 (fileOf t) 44 ≡ 0
   zero-back = header-word 11 (omega arith) (omega arith)
 
+  constants-from : constantsAt (fileOf t) ≡ constantsFrom t
+  constants-from = ap headerSize edition-back
+
+  -- of edition 4 alone
+  structures-word : eqb (t .bodies .edition) 4 ≡ true → word 4 (fileOf t) 48 ≡ structureCount (t .bodies .structures)
+  structures-word y =
+      let q : getD (numbers t) 12 0 ≡ structureCount (t .bodies .structures) = rw y refl in
+      header-word 12 (rw y (omega arith)) (rw q (omega arith)) ∙ q
+
+  structures-at-back : eqb (t .bodies .edition) 4 ≡ true → word 4 (fileOf t) 52 ≡ structuresFrom t
+  structures-at-back y =
+      let q : getD (numbers t) 13 0 ≡ structuresFrom t = rw y refl in
+      header-word 13 (rw y (omega arith)) (rw q (omega arith)) ∙ q
+
+  structures-back : structures (fileOf t) ≡ structureCount (t .bodies .structures)
+  structures-back =
+      ap (λ n. cond (eqb n 4) (word 4 (fileOf t) 48) 0) edition-back
+      ∙ decide (eqb (t .bodies .edition) 4) (λ y. ap (λ g. cond g (word 4 (fileOf t) 48) 0) y ∙ structures-word y)
+      (λ y. ap (λ g. cond g (word 4 (fileOf t) 48) 0) y ∙ without placeable y)
+    where
+      without : Placeable t → eqb (t .bodies .edition) 4 ≡ false → 0 ≡ structureCount (t .bodies .structures)
+      without (inl q) y = false-true (sym y ∙ ap (λ n. eqb n 4) q)
+      without (inr q) y = rw q refl
+
   -- ---- rows 1 to 5
 
   long-enough : short (fileOf t) ≡ false
-  long-enough = let l : length (fileOf t) ≡ fileLength t = length-file t in ltb-no (length (fileOf t)) 48 (omega arith)
+  long-enough =
+      let l : length (fileOf t) ≡ fileLength t = length-file t in
+      let h : constantsAt (fileOf t) ≡ constantsFrom t = constants-from in ltb-no (length (fileOf t)) (constantsAt (fileOf t)) (omega arith)
 
   its-edition : otherEdition (fileOf t) ≡ unknownEdition (t .bodies .edition)
   its-edition = ap unknownEdition edition-back
@@ -165,24 +225,18 @@ module _ (t : Tables) (short-edition : t .bodies .edition < 2 ^ 32) (small : fil
 
   fourth : overLimit (fileOf t) ≡ tooMany t
   unfolding overLimit tooMany
-  fourth = rw (constants-back, functions-back, labels-back, code-back, zero-back) (or-false _)
+  fourth = rw (structures-back, constants-back, functions-back, labels-back, code-back, zero-back, edition-back) (or-false _)
 
   fifth : notPacked (fileOf t) ≡ broken t
   unfolding notPacked broken
   fifth =
-      rw (constants-at-back, functions-at-back, labels-at-back, code-at-back, total-back, constants-back, functions-back, labels-back, code-back, entry-back)
-      (same-row (length (t .constants)) (length (t .bodies .functions)) (length (t .labels)) (length (t .bodies .code)) (t .bodies .entry))
+      rw (structures-back, edition-back, constants-at-back, functions-at-back, labels-at-back, code-at-back, total-back, constants-back, functions-back, labels-back, code-back, entry-back)
+      (same-row (constantsFrom t) (length (t .constants)) (length (t .bodies .functions)) (length (t .labels)) (length (t .bodies .code)) (length (t .bodies .structures)) (t .bodies .entry) (word 4 (fileOf t) 52)
+      (eqb (t .bodies .edition) 4) structures-at-back)
 
   -- ---- the tables, where no record is broken
 
-  module _ (c : length (t .constants) % 12 ≡ 0) (f : length (t .bodies .functions) % 20 ≡ 0) (l : length (t .labels) % 8 ≡ 0) where
-    constants-is : constantsIn (fileOf t) ≡ t .constants
-    unfolding fileOf
-    constants-is =
-        let n : 12 * constants (fileOf t) ≡ length (t .constants) = let h : constants (fileOf t) ≡ constantCount (t .constants) = constants-back in omega arith in
-        ap (cut (fileOf t) 48) n
-        ∙ cut-at (words (numbers t)) (t .constants) (t .bodies .functions ++ (t .labels ++ t .bodies .code)) 48 (length (t .constants)) (length-words (numbers t)) refl
-
+  module _ (c : length (t .constants) % 12 ≡ 0) (f : length (t .bodies .functions) % 20 ≡ 0) (l : length (t .labels) % 8 ≡ 0) (z : length (t .bodies .structures) % 12 ≡ 0) where
     before-functions : List ℕ
     before-functions = words (numbers t) ++ t .constants
 
@@ -192,14 +246,20 @@ module _ (t : Tables) (short-edition : t .bodies .edition < 2 ^ 32) (small : fil
     before-code : List ℕ
     before-code = before-labels ++ t .labels
 
-    lengths : (length before-functions ≡ functionsFrom t) × (length before-labels ≡ labelsFrom t) × (length before-code ≡ codeFrom t)
-    unfolding before-functions before-labels before-code
+    before-structures : List ℕ
+    before-structures = before-code ++ t .bodies .code
+
+    lengths : (length before-functions ≡ functionsFrom t) × (length before-labels ≡ labelsFrom t) × (length before-code ≡ codeFrom t) × (length before-structures ≡ structuresFrom t)
+    unfolding before-functions before-labels before-code before-structures
     lengths =
-        let h : length (words (numbers t)) ≡ 48 = length-words (numbers t) in
-        (simp length-append (omega arith), simp length-append (omega arith), simp length-append (omega arith))
+        let h : length (words (numbers t)) ≡ constantsFrom t = header-length t in
+        (simp length-append (omega arith), simp length-append (omega arith), simp length-append (omega arith), simp length-append (omega arith))
+
+    constants-size : 12 * constants (fileOf t) ≡ length (t .constants)
+    constants-size = let h : constants (fileOf t) ≡ constantCount (t .constants) = constants-back in omega arith
 
     functions-from : functionsAt (fileOf t) ≡ functionsFrom t
-    functions-from = let h : constants (fileOf t) ≡ constantCount (t .constants) = constants-back in omega arith
+    functions-from = let h : constantsAt (fileOf t) ≡ constantsFrom t = constants-from in let k : 12 * constants (fileOf t) ≡ length (t .constants) = constants-size in omega arith
 
     functions-size : 20 * functions (fileOf t) ≡ length (t .bodies .functions)
     functions-size = let h : functions (fileOf t) ≡ functionCount (t .bodies .functions) = functions-back in omega arith
@@ -213,43 +273,61 @@ module _ (t : Tables) (short-edition : t .bodies .edition < 2 ^ 32) (small : fil
     code-from : codeAt (fileOf t) ≡ codeFrom t
     code-from = let h : labelsAt (fileOf t) ≡ labelsFrom t = labels-from in let k : 8 * labels (fileOf t) ≡ length (t .labels) = labels-size in omega arith
 
+    structures-from : structuresAt (fileOf t) ≡ structuresFrom t
+    structures-from = let h : codeAt (fileOf t) ≡ codeFrom t = code-from in let k : codeLength (fileOf t) ≡ length (t .bodies .code) = code-back in omega arith
+
+    structures-size : 12 * structures (fileOf t) ≡ length (t .bodies .structures)
+    structures-size = let h : structures (fileOf t) ≡ structureCount (t .bodies .structures) = structures-back in omega arith
+
+    -- the section q behind p, where the header says
+    section : (p q r : List ℕ) (a n : ℕ) → fileOf t ≡ p ++ (q ++ r) → a ≡ length p → n ≡ length q → cut (fileOf t) a n ≡ q
+    section p q r a n e h k = ap (λ x. cut x a n) e ∙ cut-at p q r a n (sym h) (sym k)
+
+    constants-is : constantsIn (fileOf t) ≡ t .constants
+    unfolding fileOf
+    constants-is =
+        section (words (numbers t)) (t .constants) (t .bodies .functions ++ (t .labels ++ (t .bodies .code ++ t .bodies .structures))) (constantsAt (fileOf t)) (12 * constants (fileOf t)) refl
+        (constants-from ∙ sym (header-length t)) constants-size
+
     functions-is : functionsIn (fileOf t) ≡ t .bodies .functions
     unfolding fileOf before-functions
     functions-is =
-        ap (λ a. cut (fileOf t) a (20 * functions (fileOf t))) functions-from ∙ ap (cut (fileOf t) (functionsFrom t)) functions-size
-        ∙ ap (λ x. cut x (functionsFrom t) (length (t .bodies .functions))) (sym (append-assoc (words (numbers t)) (t .constants) (t .bodies .functions ++ (t .labels ++ t .bodies .code))))
-        ∙ cut-at before-functions (t .bodies .functions) (t .labels ++ t .bodies .code) (functionsFrom t) (length (t .bodies .functions)) (lengths .0) refl
+        section before-functions (t .bodies .functions) (t .labels ++ (t .bodies .code ++ t .bodies .structures)) (functionsAt (fileOf t)) (20 * functions (fileOf t)) (simp append-assoc) (functions-from ∙ sym (lengths .0))
+        functions-size
 
     labels-is : labelsIn (fileOf t) ≡ t .labels
     unfolding fileOf before-functions before-labels
     labels-is =
-        let re : fileOf t ≡ before-labels ++ (t .labels ++ t .bodies .code) = simp append-assoc in
-        ap (λ a. cut (fileOf t) a (8 * labels (fileOf t))) labels-from ∙ ap (cut (fileOf t) (labelsFrom t)) labels-size
-        ∙ ap (λ x. cut x (labelsFrom t) (length (t .labels))) re
-        ∙ cut-at before-labels (t .labels) (t .bodies .code) (labelsFrom t) (length (t .labels)) (lengths .1) refl
+        section before-labels (t .labels) (t .bodies .code ++ t .bodies .structures) (labelsAt (fileOf t)) (8 * labels (fileOf t)) (simp append-assoc) (labels-from ∙ sym (lengths .1)) labels-size
 
     code-is : codeIn (fileOf t) ≡ t .bodies .code
     unfolding fileOf before-functions before-labels before-code
-    code-is =
-        let re : fileOf t ≡ before-code ++ t .bodies .code = simp append-assoc in
-        ap (λ a. cut (fileOf t) a (codeLength (fileOf t))) code-from ∙ ap (cut (fileOf t) (codeFrom t)) code-back
-        ∙ ap (λ x. cut x (codeFrom t) (length (t .bodies .code))) re
-        ∙ ap (take (length (t .bodies .code))) (drop-at before-code (t .bodies .code) (codeFrom t) (lengths .2))
-        ∙ take-all (length (t .bodies .code)) (t .bodies .code) (omega arith)
+    code-is = section before-code (t .bodies .code) (t .bodies .structures) (codeAt (fileOf t)) (codeLength (fileOf t)) (simp append-assoc) (code-from ∙ sym (lengths .2)) code-back
+
+    structures-is : structuresIn (fileOf t) ≡ t .bodies .structures
+    unfolding fileOf before-functions before-labels before-code before-structures
+    structures-is =
+        let re : fileOf t ≡ before-structures ++ t .bodies .structures = simp append-assoc in
+        section before-structures (t .bodies .structures) [] (structuresAt (fileOf t)) (12 * structures (fileOf t)) (re ∙ ap (λ x. before-structures ++ x) (sym (append-nil (t .bodies .structures))))
+        (structures-from ∙ sym (lengths .3)) structures-size
 
     tables-back : tablesIn (fileOf t) ≡ t
-    tables-back = rw (edition-back, constants-is, functions-is, labels-is, code-is, entry-back)
+    tables-back = rw (constants-is, functions-is, labels-is, code-is, structures-is, entry-back, edition-back)
 
   -- ---- the table of refusals
 
   unbroken : broken t ≡ false → tablesIn (fileOf t) ≡ t
   unfolding broken
   unbroken e =
-      let x : _ × (ltb (length (t .bodies .code)) (t .bodies .entry) ≡ false) = or-neither _ (ltb (length (t .bodies .code)) (t .bodies .entry)) e in
-      let y : _ × (differs (length (t .labels) % 8) 0 ≡ false) = or-neither _ (differs (length (t .labels) % 8) 0) (x .0) in
-      let z : (differs (length (t .constants) % 12) 0 ≡ false) × (differs (length (t .bodies .functions) % 20) 0 ≡ false) =
-      or-neither (differs (length (t .constants) % 12) 0) (differs (length (t .bodies .functions) % 20) 0) (y .0) in
-      tables-back (same-numbers (length (t .constants) % 12) 0 (z .0)) (same-numbers (length (t .bodies .functions) % 20) 0 (z .1)) (same-numbers (length (t .labels) % 8) 0 (y .1))
+      let C : ℕ = length (t .constants) % 12 in
+      let F : ℕ = length (t .bodies .functions) % 20 in
+      let L : ℕ = length (t .labels) % 8 in
+      let Z : ℕ = length (t .bodies .structures) % 12 in
+      let w : _ × (ltb (length (t .bodies .code)) (t .bodies .entry) ≡ false) = or-neither _ (ltb (length (t .bodies .code)) (t .bodies .entry)) e in
+      let x : _ × (differs Z 0 ≡ false) = or-neither _ (differs Z 0) (w .0) in
+      let y : _ × (differs L 0 ≡ false) = or-neither _ (differs L 0) (x .0) in
+      let z : (differs C 0 ≡ false) × (differs F 0 ≡ false) = or-neither (differs C 0) (differs F 0) (y .0) in
+      tables-back (same-numbers C 0 (z .0)) (same-numbers F 0 (z .1)) (same-numbers L 0 (y .1)) (same-numbers Z 0 (x .1))
 
   same-refusal : refusal (fileOf t) ≡ tableRefusal t
   unfolding refusal tableRefusal firstOf
@@ -274,18 +352,35 @@ fits t e =
     let ff : functionCount (t .bodies .functions) ≤ 128 = h .few-functions in
     let fl : labelCount (t .labels) ≤ 256 = g .few-labels in
     let fn : length (t .bodies .code) ≤ 16384 = h .little-code in
+    let fz : structureCount (t .bodies .structures) ≤ 16 = h .few-structures in
+    let fh : headerSize (t .bodies .edition) ≤ 56 = header-limit (t .bodies .edition) in
     let fe : t .bodies .entry ≤ length (t .bodies .code) = h .inside in
     (small-edition (t .bodies .edition) (g .known), omega arith, omega arith)
   where
     small-edition : (n : ℕ) → KnownEdition n → n < 2 ^ 32
     small-edition n (inl q) = omega arith
-    small-edition n (inr q) = omega arith
+    small-edition n (inr (inl q)) = omega arith
+    small-edition n (inr (inr q)) = omega arith
+
+-- nor have they a structure of another edition
+no-stray : (t : Tables) → GoodTables t → Placeable t
+no-stray t g =
+    decide (eqb (t .bodies .edition) 4) (λ y. inl (eqb-is (t .bodies .edition) 4 y))
+    (λ y.
+    let few : structureCount (t .bodies .structures) ≤ 0 = rw y at (g .few-allowed) in
+    let whole : length (t .bodies .structures) % 12 ≡ 0 = g .whole-structures in
+    inr (empty (t .bodies .structures) (omega arith)))
+  where
+    empty : (l : List ℕ) → length l ≡ 0 → l ≡ []
+    empty [] h = refl
+    empty (x ∷ l) h = absurd (omega arith)
 
 pub file-readable : (t : Tables) → tableRefusal t ≡ 0 → (refusal (fileOf t) ≡ 0) × (tablesIn (fileOf t) ≡ t)
 file-readable t e =
     let s : (t .bodies .edition < 2 ^ 32) × (fileLength t < 2 ^ 32) × (t .bodies .entry < 2 ^ 32) = fits t e in
     let g : GoodTables t = good-tables t e in
-    (same-refusal t (s .0) (s .1) (s .2) ∙ e, tables-back t (s .0) (s .1) (s .2) (g .whole-constants) (g .whole-functions) (g .whole-labels))
+    let p : Placeable t = no-stray t g in
+    (same-refusal t p (s .0) (s .1) (s .2) ∙ e, tables-back t p (s .0) (s .1) (s .2) (g .whole-constants) (g .whole-functions) (g .whole-labels) (g .whole-structures))
 
 module _ (t : Tables) (out : List ℕ) (n : ℕ) where
   -- a writer that answers 0 has written the file
@@ -330,29 +425,55 @@ words-from s b (suc n) a h =
     ∙ ap (λ x. take 4 (drop a s) ++ x) (words-from s b n (a + 4) (omega arith) ∙ ap (take (4 * n)) (sym (drop-drop 4 a s)))
     ∙ sym (take-add 4 (4 * n) (drop a s)) ∙ ap (λ k. take k (drop a s)) (sym q)
 
+words-append : (a b : List ℕ) → words (a ++ b) ≡ words a ++ words b
+words-append [] b = refl
+words-append (w ∷ a) b = ap (λ x. bytes 4 w ++ x) (words-append a b) ∙ sym (append-assoc (bytes 4 w) (words a) (words b))
+
 -- one section more, in front of the rest of the file
 seam : (s : List ℕ) (a n : ℕ) (r : List ℕ) → r ≡ drop (a + n) s → cut s a n ++ r ≡ drop a s
 seam s a n r e = ap (λ x. cut s a n ++ x) (e ∙ sym (drop-drop n a s)) ∙ take-append-drop n (drop a s)
 
+-- the words behind the twelve that every edition has
+abbrev moreWords : ℕ → ℕ
+moreWords e = cond (eqb e 4) 2 0
+
 module _ (s : List ℕ) (b : AreBytes s) (e : refusal s ≡ 0) where
-  same-words : numbers (tablesIn s) ≡ wordsFrom s 0 12
+  last-words : cond (eqb (edition s) 4) (structures s ∷ structuresAt s ∷ []) [] ≡ wordsFrom s 48 (moreWords (edition s))
+  last-words = go (eqb (edition s) 4) (packed s e .structures-at)
+    where
+      go : (g : Bool) → (g ≡ true → word 4 s 52 ≡ structuresAt s) → cond g (cond g (word 4 s 48) 0 ∷ structuresAt s ∷ []) [] ≡ wordsFrom s 48 (cond g 2 0)
+      go true h = ap (λ n. word 4 s 48 ∷ n ∷ []) (sym (h refl))
+      go false h = refl
+
+  same-words : numbers (tablesIn s) ≡ wordsFrom s 0 12 ++ wordsFrom s 48 (moreWords (edition s))
   same-words =
       let p : Packed s = packed s e in
       let lc : length (constantsIn s) ≡ 12 * constants s = constants-length s e in
       let lf : length (functionsIn s) ≡ 20 * functions s = functions-length s e in
       let ll : length (labelsIn s) ≡ 8 * labels s = labels-length s e in
       let ln : length (codeIn s) ≡ codeLength s = code-length s e in
-      rw (constant-count s e, function-count s e, label-count s e, lc, lf, ll, ln, p .whole, p .zero-word, p .constants-at, p .functions-at, p .labels-at, p .code-at, p .total)
+      let lz : length (structuresIn s) ≡ 12 * structures s = structures-length s e in
+      rw (constant-count s e, function-count s e, label-count s e, structure-count s e, lc, lf, ll, ln, lz, p .whole, p .zero-word, p .constants-at, p .functions-at, p .labels-at, p .code-at, p .total)
+      (ap (λ x. edition s ∷ length s ∷ constants s ∷ constantsAt s ∷ functions s ∷ functionsAt s ∷ labels s ∷ labelsAt s ∷ codeLength s ∷ codeAt s ∷ entryLength s ∷ 0 ∷ x) last-words)
+
+  header-back : words (numbers (tablesIn s)) ≡ take (constantsAt s) s
+  header-back =
+      let n : ℕ = moreWords (edition s) in
+      let h : constantsAt s ≡ 48 + 4 * n = decide (eqb (edition s) 4) (λ y. rw y refl) (λ y. rw y refl) in
+      let w : structuresAt s + 12 * structures s ≡ length s = packed s e .whole in
+      ap words same-words ∙ words-append (wordsFrom s 0 12) (wordsFrom s 48 n)
+      ∙ ap (λ x. x ++ words (wordsFrom s 48 n)) (words-from s b 12 0 (omega arith)) ∙ ap (λ x. take 48 s ++ x) (words-from s b n 48 (omega arith))
+      ∙ sym (take-add 48 (4 * n) s) ∙ ap (λ k. take k s) (sym h)
 
   pub file-back : fileOf (tablesIn s) ≡ s
   unfolding fileOf
   file-back =
-      let p : Packed s = packed s e in
-      let w : codeAt s + codeLength s ≡ length s = p .whole in
-      ap (λ ws. words ws ++ (constantsIn s ++ (functionsIn s ++ (labelsIn s ++ codeIn s)))) same-words
-      ∙ ap (λ x. x ++ (constantsIn s ++ (functionsIn s ++ (labelsIn s ++ codeIn s)))) (words-from s b 12 0 (omega arith))
-      ∙ seam s 0 48 _ (seam s 48 (12 * constants s) _ (seam s (functionsAt s) (20 * functions s) _ (seam s (labelsAt s) (8 * labels s) _
-      (take-all (codeLength s) (drop (codeAt s) s) (simp length-drop (omega arith))))))
+      let w : structuresAt s + 12 * structures s ≡ length s = packed s e .whole in
+      let r : List ℕ = constantsIn s ++ (functionsIn s ++ (labelsIn s ++ (codeIn s ++ structuresIn s))) in
+      let q : r ≡ drop (constantsAt s) s =
+      seam s (constantsAt s) (12 * constants s) _ (seam s (functionsAt s) (20 * functions s) _ (seam s (labelsAt s) (8 * labels s) _ (seam s (codeAt s) (codeLength s) _
+      (take-all (12 * structures s) (drop (structuresAt s) s) (simp length-drop (omega arith)))))) in
+      ap (λ x. x ++ r) header-back ∙ ap (λ x. take (constantsAt s) s ++ x) q ∙ take-append-drop (constantsAt s) s
 
   pub written-back : (out : List ℕ) → length s ≤ length out → write (tablesIn s) out ≡ wrote (Written (length s)) (s ++ drop (length s) out)
   unfolding write

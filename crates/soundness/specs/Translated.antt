@@ -1,5 +1,5 @@
 -- Code in keys: each opcode replaced by its key, operand bytes as they are. It says at every place what the code says by the rules of
--- its edition. Edition 3's code is in keys as it stands.
+-- its edition. The code of editions 3 and 4 is in keys as it stands.
 use mathlib.Core.Path.{_≡_, refl, sym, ap, _∙_, subst}
 use Prim.Native.Nat.{ℕ, zero, suc, _+_, _*_, _-_, _≤_, _<_}
 use native.Mathlib.Omega.{arith}
@@ -26,8 +26,8 @@ pub record InKeys (e : ℕ) (code own : List ℕ) : Type 0 where
   pub long : length code ≤ length own
   pub keys : (p : ℕ) → p < length code → byte own p ≡ keyAt e code p
 
-pub third-in-keys : (code : List ℕ) → InKeys 3 code code
-third-in-keys code = record { long = omega arith; keys = λ p l. decide (eqb (due 3 code p) 0) (λ y. rw y refl) (λ y. rw y refl) }
+pub in-place : (e : ℕ) → eqb e 1 ≡ false → (code : List ℕ) → InKeys e code code
+in-place e n code = record { long = omega arith; keys = λ p l. decide (eqb (due e code p) 0) (λ y. rw (y, n) refl) (λ y. rw y refl) }
 
 -- words of the same bytes
 same-word : (n : ℕ) (s t : List ℕ) (a : ℕ) → ((j : ℕ) → j < n → byte s (a + j) ≡ byte t (a + j)) → word n s a ≡ word n t a
