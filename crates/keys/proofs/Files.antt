@@ -1,19 +1,21 @@
--- Lent bytes that are a module's code in keys: what the module has at a place, they say. Edition 3's file lends its own.
-use Prim.Native.Nat.{ℕ, _+_, _-_, _≤_}
+-- Lent bytes that are a module's code in keys: what the module has at a place, they say. Files of editions 3 and 4 lend their own.
+use Prim.Native.Nat.{ℕ, _+_, _*_, _-_, _≤_}
 use native.Mathlib.Omega.{arith}
 use mathlib.Core.Path.{_≡_, sym, ap, _∙_, subst}
-use mathlib.Core.Logic.{⊎-elim}
+use mathlib.Core.Bool.{cond}
 use mathlib.Core.Option.{some}
-use mathlib.Core.List.{List}
-use lib.ListN.{length, take, drop, length-drop}
+use mathlib.Core.List.{List, _++_}
+use lib.ListN.{length, take, drop, length-append, length-drop, take-append-drop, List·getD-append}
 use lib.Seq.{take-all}
+use lib.Dec.{eqb}
+use borrow.Author.Tests.{ne-eqb}
 use Rattle.rules.specs.declared.Instruction.{Instruction}
+use Rattle.rules.specs.Bytes.{word}
 use Rattle.rules.specs.Instructions.{size}
 use Rattle.rules.specs.Tables.{due, moduleOf}
-use Rattle.rules.specs.ModuleFile.{edition, codeLength, codeAt, codeIn, tablesIn, read, refusal}
-use Rattle.soundness.specs.Cutting.{packed, code-length, good-file}
-use Rattle.soundness.specs.Readable.{good-tables}
-use Rattle.soundness.specs.Translated.{InKeys, third-in-keys, in-keys}
+use Rattle.rules.specs.ModuleFile.{edition, codeLength, codeAt, structures, structuresAt, codeIn, read, refusal}
+use Rattle.soundness.specs.Cutting.{packed, code-length}
+use Rattle.soundness.specs.Translated.{InKeys, in-place, in-keys}
 use Rattle.keys.specs.Keys.{Says, Keyed}
 
 -- from a on, to its end
@@ -37,27 +39,37 @@ module _ (file source : List ℕ) (from : ℕ) (k : Keyed file source from) (rea
 
 -- ---- what is lent for a file
 
+-- bytes behind the code don't matter
+more-behind : (e : ℕ) (code own rest : List ℕ) → InKeys e code own → InKeys e code (own ++ rest)
+more-behind e code own rest k =
+    let l : length code ≤ length own = k .long in
+    record {
+      long = let q : length (own ++ rest) ≡ length own + length rest = length-append own rest in omega arith;
+      keys = λ p h. List·getD-append own rest 0 p (omega arith) ∙ k .keys p h;
+    }
+
 module _ (s : List ℕ) (readable : refusal s ≡ 0) (a : ℕ) (at : a ≡ codeAt s) where
   starts-inside : a ≤ length s
-  starts-inside = let w : codeAt s + codeLength s ≡ length s = packed s readable .whole in omega arith
+  starts-inside = let w : structuresAt s + 12 * structures s ≡ length s = packed s readable .whole in omega arith
 
-  -- the file's last section
-  code-rest : drop a s ≡ codeIn s
-  code-rest =
-      let w : codeAt s + codeLength s ≡ length s = packed s readable .whole in
-      let l : length (drop (codeAt s) s) ≡ length s - codeAt s = length-drop (codeAt s) s in
-      ap (λ n. drop n s) at ∙ sym (take-all (codeLength s) (drop (codeAt s) s) (omega arith))
+  -- the code begins there
+  code-first : drop a s ≡ codeIn s ++ drop (codeLength s) (drop a s)
+  code-first = sym (take-append-drop (codeLength s) (drop a s)) ∙ ap (λ n. take (codeLength s) (drop n s) ++ drop (codeLength s) (drop a s)) at
 
-  -- edition 3, and there is no other but 1: the file itself
-  pub third-keyed : (edition s ≡ 1 → ⊥) → Keyed s s a
-  third-keyed n =
-      let e : edition s ≡ 3 = ⊎-elim (λ x. absurd (n x)) (λ x. x) (good-tables (tablesIn s) (good-file s readable) .known) in
+  -- editions 3 and 4: the file itself
+  pub file-keyed : (edition s ≡ 1 → ⊥) → Keyed s s a
+  file-keyed n =
       record {
         inside = starts-inside;
-        keys = subst (λ m. InKeys m (codeIn s) (drop a s)) (sym e) (subst (λ code. InKeys 3 (codeIn s) code) (sym code-rest) (third-in-keys (codeIn s)));
+        keys = subst (InKeys (edition s) (codeIn s)) (sym code-first)
+            (more-behind (edition s) (codeIn s) (codeIn s) (drop (codeLength s) (drop a s)) (in-place (edition s) (ne-eqb (edition s) 1 n) (codeIn s)));
       }
 
-  -- edition 1: what `translate` made of it
+  -- edition 1: what `translate` made of the file's last section
   pub first-keyed : edition s ≡ 1 → (own : List ℕ) → InKeys 1 (drop a s) own → Keyed s own 0
   first-keyed e own k =
-      record { inside = omega arith; keys = subst (λ n. InKeys n (codeIn s) own) (sym e) (subst (λ code. InKeys 1 code own) code-rest k) }
+      let w : structuresAt s + 12 * structures s ≡ length s = packed s readable .whole in
+      let z : structures s ≡ 0 = ap (λ n. cond (eqb n 4) (word 4 s 48) 0) e in
+      let l : length (drop a s) ≡ length s - a = length-drop a s in
+      let last : drop a s ≡ codeIn s = sym (take-all (codeLength s) (drop a s) (omega arith)) ∙ ap (λ n. take (codeLength s) (drop n s)) at in
+      record { inside = omega arith; keys = subst (λ n. InKeys n (codeIn s) own) (sym e) (subst (λ code. InKeys 1 code own) last k) }

@@ -49,17 +49,17 @@ known-opcode (wide j) w i e = refl
 pub says-known : (code : List ℕ) (q : ℕ) (i : Instruction) → Says code q i → Known (byte code q)
 says-known code q i s = known-opcode (opcodeOf keyTable (byte code q)) (word 4 code (q + 1)) i (s .is)
 
--- the table ends at 31 hex
-pub known-low : (b : ℕ) → Known b → b < 50
-known-low b k = go (ltb b 50) refl
+-- the table ends at 32 hex
+pub known-low : (b : ℕ) → Known b → b < 64
+known-low b k = go (ltb b 64) refl
   where
-    go : (x : Bool) → ltb b 50 ≡ x → b < 50
-    go true e = ltb→lt b 50 (rw e tt)
+    go : (x : Bool) → ltb b 64 ≡ x → b < 64
+    go true e = ltb→lt b 64 (rw e tt)
     go false e =
-        let l : 50 ≤ b = nltb→le b 50 (rw e tt) in
-        let z : opcodeOf keyTable b ≡ absent = List·getD-eq-default keyTable absent {n = b} l in
+        let l : 64 ≤ b = nltb→le b 64 (rw e tt) in
+        let z : opcodeOf keyTable b ≡ absent = List·getD-eq-default keyTable absent {n = b} (omega arith) in
         absurd (true≢false (sym (ap isAbsent z) ∙ k))
 
 -- so all of its bits are kept
 pub says-key : (code : List ℕ) (q : ℕ) (i : Instruction) → Says code q i → byte code q % 64 ≡ byte code q
-says-key code q i s = let l : byte code q < 50 = known-low (byte code q) (says-known code q i s) in omega arith
+says-key code q i s = let l : byte code q < 64 = known-low (byte code q) (says-known code q i s) in omega arith

@@ -1,4 +1,4 @@
-// Code of edition 1 in keys, so that one machine and one checker serve both editions.
+// Code of edition 1 in keys, so that one machine and one checker serve all editions.
 ghost use mathlib.Core.Path.{_≡_};
 ghost use Prim.Native.Nat.{_+_, _≤_};
 ghost use mathlib.Core.Bool.{cond};
@@ -24,7 +24,7 @@ fn key(b: u8) -> u8
         return b + 0x06;
     }
     if b < 0x10 {
-        return b + 0x22;
+        return b + 0x1b;
     }
     if b < 0x23 {
         return b + 0x06;

@@ -21,7 +21,7 @@ add-result-2 : tie.Need-add-result-2
 add-result-2 c = search needs
 
 returns-3 : tie.Need-returns-3
-returns-3 c = let b = c .before .before .before .args .b in let e : b + 34 ≡ keyByRange b = simp (le-ltb _ _ (c .before .if2 .left), le-ltb _ _ (c .before .before .if1 .left), lt-ltb _ _ (c .if3 .taken)) in e ∙ key-by-range b (omega arith)
+returns-3 c = let b = c .before .before .before .args .b in let e : b + 27 ≡ keyByRange b = simp (le-ltb _ _ (c .before .if2 .left), le-ltb _ _ (c .before .before .if1 .left), lt-ltb _ _ (c .if3 .taken)) in e ∙ key-by-range b (omega arith)
 
 add-result-3 : tie.Need-add-result-3
 add-result-3 c = search needs
