@@ -1,37 +1,48 @@
--- The editions that there are; row 7 of edition 1 from edition 3's: a parameter byte over 127 is bad besides.
+-- The editions that there are; row 7 by edition: editions 3 and 4 differ by their structures, and in edition 1 a parameter byte over
+-- 127 is bad besides.
 use Prim.Native.Nat.{ℕ, zero, suc, _+_, _≤_, _<_}
 use native.Mathlib.Omega.{arith}
 use mathlib.Core.Path.{_≡_, refl, sym, ap, _∙_}
+use mathlib.Core.Logic.{⊎-elim}
 use mathlib.Core.Bool.{Bool, true, false, _||_, or-false}
-use mathlib.Core.List.{List}
-use lib.Dec.{ltb, eqb}
+use mathlib.Core.List.{List, []}
+use lib.Dec.{ltb, leb, eqb}
 use lib.ListN.{length}
-use borrow.Author.Tests.{ne-eqb, ltb-true, ltb-false}
+use borrow.Author.Tests.{ne-eqb, le-ltb, ltb-true, ltb-false, leb-true}
 use Rattle.rules.specs.Bytes.{byte, word, some-below}
-use Rattle.rules.specs.Tables.{bodies, functionCount, functionAt, unknownEdition, oddReturn, oddParam, badParam, badRecord, endBefore, badFunction, badFunctions, differs}
-use Rattle.soundness.specs.Readable.{same-numbers}
-use Rattle.format.specs.Layout.{highParam, highParams}
+use Rattle.rules.specs.Tables.{bodies, functionCount, functionAt, structureCount, structureLimit, unknownEdition, structureType, oddReturn, oddParam, badParam, badRecord, endBefore, badFunction, badFunctions, differs}
+use Rattle.soundness.specs.Tests.{decide}
+use Rattle.soundness.specs.Readable.{known-edition}
+use Rattle.format.specs.Layout.{highParam, highParams, badTable}
 use Rattle.format.proofs.Tests.{or-right, differs-true}
+use Rattle.format.proofs.Gathered.{some-same}
 
-pub third-edition : (e : ℕ) → unknownEdition e ≡ false → (e ≡ 1 → ⊥) → e ≡ 3
-third-edition e known other = same-numbers e 3 (rw (ne-eqb e 1 other) at known)
+pub third-edition : (e : ℕ) → unknownEdition e ≡ false → (e ≡ 1 → ⊥) → (e ≡ 4 → ⊥) → e ≡ 3
+third-edition e known one four = ⊎-elim (λ q. absurd (one q)) (λ o. ⊎-elim (λ q. q) (λ q. absurd (four q)) o) (known-edition e known)
+
+pub limit-small : (e : ℕ) → structureLimit e ≤ 16
+limit-small e = decide (eqb e 4) (λ y. rw y (omega arith)) (λ y. rw y (omega arith))
 
 -- ---- one byte
 
-odd-high : (used : Bool) (t : ℕ) → 127 < t → oddParam 1 used t ≡ true
-odd-high true t h = simp (ne-eqb t 3 (λ e. omega arith), ne-eqb t 4 (λ e. omega arith), ne-eqb t 6 (λ e. omega arith))
+pub no-structures : (z t : ℕ) → z ≡ 0 → false ≡ structureType z t
+no-structures z t q = rw q (decide (leb 138 t) (λ y. let l = leb-true _ _ y in sym (rw y (le-ltb t 138 l))) (λ y. rw y refl))
+
+odd-high : (used : Bool) (t : ℕ) → 127 < t → oddParam 1 0 used t ≡ true
+odd-high true t h =
+    simp (ne-eqb t 3 (λ e. omega arith), ne-eqb t 4 (λ e. omega arith), ne-eqb t 6 (λ e. omega arith), ← no-structures 0 t refl)
 odd-high false t h = differs-true t 0 (λ e. omega arith)
 
-odd-low : (used : Bool) (t : ℕ) → t ≤ 127 → oddParam 1 used t ≡ oddParam 3 used t
+odd-low : (used : Bool) (t : ℕ) → t ≤ 127 → oddParam 1 0 used t ≡ oddParam 3 0 used t
 odd-low true t h = simp (ne-eqb t 131 (λ e. omega arith), ne-eqb t 132 (λ e. omega arith), ne-eqb t 134 (λ e. omega arith))
 odd-low false t h = refl
 
-odd-first : (used : Bool) (t : ℕ) → oddParam 1 used t ≡ (oddParam 3 used t || ltb 127 t)
+odd-first : (used : Bool) (t : ℕ) → oddParam 1 0 used t ≡ (oddParam 3 0 used t || ltb 127 t)
 odd-first used t = go (ltb 127 t) refl
   where
-    go : (b : Bool) → ltb 127 t ≡ b → oddParam 1 used t ≡ (oddParam 3 used t || b)
-    go true e = odd-high used t (ltb-true _ _ e) ∙ sym (or-right (oddParam 3 used t) true refl)
-    go false e = odd-low used t (ltb-false _ _ e) ∙ sym (or-false (oddParam 3 used t))
+    go : (b : Bool) → ltb 127 t ≡ b → oddParam 1 0 used t ≡ (oddParam 3 0 used t || b)
+    go true e = odd-high used t (ltb-true _ _ e) ∙ sym (or-right (oddParam 3 0 used t) true refl)
+    go false e = odd-low used t (ltb-false _ _ e) ∙ sym (or-false (oddParam 3 0 used t))
 
 -- ---- a test of which another is split off
 
@@ -47,13 +58,35 @@ split-off f g h e (suc n) = rw (split-off f g h e n, e n) (shuffle (some-below n
     shuffle false false c d = refl
 
 module _ (s code : List ℕ) (n : ℕ) where
-  params-first : (a : ℕ) → some-below 8 (badParam 1 s a) ≡ (some-below 8 (badParam 3 s a) || some-below 8 (highParam s a))
-  unfolding badParam
-  params-first a = split-off (badParam 1 s a) (badParam 3 s a) (highParam s a) (λ j. odd-first (ltb j (byte s (a + 8))) (byte s (a + 10 + j))) 8
+  -- where bodies end is the same in every edition, with any structures
+  pub end-same : (e : ℕ) (zs : List ℕ) (i : ℕ) → endBefore (bodies e s zs code n) i ≡ endBefore (bodies 3 s [] code n) i
+  unfolding endBefore
+  end-same e zs zero = refl
+  end-same e zs (suc i) = ap (λ (p : ℕ). p + word 4 s (functionAt i + 4)) (end-same e zs i)
 
-  record-first : (a from : ℕ) → badRecord 1 s a from ≡ (badRecord 3 s a from || some-below 8 (highParam s a))
+  record-later : (e z a from : ℕ) → eqb e 1 ≡ false → badRecord e z s a from ≡ badRecord 3 z s a from
+  unfolding badRecord badParam
+  record-later e z a from q = rw (some-same (badParam e z s a) (badParam 3 z s a) (λ j. rw q refl) 8)
+
+  functions-later : (e : ℕ) (zs : List ℕ) → eqb e 1 ≡ false → badTable (structureCount zs) s code n ≡ badFunctions (bodies e s zs code n)
+  unfolding badTable badFunctions badFunction
+  functions-later e zs q =
+      rw (
+        end-same e zs (functionCount s),
+        some-same (badFunction (bodies e s zs code n)) (λ i. badRecord 3 (structureCount zs) s (functionAt i) (endBefore (bodies 3 s [] code n) i))
+            (λ i. record-later e (structureCount zs) (functionAt i) (endBefore (bodies e s zs code n) i) q ∙ ap (badRecord 3 (structureCount zs) s (functionAt i)) (end-same e zs i)) (functionCount s),
+      )
+
+  pub functions-third : (e : ℕ) (zs : List ℕ) (z : ℕ) → (e ≡ 1 → ⊥) → z ≡ structureCount zs → (b : Bool) → b ≡ badTable z s code n → b ≡ badFunctions (bodies e s zs code n)
+  functions-third e zs z other q b p = p ∙ ap (λ (x : ℕ). badTable x s code n) q ∙ functions-later e zs (ne-eqb e 1 other)
+
+  params-first : (a : ℕ) → some-below 8 (badParam 1 0 s a) ≡ (some-below 8 (badParam 3 0 s a) || some-below 8 (highParam s a))
+  unfolding badParam
+  params-first a = split-off (badParam 1 0 s a) (badParam 3 0 s a) (highParam s a) (λ j. odd-first (ltb j (byte s (a + 8))) (byte s (a + 10 + j))) 8
+
+  record-first : (a from : ℕ) → badRecord 1 0 s a from ≡ (badRecord 3 0 s a from || some-below 8 (highParam s a))
   unfolding badRecord
-  record-first a from = rw (params-first a) (last (differs (word 4 s a) from || eqb (word 4 s (a + 4)) 0 || ltb 8 (byte s (a + 8)) || oddReturn (byte s (a + 9))) (some-below 8 (badParam 3 s a)) (some-below 8 (highParam s a)) (differs (byte s (a + 18)) 0) (differs (byte s (a + 19)) 0))
+  record-first a from = rw (params-first a) (last (differs (word 4 s a) from || eqb (word 4 s (a + 4)) 0 || ltb 8 (byte s (a + 8)) || oddReturn 0 (byte s (a + 9))) (some-below 8 (badParam 3 0 s a)) (some-below 8 (highParam s a)) (differs (byte s (a + 18)) 0) (differs (byte s (a + 19)) 0))
     where
       last : (a p h x y : Bool) → (((a || (p || h)) || x) || y) ≡ ((((a || p) || x) || y) || h)
       last true p h x y = refl
@@ -63,20 +96,17 @@ module _ (s code : List ℕ) (n : ℕ) where
       last false false true false false = refl
       last false false false x y = sym (or-false (x || y))
 
-  end-first : (i : ℕ) → endBefore (bodies 1 s code n) i ≡ endBefore (bodies 3 s code n) i
-  unfolding endBefore
-  end-first zero = refl
-  end-first (suc i) = ap (λ (e : ℕ). e + word 4 s (functionAt i + 4)) (end-first i)
-
-  function-first : (i : ℕ) → badFunction (bodies 1 s code n) i ≡ (badFunction (bodies 3 s code n) i || some-below 8 (highParam s (functionAt i)))
+  function-first : (zs : List ℕ) → structureCount zs ≡ 0 → (i : ℕ)
+      → badFunction (bodies 1 s zs code n) i ≡ (badRecord 3 0 s (functionAt i) (endBefore (bodies 3 s [] code n) i) || some-below 8 (highParam s (functionAt i)))
   unfolding badFunction
-  function-first i = rw (end-first i) (record-first (functionAt i) (endBefore (bodies 3 s code n) i))
+  function-first zs none i = rw (end-same 1 zs i, none) (record-first (functionAt i) (endBefore (bodies 3 s [] code n) i))
 
-  functions-first : badFunctions (bodies 1 s code n) ≡ (badFunctions (bodies 3 s code n) || highParams s)
-  unfolding badFunctions highParams
-  functions-first =
-      rw (split-off (badFunction (bodies 1 s code n)) (badFunction (bodies 3 s code n)) (λ i. some-below 8 (highParam s (functionAt i))) function-first (functionCount s), end-first (functionCount s))
-      (swap (some-below (functionCount s) (badFunction (bodies 3 s code n))) (highParams s) (differs (endBefore (bodies 3 s code n) (functionCount s)) (length code)))
+  functions-first : (zs : List ℕ) → structureCount zs ≡ 0 → badFunctions (bodies 1 s zs code n) ≡ (badTable 0 s code n || highParams s)
+  unfolding badFunctions badTable highParams
+  functions-first zs none =
+      let third : ℕ → Bool = λ i. badRecord 3 0 s (functionAt i) (endBefore (bodies 3 s [] code n) i) in
+      rw (split-off (badFunction (bodies 1 s zs code n)) third (λ i. some-below 8 (highParam s (functionAt i))) (function-first zs none) (functionCount s), end-same 1 zs (functionCount s))
+      (swap (some-below (functionCount s) third) (highParams s) (differs (endBefore (bodies 3 s [] code n) (functionCount s)) (length code)))
     where
       swap : (a h d : Bool) → ((a || h) || d) ≡ ((a || d) || h)
       swap true h d = refl
@@ -84,8 +114,9 @@ module _ (s code : List ℕ) (n : ℕ) where
       swap false true false = refl
       swap false false d = sym (or-false d)
 
-  pub functions-old : (e : ℕ) → e ≡ 1 → (b h : Bool) → b ≡ badFunctions (bodies 3 s code n) → h ≡ highParams s → (b || h) ≡ badFunctions (bodies e s code n)
-  functions-old e q b h p r = rw (q, p, r) (sym functions-first)
-
-  pub functions-third : (e : ℕ) → unknownEdition e ≡ false → (e ≡ 1 → ⊥) → (b : Bool) → b ≡ badFunctions (bodies 3 s code n) → b ≡ badFunctions (bodies e s code n)
-  functions-third e known other b p = p ∙ ap (λ (x : ℕ). badFunctions (bodies x s code n)) (sym (third-edition e known other))
+  pub functions-old : (e : ℕ) (zs : List ℕ) (z : ℕ) → e ≡ 1 → z ≡ structureCount zs → structureCount zs ≤ structureLimit e → (b h : Bool) → b ≡ badTable z s code n → h ≡ highParams s → (b || h) ≡ badFunctions (bodies e s zs code n)
+  functions-old e zs z q m l b h p r =
+      let l1 : structureCount zs ≤ 0 = rw q at l in
+      let none : structureCount zs ≡ 0 = omega arith in
+      let o : z ≡ 0 = m ∙ none in
+      rw (q, p, o, r) (sym (functions-first zs none))

@@ -96,14 +96,14 @@ module _ (constants code out : List ℕ) where
   pub module-short : length out < 68 + length constants + length code → wrote (Unwritten 16) out ≡ delivered (fileOf (oneFunction constants code)) out
   module-short h = rw (long, ltb-yes (length out) (68 + length constants + length code) h) refl
 
-  -- the record with the code's length in its place, and no labels
+  -- the record with the code's length in its place, no labels and no structures
   pub module-written : (record′ out′ : List ℕ) → 68 + length constants + length code ≤ length out
       → record′ ≡ written 4 (0 ∷ 0 ∷ 0 ∷ 0 ∷ 0 ∷ 0 ∷ 0 ∷ 0 ∷ 3 ∷ 3 ∷ 3 ∷ 3 ∷ 3 ∷ 0 ∷ 0 ∷ 0 ∷ 0 ∷ 0 ∷ 0 ∷ 0 ∷ []) 4 (length code)
-      → out′ ≡ filledWith (tables 3 constants record′ [] code 0) out → wrote (Written (68 + length constants + length code)) out′ ≡ delivered (fileOf (oneFunction constants code)) out
+      → out′ ≡ filledWith (tables 3 constants record′ [] [] code 0) out → wrote (Written (68 + length constants + length code)) out′ ≡ delivered (fileOf (oneFunction constants code)) out
   unfolding written
   module-written record′ out′ h e q =
       let T : Tables = oneFunction constants code in
-      let z : out′ ≡ filledWith T out = q ∙ ap (λ (r : List ℕ). filledWith (tables 3 constants r [] code 0) out) e in
+      let z : out′ ≡ filledWith T out = q ∙ ap (λ (r : List ℕ). filledWith (tables 3 constants r [] [] code 0) out) e in
       let f : length (fileOf T) ≡ fileLength T = length-file T in
       let n : 68 + length constants + length code ≡ fileLength T = omega arith in
       let l : fileLength T ≤ length out = omega arith in

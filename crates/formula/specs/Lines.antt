@@ -15,7 +15,7 @@ use Rattle.formula.specs.Readers.{Cursor, Answer, Bad, Read}
 
 -- the tables of one function of three ints to an int, with these constants and this code
 abbrev pub oneFunction : List ℕ → List ℕ → Tables
-oneFunction constants code = tables 3 constants (functionBytes 0 (function (3 ∷ 3 ∷ 3 ∷ []) 3 code ∷ [])) [] code 0
+oneFunction constants code = tables 3 constants (functionBytes 0 (function (3 ∷ 3 ∷ 3 ∷ []) 3 code ∷ [])) [] [] code 0
 
 -- a line of this tree was read: its constants, and its code with `ret`
 pub record Whole (code pool : List ℕ) (c : Cursor) (t : Tree) : Type 0 where

@@ -56,7 +56,7 @@ fn write_module(constants: &[u8], code: &[u8], out: &mut [u8]) -> WriteAnswer
     let mut function = [0u8, 0, 0, 0, 0, 0, 0, 0, 3, 3, 3, 3, 3, 0, 0, 0, 0, 0, 0, 0];
     memory::store32(&mut function, 4, code.len() as u32);
     let none = &code[0..0];
-    writer::put(3, constants, &function, none, code, 0, out);
+    writer::put(3, constants, &function, none, none, code, 0, out);
     WriteAnswer::Written(length as u64)
 }
 

@@ -3,17 +3,19 @@ use Prim.Native.Nat.{ℕ, zero, suc, _+_, _*_, _≤_, _<_}
 use native.Mathlib.Numerals.{add-one}
 use native.Mathlib.Omega.{arith}
 use mathlib.Core.Path.{_≡_, refl, sym, ap, _∙_, subst}
-use mathlib.Core.Bool.{Bool, true, false, not, _&&_, or-false, true≢false}
-use mathlib.Core.List.{List}
+use mathlib.Core.Bool.{Bool, true, false, not, _&&_, _||_, or-false, true≢false}
+use mathlib.Core.List.{List, []}
 use lib.Dec.{eqb, ltb, leb}
 use lib.ListN.{length, getD, replicate}
 use borrow.Author.Tests.{eq-eqb, ne-eqb, lt-ltb, le-ltb, ltb-true}
 use Rattle.rules.specs.Bytes.{word, some-below}
-use Rattle.rules.specs.Tables.{Bodies, functionCount, due, dueIn, unknownAt, differs, endBefore, crossed, badCode, badFunctions, functionAt, owns, labelAt, badLabel}
+use Rattle.rules.specs.Tables.{Bodies, bodies, functionCount, due, dueIn, unknownAt, differs, endBefore, crossed, badCode, badFunctions, functionAt, owns, labelAt, badLabel, badLabels}
 use Rattle.soundness.specs.Readable.{ends-rise, fills, starts-after}
+use Rattle.format.specs.Layout.{Fits}
 use Rattle.format.proofs.Tests.{and-left, and-right, or-left, or-right, either}
-use Rattle.format.proofs.Gathered.{some-hit, some-longer}
-use Rattle.reader.specs.Cut.{Blank, Cut, Fails, Walked, StartsExactly}
+use Rattle.format.proofs.Gathered.{some-hit, some-longer, some-same}
+use Rattle.format.proofs.Editions.{end-same}
+use Rattle.reader.specs.Cut.{Blank, Cut, Fails, Walked, Filled, StartsExactly}
 use Rattle.reader.proofs.Starts.{start-tells}
 
 -- ---- the start
@@ -45,12 +47,43 @@ pub end-next : (B : Bodies) (i end len : ℕ) → end ≡ endBefore B i → len 
 unfolding endBefore
 end-next B i end len e l = rw add-one (cc)
 
+-- ---- bodies that follow one another; no structure is looked at
+
+module _ (fs code : List ℕ) (n : ℕ) where
+  same-end : (d e : ℕ) (ys zs : List ℕ) (i : ℕ) → endBefore (bodies d fs ys code n) i ≡ endBefore (bodies e fs zs code n) i
+  same-end d e ys zs i = end-same fs code n d ys i ∙ sym (end-same fs code n e zs i)
+
+  pub filled-of : (e : ℕ) (zs : List ℕ) → Fits fs code n → badFunctions (bodies e fs zs code n) ≡ false → Filled fs code n
+  filled-of e zs fits good =
+      record {
+        fits = fits;
+        in-order = λ i h. starts-after (bodies e fs zs code n) good i h ∙ same-end e 3 zs [] i;
+        fills = same-end 3 e [] zs (functionCount fs) ∙ fills (bodies e fs zs code n) good;
+      }
+
+  module _ (e : ℕ) (zs : List ℕ) where
+    pub same-code : badCode (bodies e fs zs code n) ≡ badCode (bodies e fs [] code n)
+    unfolding badCode crossed
+    same-code =
+        ap (λ (b : Bool). some-below (length code) (unknownAt e code) || b)
+        (some-same (crossed (bodies e fs zs code n)) (crossed (bodies e fs [] code n)) (λ i. ap (λ (p : ℕ). differs (due e code p) 0) (same-end e e zs [] i)) (suc (functionCount fs)))
+
+    pub same-labels : (ls : List ℕ) → badLabels (bodies e fs zs code n) ls ≡ badLabels (bodies e fs [] code n) ls
+    unfolding badLabels badLabel
+    same-labels ls = refl
+
 -- ---- a body that fails
 
-module _ (B : Bodies) (good : badFunctions B ≡ false) where
+module _ (ed : ℕ) (fs code : List ℕ) (n : ℕ) (full : Filled fs code n) where
+  abbrev B : Bodies
+  B = bodies ed fs [] code n
+
+  filling : endBefore B (functionCount fs) ≡ length code
+  filling = same-end fs code n ed 3 [] [] (functionCount fs) ∙ full .fills
+
   -- a body ends in the code
   pub end-inside : (i : ℕ) → i ≤ functionCount (B .functions) → endBefore B i ≤ length (B .code)
-  end-inside i l = let m = ends-rise B i (functionCount (B .functions)) l in let f = fills B good in omega arith
+  end-inside i l = let m = ends-rise B i (functionCount (B .functions)) l in let f = filling in omega arith
 
   -- the body before function i fails
   pub bad-body : (i : ℕ) → i ≤ functionCount (B .functions) → Fails (B .edition) (B .code) (endBefore B i) → true ≡ badCode B
@@ -72,30 +105,30 @@ module _ (B : Bodies) (good : badFunctions B ≡ false) where
   crossed-more i t h cut = rw add-one (simp (h, not-crossed i t cut))
 
   pub at-end : (i : ℕ) (t : List ℕ) → i ≡ functionCount (B .functions) → Cut (B .edition) (B .code) (endBefore B i) t → Cut (B .edition) (B .code) (length (B .code)) t
-  at-end i t e cut = subst (λ (p : ℕ). Cut (B .edition) (B .code) p t) (ap (endBefore B) e ∙ fills B good) cut
+  at-end i t e cut = subst (λ (p : ℕ). Cut (B .edition) (B .code) p t) (ap (endBefore B) e ∙ filling) cut
 
   pub good-bodies : (i : ℕ) (t : List ℕ) → i ≡ functionCount (B .functions) → Cut (B .edition) (B .code) (endBefore B i) t → some-below (i + 1) (crossed B) ≡ false → false ≡ badCode B
   unfolding badCode
   good-bodies i t e cut h =
-      let a : endBefore B i ≡ length (B .code) = ap (endBefore B) e ∙ fills B good in
+      let a : endBefore B i ≡ length (B .code) = ap (endBefore B) e ∙ filling in
       let k : some-below (length (B .code)) (unknownAt (B .edition) (B .code)) ≡ false = rw a at (cut .known) in
       let j : some-below (suc (functionCount (B .functions))) (crossed B) ≡ false = rw (add-one, e) at h in
       simp (k, j)
 
   -- ---- an owned place lies in the code
 
-  pub owned-inside : (o p : ℕ) → B .entry ≤ length (B .code) → owns (B .functions) (B .entry) o p ≡ true → p < length (B .code)
+  pub owned-inside : (o p : ℕ) → owns (B .functions) (B .entry) o p ≡ true → p < length (B .code)
   unfolding owns endBefore
-  owned-inside o p l h =
-      let n : ℕ = functionCount (B .functions) in
+  owned-inside o p h =
+      let count : ℕ = functionCount (B .functions) in
       let start : ℕ = word 4 (B .functions) (functionAt o) in
       let len : ℕ = word 4 (B .functions) (functionAt o + 4) in
-      either (eqb o 0xffffffff && ltb p (B .entry)) (ltb o n && leb start p && ltb p (start + len)) h (p < length (B .code))
-      (λ e. let a : p < B .entry = ltb-true _ _ (and-right (eqb o 0xffffffff) (ltb p (B .entry)) e) in omega arith)
+      either (eqb o 0xffffffff && ltb p (B .entry)) (ltb o count && leb start p && ltb p (start + len)) h (p < length (B .code))
+      (λ e. let a : p < B .entry = ltb-true _ _ (and-right (eqb o 0xffffffff) (ltb p (B .entry)) e) in omega (arith, full .fits .entry-inside))
       (λ f.
-      let a : p < start + len = ltb-true _ _ (and-right (ltb o n && leb start p) (ltb p (start + len)) f) in
-      let b : o < n = ltb-true _ _ (and-left (ltb o n) (leb start p) (and-left (ltb o n && leb start p) (ltb p (start + len)) f)) in
-      let d = starts-after B good o b in
+      let a : p < start + len = ltb-true _ _ (and-right (ltb o count && leb start p) (ltb p (start + len)) f) in
+      let b : o < count = ltb-true _ _ (and-left (ltb o count) (leb start p) (and-left (ltb o count && leb start p) (ltb p (start + len)) f)) in
+      let d = full .in-order o b ∙ same-end fs code n 3 ed [] [] o in
       let g = end-inside (suc o) (omega arith) in
       omega arith)
 

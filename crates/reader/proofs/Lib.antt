@@ -1,5 +1,6 @@
 -- Laws that the proofs share.
 pub mod Records
+pub mod Pool
 pub mod Table
 pub mod Cuts
 pub mod Starts

@@ -3,21 +3,21 @@ use Prim.Native.Nat.{ℕ, zero, suc, _+_, _-_, _*_, _<_, _≤_}
 use native.Mathlib.Nat.{eq-or-lt-of-le, le-of-suc-le-suc}
 use native.Mathlib.Omega.{arith}
 use mathlib.Core.Path.{_≡_, refl, sym, ap, _∙_}
-use mathlib.Core.Bool.{true, false}
+use mathlib.Core.Bool.{Bool, true, false, cond}
 use mathlib.Core.List.{List, [], _∷_}
 use mathlib.Core.Logic.{⊎-elim}
 use mathlib.Core.Option.{some}
 use lib.Dec.{eqb}
-use lib.ListN.{length, take, drop, length-drop}
-use lib.Seq.{take-take, take-all, drop-drop, getD-take, getD-drop}
-use borrow.Author.Tests.{eq-eqb, ne-eqb}
+use lib.ListN.{length, take, drop}
+use lib.Seq.{take-take, drop-drop, getD-take, getD-drop}
+use borrow.Author.Tests.{eq-eqb, ne-eqb, eqb-false}
 use Rattle.rules.specs.Bytes.{byte, number, word, cut}
-use Rattle.rules.specs.Instructions.{numOf, tyOf}
+use Rattle.rules.specs.Instructions.{tyOf}
 use Rattle.rules.specs.Stack.{at}
-use Rattle.rules.specs.Tables.{tables, bodyOf, functionAt, paramsFrom, functionOf, labelOf}
-use Rattle.rules.specs.ModuleFile.{edition, constants, functions, labels, codeLength, entryLength, tablesIn, functionsAt, labelsAt, codeAt, constantsIn, functionsIn, labelsIn, codeIn}
+use Rattle.rules.specs.Tables.{tables, structureCount, structureLimit, bodyOf, functionAt, paramsFrom, resultOf, functionOf, labelOf}
+use Rattle.rules.specs.ModuleFile.{edition, constants, functions, labels, codeLength, entryLength, structures, tablesIn, constantsAt, functionsAt, labelsAt, codeAt, structuresAt, constantsIn, functionsIn, labelsIn, codeIn, structuresIn}
 use Rattle.format.specs.declared.Sections.{Sections}
-use Rattle.format.specs.Layout.{Packed}
+use Rattle.format.specs.Layout.{Packed, Fits}
 use Rattle.soundness.specs.Readable.{params-length}
 use Rattle.soundness.specs.Cutting.{length-cut}
 
@@ -39,7 +39,7 @@ byte-cut s a m j h = getD-take m (drop a s) j 0 h ∙ getD-drop a s j 0
 -- the sections of an opened file
 module _ (s : List ℕ) (c : Sections) (k : Packed s c) where
   pub constants-length : length (constantsIn s) ≡ 12 * c .constants
-  constants-length = length-cut s 48 (12 * constants s) (omega arith) ∙ omega arith
+  constants-length = length-cut s (constantsAt s) (12 * constants s) (omega arith) ∙ omega arith
 
   pub functions-length : length (functionsIn s) ≡ 20 * c .functions
   functions-length = length-cut s (functionsAt s) (20 * functions s) (omega arith) ∙ omega arith
@@ -50,16 +50,42 @@ module _ (s : List ℕ) (c : Sections) (k : Packed s c) where
   pub code-length : length (codeIn s) ≡ c .extent
   code-length = length-cut s (codeAt s) (codeLength s) (omega arith) ∙ omega arith
 
-  -- the file ends with the code, so bytes past it are past both
-  pub code-rest : codeIn s ≡ drop (c .code) s
-  code-rest = ap (λ (a : ℕ). take (codeLength s) (drop a s)) (sym (k .code-is)) ∙ take-all (codeLength s) (drop (c .code) s) (simp length-drop (omega arith))
+  pub structures-length : length (structuresIn s) ≡ 12 * c .structures
+  structures-length = length-cut s (structuresAt s) (12 * structures s) (omega arith) ∙ omega arith
 
-  pub constant-word : (n i j : ℕ) → i < c .constants → j + n ≤ 12 → word n (constantsIn s) (12 * i + j) ≡ word n s (48 + 12 * i + j)
-  constant-word n i j h l = let q : 48 + (12 * i + j) ≡ 48 + 12 * i + j = omega arith in
-      word-cut n s 48 (12 * constants s) (12 * i + j) (omega arith) ∙ ap (word n s) q
+  -- only edition 4 has structures
+  pub none-declared : (edition s ≡ 4 → ⊥) → structureCount (structuresIn s) ≡ 0
+  none-declared other =
+      let q : structures s ≡ 0 = simp (ne-eqb (edition s) 4 other) in
+      let l = structures-length in omega arith
 
-  pub constant-byte : (i : ℕ) → i < c .constants → byte (constantsIn s) (12 * i) ≡ byte s (48 + 12 * i)
-  constant-byte i h = byte-cut s 48 (12 * constants s) (12 * i) (omega arith)
+  few-declared : structureCount (structuresIn s) ≤ structureLimit (edition s)
+  few-declared = go (eqb (edition s) 4) refl
+    where
+      go : (b : Bool) → eqb (edition s) 4 ≡ b → structureCount (structuresIn s) ≤ cond b 16 0
+      go true y = let l = structures-length in omega arith
+      go false y = let none = none-declared (eqb-false (edition s) 4 y) in omega arith
+
+  pub old-pool : (edition s ≡ 4 → ⊥) → 48 ≡ c .pool
+  old-pool other = sym (k .pool-is ∙ simp (ne-eqb (edition s) 4 other))
+
+  -- the file ends with the structures
+  pub structures-rest : take (length s - (c .code + c .extent)) (drop (c .code + c .extent) s) ≡ structuresIn s
+  structures-rest =
+      let n : length s - (c .code + c .extent) ≡ 12 * structures s = omega arith in
+      let q : c .code + c .extent ≡ structuresAt s = omega arith in
+      ap (λ (m : ℕ). take m (drop (c .code + c .extent) s)) n ∙ ap (λ (a : ℕ). take (12 * structures s) (drop a s)) q
+
+  pub few-rest : (e : ℕ) → e ≡ edition s → structureCount (take (length s - (c .code + c .extent)) (drop (c .code + c .extent) s)) ≤ structureLimit e
+  few-rest e q = rw (structures-rest, q) few-declared
+
+  pub constant-word : (n i j : ℕ) → i < c .constants → j + n ≤ 12 → word n (constantsIn s) (12 * i + j) ≡ word n s (c .pool + 12 * i + j)
+  constant-word n i j h l = let q : constantsAt s + (12 * i + j) ≡ c .pool + 12 * i + j = omega arith in
+      word-cut n s (constantsAt s) (12 * constants s) (12 * i + j) (omega arith) ∙ ap (word n s) q
+
+  pub constant-byte : (i : ℕ) → i < c .constants → byte (constantsIn s) (12 * i) ≡ byte s (c .pool + 12 * i)
+  constant-byte i h = let q : constantsAt s + 12 * i ≡ c .pool + 12 * i = omega arith in
+      byte-cut s (constantsAt s) (12 * constants s) (12 * i) (omega arith) ∙ ap (byte s) q
 
   pub function-first : (i : ℕ) → i < c .functions → word 4 (functionsIn s) (20 * i) ≡ word 4 s (c .records + 20 * i)
   function-first i h = let q : functionsAt s + 20 * i ≡ c .records + 20 * i = omega arith in
@@ -77,21 +103,30 @@ module _ (s : List ℕ) (c : Sections) (k : Packed s c) where
   label-word i j h l = let q : labelsAt s + (8 * i + j) ≡ c .targets + 8 * i + j = omega arith in
       word-cut 4 s (labelsAt s) (8 * labels s) (8 * i + j) (omega arith) ∙ ap (word 4 s) q
 
-  -- the parts of the file that are lent are its tables
-  pub lent-tables : (e : ℕ) → e ≡ edition s → tables e (take (c .records - 48) (drop 48 s)) (take (c .targets - c .records) (drop (c .records) s)) (take (c .code - c .targets) (drop (c .targets) s))
+  -- the parts of the file that are lent are its tables, with the constants from byte p on
+  pub lent-tables : (e p : ℕ) (zs : List ℕ) → e ≡ edition s → p ≡ c .pool → zs ≡ structuresIn s
+      → tables e (take (c .records - p) (drop p s)) (take (c .targets - c .records) (drop (c .records) s)) (take (c .code - c .targets) (drop (c .targets) s)) zs
       (take (c .code + c .extent - c .code) (drop (c .code) s)) (c .entry) ≡ tablesIn s
-  lent-tables e q =
-      let a : c .records - 48 ≡ 12 * constants s = omega arith in
+  lent-tables e p zs q at tail =
+      let i : p ≡ constantsAt s = at ∙ k .pool-is in
+      let a : c .records - p ≡ 12 * constants s = omega arith in
       let b : c .targets - c .records ≡ 20 * functions s = omega arith in
       let d : c .code - c .targets ≡ 8 * labels s = omega arith in
       let f : c .code + c .extent - c .code ≡ codeLength s = omega arith in
-      rw (a, b, d, f, k .records-is, k .targets-is, k .code-is, k .entry-is) (ap (λ (n : ℕ). tables n (constantsIn s) (functionsIn s) (labelsIn s) (codeIn s) (entryLength s)) q)
+      rw (a, b, d, f, i, tail, k .records-is, k .targets-is, k .code-is, k .entry-is) (ap (λ (n : ℕ). tables n (constantsIn s) (functionsIn s) (labelsIn s) (structuresIn s) (codeIn s) (entryLength s)) q)
+
+  pub lent-fits : Fits (take (c .targets - c .records) (drop (c .records) s)) (take (c .code + c .extent - c .code) (drop (c .code) s)) (c .entry)
+  lent-fits =
+      let b : c .targets - c .records ≡ 20 * functions s = omega arith in
+      let f : c .code + c .extent - c .code ≡ codeLength s = omega arith in
+      let m = functions-length in let n = code-length in
+      rw (b, f, k .records-is, k .code-is) (record { few-functions = omega arith; little-code = omega arith; entry-inside = omega arith })
 
   -- ---- the records by number
 
   pub function-found : (i start len n r : ℕ) → i < c .functions → start ≡ word 4 s (c .records + 20 * i) → len ≡ word 4 s (c .records + 20 * i + 4)
       → n ≡ byte s (c .records + 20 * i + 8) → r ≡ byte s (c .records + 20 * i + 9)
-      → some (record { start = start; end = start + len; params = paramsFrom (functionsIn s) (functionAt i + 10) n; result = numOf r }) ≡ some (functionOf (functionsIn s) (functionAt i))
+      → some (record { start = start; end = start + len; params = paramsFrom (functionsIn s) (functionAt i + 10) n; result = resultOf r }) ≡ some (functionOf (functionsIn s) (functionAt i))
   unfolding functionOf
   function-found i start len n r h ws wl bn br =
       let a : start ≡ word 4 (functionsIn s) (20 * i) = ws ∙ sym (function-first i h) in

@@ -6,8 +6,8 @@ use mathlib.Core.List.{List, [], _∷_}
 use mathlib.Core.Option.{Option, none, some}
 use Rattle.rules.specs.Bytes.{byte}
 use Rattle.rules.specs.declared.Slot.{Slot}
-use Rattle.rules.specs.Instructions.{numOf, tyOf}
-use Rattle.rules.specs.Tables.{Bodies, badFunctions, badCode, badLabels, Function, Body, bodyOf, paramsFrom, functionAt, functionOf}
+use Rattle.rules.specs.Instructions.{tyOf}
+use Rattle.rules.specs.Tables.{Bodies, badStructures, badFunctions, badCode, badLabels, Function, Body, bodyOf, paramsFrom, resultOf, functionAt, functionOf}
 use Rattle.rules.specs.ModuleFile.{refusal}
 use Rattle.rules.specs.Stack.{at}
 use Rattle.format.specs.declared.Sections.{Sections}
@@ -26,8 +26,12 @@ abbrev pub codeTests : Bodies → List ℕ → List Bool
 codeTests b ls = badCode b ∷ badLabels b ls ∷ []
 
 -- rows 7 to 9
+abbrev pub functionsTests : Bodies → List ℕ → List Bool
+functionsTests b ls = badFunctions b ∷ codeTests b ls
+
+-- row 6 of structures, and rows 7 to 9
 abbrev pub bodiesTests : Bodies → List ℕ → List Bool
-bodiesTests b ls = badFunctions b ∷ codeTests b ls
+bodiesTests b ls = badStructures (b .structures) ∷ functionsTests b ls
 
 -- a refusal by its number; the sections where there is none
 abbrev pub answer : ℕ → Sections → Opened
@@ -46,7 +50,7 @@ slotIn FoundConstant.Nothing = none
 -- a function record of the table s, at byte a
 abbrev pub functionIn : List ℕ → ℕ → FoundFunction → Option Function
 functionIn s a (FoundFunction.Record f) =
-    some (record { start = f .start; end = f .end; params = paramsFrom s (a + 10) (f .params); result = numOf (f .result) })
+    some (record { start = f .start; end = f .end; params = paramsFrom s (a + 10) (f .params); result = resultOf (f .result) })
 functionIn s a FoundFunction.Nothing = none
 
 -- r is the type byte of parameter j of function k, of the table s

@@ -6,10 +6,11 @@ use mathlib.Core.List.{List, [], _∷_}
 use mathlib.Core.Option.{some}
 use lib.ListN.{length, getD, set}
 use lib.Dec.{eqb}
-use Rattle.rules.specs.Bytes.{some-below}
+use Rattle.rules.specs.Bytes.{word, some-below}
 use Rattle.rules.specs.declared.Instruction.{Instruction}
-use Rattle.rules.specs.Instructions.{Opcode, absent, bare, wide}
-use Rattle.rules.specs.Tables.{opcodeAt, due, unknownAt, differs, codeOf}
+use Rattle.rules.specs.Instructions.{Opcode, absent, bare, wide, edition1, edition3}
+use Rattle.rules.specs.Tables.{functionCount, functionAt, bodies, endBefore, opcodeAt, due, unknownAt, differs, codeOf}
+use Rattle.format.specs.Layout.{Fits}
 
 -- the bytes of an opcode's instruction; 0 for none
 abbrev pub sizeIn : Opcode → ℕ
@@ -32,6 +33,10 @@ isWide (wide i) = true
 abbrev pub bitsOf : (Opcode → Bool) → List Opcode → ℕ
 bitsOf test [] = 0
 bitsOf test (o ∷ os) = cond (test o) 1 0 + 2 * bitsOf test os
+
+-- the table of edition 1 or 3; of edition 4 what it has from edition 3
+abbrev pub earlier : ℕ → List Opcode
+earlier e = cond (eqb e 1) edition1 edition3
 
 -- whether the n bytes from `at` on are opcodes of edition e that stand alone
 unfoldable pub allBare : ℕ → List ℕ → ℕ → ℕ → Bool
@@ -66,6 +71,12 @@ Fails e s p = (some-below p (unknownAt e s) || differs (due e s p) 0) ≡ true
 abbrev pub Walked : Bool → ℕ → List ℕ → ℕ → List ℕ → Type 0
 Walked true e s p t = Cut e s p t
 Walked false e s p t = Fails e s p
+
+-- what rows 4, 5 and 7 leave of function records and code: the bodies follow one another and fill the code
+pub record Filled (fs code : List ℕ) (entry : ℕ) : Type 0 where
+  pub fits : Fits fs code entry
+  pub in-order : (i : ℕ) → i < functionCount fs → word 4 fs (functionAt i) ≡ endBefore (bodies 3 fs [] code entry) i
+  pub fills : endBefore (bodies 3 fs [] code entry) (functionCount fs) ≡ length code
 
 -- ---- the table of starts
 

@@ -1,12 +1,12 @@
 // Row 8: one pass over the code, by instruction and body by body.
 ghost use mathlib.Core.Path.{_≡_};
 ghost use mathlib.Core.Bool.{false};
+ghost use mathlib.Core.List.{[]};
 ghost use Prim.Native.Nat.{_≤_};
 ghost use lib.ListN.{length, set};
 ghost use Rattle.rules.specs.Instructions.{opcodes, opcodeOf};
-ghost use Rattle.rules.specs.Tables.{bodies, unknownEdition, badFunctions, badCode};
-ghost use Rattle.format.specs.Layout.{Fits};
-ghost use Rattle.reader.specs.Cut.{sizeIn, isBare, isWide, bitsOf, Blank, Cut, Walked, StartsExactly};
+ghost use Rattle.rules.specs.Tables.{bodies, unknownEdition, badCode};
+ghost use Rattle.reader.specs.Cut.{sizeIn, isBare, isWide, bitsOf, earlier, Filled, Blank, Cut, Walked, StartsExactly};
 use crate::blocks;
 
 // A bit for each opcode of edition 3 that a word follows: 01, 03 to 05, 20 to 27 hex.
@@ -22,8 +22,7 @@ const OLD_WIDE: u64 = 0x0003_fc00_001a;
 const OLD_BARE: u64 = 0x003c_03ff_ffe4;
 
 fn wide_opcodes(edition: usize) -> u64
-    requires { ⌜ unknownEdition edition ≡ false ⌝ }
-    ensures { λ r. ⌜ r ≡ bitsOf isWide (opcodes edition) ⌝ }
+    ensures { λ r. ⌜ r ≡ bitsOf isWide (earlier edition) ⌝ }
 {
     if edition == 1 {
         return OLD_WIDE;
@@ -32,8 +31,7 @@ fn wide_opcodes(edition: usize) -> u64
 }
 
 fn bare_opcodes(edition: usize) -> u64
-    requires { ⌜ unknownEdition edition ≡ false ⌝ }
-    ensures { λ r. ⌜ r ≡ bitsOf isBare (opcodes edition) ⌝ }
+    ensures { λ r. ⌜ r ≡ bitsOf isBare (earlier edition) ⌝ }
 {
     if edition == 1 {
         return OLD_BARE;
@@ -41,14 +39,15 @@ fn bare_opcodes(edition: usize) -> u64
     BARE
 }
 
-// The bytes of an opcode's instruction; 0 for no opcode.
+// The bytes of an opcode's instruction; 0 for no opcode. What edition 4 adds to edition 3, 06 and 31, 30 and 32 hex, is looked
+// for last: edition 3 pays no test for it.
 fn opcode_size(edition: usize, b: u8) -> usize
     requires { ⌜ unknownEdition edition ≡ false ⌝ }
     ensures { λ r. ⌜ (r ≡ sizeIn (opcodeOf (opcodes edition) b)) × (r ≤ 5) ⌝ }
 {
     let wide = wide_opcodes(edition);
     let bare = bare_opcodes(edition);
-    if 46 < b {
+    if 63 < b {
         return 0;
     }
     let k = b as u64;
@@ -56,6 +55,12 @@ fn opcode_size(edition: usize, b: u8) -> usize
         return 5;
     }
     if (bare >> k) % 2 == 1 {
+        return 1;
+    }
+    if (edition == 4) & ((b == 6) | (b == 49)) {
+        return 5;
+    }
+    if (edition == 4) & ((b == 48) | (b == 50)) {
         return 1;
     }
     0
@@ -109,10 +114,10 @@ pub(crate) fn bad_code(
     entry: usize,
     starts: &mut [u8],
 ) -> bool
-    requires { ⌜ Fits (now functions) (now code) entry × (badFunctions (bodies edition (now functions) (now code) entry) ≡ false) × (unknownEdition edition ≡ false) ⌝ }
+    requires { ⌜ Filled (now functions) (now code) entry × (unknownEdition edition ≡ false) ⌝ }
     requires { ⌜ Blank (now starts) ⌝ }
     ensures { λ r. ⌜ length (now (starts .exit)) ≡ length (now (starts .entry)) ⌝ }
-    ensures { λ r. ⌜ r ≡ badCode (bodies edition (now (functions .entry)) (now (code .entry)) entry) ⌝ }
+    ensures { λ r. ⌜ r ≡ badCode (bodies edition (now (functions .entry)) [] (now (code .entry)) entry) ⌝ }
     ensures { λ r. ⌜ (r ≡ false → StartsExactly edition (now (code .entry)) (now (starts .exit))) ⌝ }
 {
     let n = functions.len() / 20;

@@ -23,7 +23,7 @@ returns c = let at-bad-code = c .before .before .before .bad-code in (
 bad-labels-requires : tie.Need-bad-labels-requires
 bad-labels-requires c κs = let at-start = c .before .before .before .before .before .before .before .before .before .before in
     let at-bad-code = c .before .before .before .before .bad-code in
-    ((at-start .pre .0 .0, at-start .pre .0 .1), ((λ h. let l = at-start .pre .1 .0 h in omega (arith, at-bad-code .ensures .0)), at-bad-code .ensures .1 .1 (c .before .if1 .left)))
+    (at-start .pre .0 .0, ((λ h. let l = at-start .pre .1 .0 h in omega (arith, at-bad-code .ensures .0)), at-bad-code .ensures .1 .1 (c .before .if1 .left)))
 
 same-length-2 : tie.Need-same-length-2
 same-length-2 c = search needs

@@ -4,13 +4,13 @@ use Rattle.reader.proofs.sized_refusal.Statement.{statement}
 use Rattle.reader.proofs.sized_refusal.Tie as tie
 
 with-small-table-requires : tie.Need-with-small-table-requires
-with-small-table-requires c κs = (c .before .before .before .before .pre .0, c .before .before .before .before .pre .1, c .before .before .before .before .pre .2, c .if1 .taken)
+with-small-table-requires c κs = (c .before .before .before .before .pre .0, c .before .before .before .before .pre .1, c .if1 .taken)
 
 returns : tie.Need-returns
 returns c = search needs
 
 with-middle-table-requires : tie.Need-with-middle-table-requires
-with-middle-table-requires c κs = (c .before .before .before .before .before .pre .0, c .before .before .before .before .before .pre .1, c .before .before .before .before .before .pre .2, c .if2 .taken)
+with-middle-table-requires c κs = (c .before .before .before .before .before .pre .0, c .before .before .before .before .before .pre .1, c .if2 .taken)
 
 returns-2 : tie.Need-returns-2
 returns-2 c = search needs

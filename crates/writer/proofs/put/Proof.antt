@@ -1,13 +1,18 @@
 -- The proof of `writer::put`.
+use Prim.Native.Nat.{ℕ, _+_}
 use native.Mathlib.Omega.{arith}
-use mathlib.Core.Path.{refl}
-use lib.ListN.{length}
+use mathlib.Core.List.{_++_}
+use mathlib.Core.Path.{_≡_, sym, _∙_, ap}
+use lib.ListN.{length, drop}
 use borrow.Author.Needs.{needs}
-use Rattle.rules.specs.Bytes.{words}
-use Rattle.rules.specs.Writing.{headerWords, fileOf}
-use Rattle.writer.proofs.Laws.{sections}
+use Rattle.rules.specs.Writing.{headerOf, fileOf}
+use Rattle.rules.specs.Tables.{tables, headerSize}
+use Rattle.writer.proofs.Laws.{sections, header-length}
 use Rattle.writer.proofs.put.Statement.{statement}
 use Rattle.writer.proofs.put.Tie as tie
+
+header-size-requires : tie.Need-header-size-requires
+header-size-requires c κs = search needs
 
 add-functions-at : tie.Need-add-functions-at
 add-functions-at c = search needs
@@ -17,6 +22,9 @@ add-labels-at c = search needs
 
 add-code-at : tie.Need-add-code-at
 add-code-at c = search needs
+
+add-structures-at : tie.Need-add-structures-at
+add-structures-at c = search needs
 
 add-end : tie.Need-add-end
 add-end c = search needs
@@ -76,27 +84,46 @@ part-put-section-start-4 : tie.Need-part-put-section-start-4
 part-put-section-start-4 c = search needs
 
 part-put-section-end-4 : tie.Need-part-put-section-end-4
-part-put-section-end-4 c = omega (arith, c .before .before .before .before .before .before .before .before .before .before .before .before .before .out .given .1, c .before .before .before .before .before .before .before .before .before .out2 .given .1, c .before .before .before .before .before .out3 .given .1, c .before .out4 .given .1)
+part-put-section-end-4 c = omega (arith, c .before .before .before .before .before .before .before .before .before .before .before .before .before .before .before .before .header-size .ensures .0, c .before .before .before .before .before .before .before .before .before .before .before .before .before .out .given .1, c .before .before .before .before .before .before .before .before .before .out2 .given .1, c .before .before .before .before .before .out3 .given .1, c .before .out4 .given .1)
 
 put-section-requires-4 : tie.Need-put-section-requires-4
 put-section-requires-4 c κs = omega arith
 
+sub-put-section-5 : tie.Need-sub-put-section-5
+sub-put-section-5 c = search needs
+
+part-put-section-start-5 : tie.Need-part-put-section-start-5
+part-put-section-start-5 c = search needs
+
+part-put-section-end-5 : tie.Need-part-put-section-end-5
+part-put-section-end-5 c = omega (arith, c .before .before .before .before .before .before .before .before .before .before .before .before .before .before .before .before .before .before .before .before .header-size .ensures .0, c .before .before .before .before .before .before .before .before .before .before .before .before .before .before .before .before .before .out .given .1, c .before .before .before .before .before .before .before .before .before .before .before .before .before .out2 .given .1, c .before .before .before .before .before .before .before .before .before .out3 .given .1, c .before .before .before .before .before .out4 .given .1, c .before .out5 .given .1)
+
+put-section-requires-5 : tie.Need-put-section-requires-5
+put-section-requires-5 c κs = omega arith
+
 same-length : tie.Need-same-length
-same-length c = omega (arith, c .before .before .before .before .before .before .before .before .before .before .before .before .before .before .before .before .before .out .given .1, c .before .before .before .before .before .before .before .before .before .before .before .before .before .out2 .given .1, c .before .before .before .before .before .before .before .before .before .out3 .given .1, c .before .before .before .before .before .out4 .given .1, c .before .out5 .given .1)
+same-length c = omega (arith, c .before .before .before .before .before .before .before .before .before .before .before .before .before .before .before .before .before .before .before .before .before .out .given .1, c .before .before .before .before .before .before .before .before .before .before .before .before .before .before .before .before .before .out2 .given .1, c .before .before .before .before .before .before .before .before .before .before .before .before .before .out3 .given .1, c .before .before .before .before .before .before .before .before .before .out4 .given .1, c .before .before .before .before .before .out5 .given .1, c .before .out6 .given .1)
 
 returns : tie.Need-returns
 unfolding fileOf
-returns c = let at-start = c .before .before .before .before .before .before .before .before .before .before .before .before .before .before .before .before .before .before .before .before .before .before .before .before .before in
-    sections (at-start .args .out .now) (words (headerWords (at-start .args .edition) (length (at-start .args .constants .now)) (length (at-start .args .functions .now)) (length (at-start .args .labels .now)) (length (at-start .args .code .now)) (at-start .args .entry))) (at-start .args .constants .now) (at-start .args .functions .now) (at-start .args .labels .now) (at-start .args .code .now)
-    _ _ _ _ _ refl (c .before .before .before .before .before .before .before .before .before .before .before .before .before .before .before .before .before .before .put-header .ensures) (c .before .before .before .before .before .before .before .before .before .before .before .before .before .before .put-section .ensures) (c .before .before .before .before .before .before .before .before .before .before .put-section2 .ensures) (c .before .before .before .before .before .before .put-section3 .ensures) (c .before .before .put-section4 .ensures)
+returns c = let a = c .before .before .before .before .before .before .before .before .before .before .before .before .before .before .before .before .before .before .before .before .before .before .before .before .before .before .before .before .before .before .before .args in
+    let at-header-size = c .before .before .before .before .before .before .before .before .before .before .before .before .before .before .before .before .before .before .before .before .before .before .before .before .header-size in
+    let cs = a .constants .now in let fs = a .functions .now in let ls = a .labels .now in let zs = a .structures .now in let code = a .code .now in
+    let h = headerOf (tables (a .edition) cs fs ls zs code (a .entry)) in
+    let size : at-header-size .result ≡ headerSize (a .edition) = at-header-size .ensures .0 in
+    let l = header-length (a .edition) (length cs) (length fs) (length ls) (length code) (length zs) (a .entry) in
+    sections (a .out .now) h cs fs ls code zs _ _ _ _ _ _ (at-header-size .result) (l ∙ sym size) (c .before .before .before .before .before .before .before .before .before .before .before .before .before .before .before .before .before .before .before .before .before .before .put-header .ensures) (c .before .before .before .before .before .before .before .before .before .before .before .before .before .before .before .before .before .before .put-section .ensures) (c .before .before .before .before .before .before .before .before .before .before .before .before .before .before .put-section2 .ensures) (c .before .before .before .before .before .before .before .before .before .before .put-section3 .ensures) (c .before .before .before .before .before .before .put-section4 .ensures) (c .before .before .put-section5 .ensures)
+    ∙ ap (λ (x : ℕ). (h ++ (cs ++ (fs ++ (ls ++ (code ++ zs))))) ++ drop (x + length cs + length fs + length ls + length code + length zs) (a .out .now)) size
 
 pub put-spec : {M : Type 1} → statement M
 put-spec =
     tie.close
     (tie.spec
+    header-size-requires
     add-functions-at
     add-labels-at
     add-code-at
+    add-structures-at
     add-end
     sub-put-header
     part-put-header-start
@@ -118,5 +145,9 @@ put-spec =
     part-put-section-start-4
     part-put-section-end-4
     put-section-requires-4
+    sub-put-section-5
+    part-put-section-start-5
+    part-put-section-end-5
+    put-section-requires-5
     same-length
     returns)

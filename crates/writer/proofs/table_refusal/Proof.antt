@@ -1,8 +1,7 @@
 -- The proof of `writer::table_refusal`.
-use mathlib.Core.Path.{sym, _∙_}
 use borrow.Author.Needs.{needs}
-use Rattle.rules.specs.Tables.{firstOf}
 use Rattle.rules.specs.Writing.{tableRefusal, tooMany, broken}
+use Rattle.rules.specs.Tables.{firstOf}
 use Rattle.writer.proofs.Laws.{fits-of}
 use Rattle.writer.proofs.table_refusal.Statement.{statement}
 use Rattle.writer.proofs.table_refusal.Tie as tie
@@ -23,8 +22,9 @@ unfolding tableRefusal tooMany broken firstOf
 returns-3 c = simp (c .before .before .before .if1 .left, ← c .before .before .over-limits .ensures, c .before .if2 .left, c .if3 .taken)
 
 content-refusal-requires : tie.Need-content-refusal-requires
-content-refusal-requires c κs = let at-start = c .before .before .before .before .before .before .before .before in
-    (fits-of (at-start .args .constants .now) (at-start .args .functions .now) (at-start .args .labels .now) (at-start .args .code .now) (at-start .args .entry) (sym (c .before .before .over-limits .ensures) ∙ c .before .if2 .left) (c .if3 .left), c .before .before .before .if1 .left)
+content-refusal-requires c κs = let a = c .before .before .before .before .before .before .before .before .before .args in
+    let fit = fits-of (a .edition) (a .constants .now) (a .functions .now) (a .labels .now) (a .code .now) (a .structures .now) (a .entry) _ (c .before .before .over-limits .ensures) (c .before .if2 .left) (c .if3 .left) in
+    (fit .0, c .before .before .before .if1 .left, fit .1)
 
 returns-4 : tie.Need-returns-4
 unfolding tableRefusal tooMany broken firstOf
@@ -32,4 +32,5 @@ returns-4 c = simp (c .before .before .before .before .if1 .left, ← c .before 
 
 pub table-refusal-spec : {M : Type 1} → statement M
 table-refusal-spec =
-    tie.close (tie.spec returns over-limits-requires returns-2 returns-3 content-refusal-requires returns-4)
+    tie.close
+    (tie.spec returns over-limits-requires returns-2 returns-3 content-refusal-requires returns-4)

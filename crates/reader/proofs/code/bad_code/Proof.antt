@@ -2,6 +2,7 @@
 use Prim.Native.Nat.{_+_, _-_, _≤_}
 use native.Mathlib.Omega.{arith}
 use mathlib.Core.Bool.{true≢false, false}
+use mathlib.Core.List.{[]}
 use mathlib.Core.Path.{_≡_, refl, _∙_}
 use lib.ListN.{length}
 use borrow.Author.Tests.{not-true, not-false}
@@ -14,7 +15,7 @@ use Rattle.reader.proofs.code.bad_code.Statement.{statement}
 use Rattle.reader.proofs.code.bad_code.Tie as tie
 
 abbrev Inv-loop : tie.InvT-loop
-Inv-loop edition functions code entry starts₀ n from₀ end₀ i₀ starts from end i = (i ≤ n) × (end ≡ endBefore (bodies edition functions code entry) i) × (from ≤ end) × Cut edition code from starts × (length starts ≡ length starts₀) × (some-below i (crossed (bodies edition functions code entry)) ≡ false)
+Inv-loop edition functions code entry starts₀ n from₀ end₀ i₀ starts from end i = (i ≤ n) × (end ≡ endBefore (bodies edition functions [] code entry) i) × (from ≤ end) × Cut edition code from starts × (length starts ≡ length starts₀) × (some-below i (crossed (bodies edition functions [] code entry)) ≡ false)
 
 abbrev μ-loop : tie.MeasureT-loop
 μ-loop edition functions code entry starts₀ n from₀ end₀ i₀ starts from end i = n - i
@@ -22,14 +23,14 @@ abbrev μ-loop : tie.MeasureT-loop
 loop-holds : tie.Need-loop-holds Inv-loop μ-loop
 unfolding some-below
 loop-holds c = let at-start = c .before .before .before in
-    let B : Bodies = bodies (at-start .args .edition) (at-start .args .functions .now) (at-start .args .code .now) (at-start .args .entry) in
+    let B : Bodies = bodies (at-start .args .edition) (at-start .args .functions .now) [] (at-start .args .code .now) (at-start .args .entry) in
     (omega arith, end-first B, omega arith, cut-none _ _ _ (at-start .pre .1), refl, refl)
 
 walk-body-requires : tie.Need-walk-body-requires Inv-loop μ-loop
 walk-body-requires c κs = let at-start = c .before .before .before .before .before in
     let at-loop = c .before .loop in
-    let B : Bodies = bodies (at-start .args .edition) (at-start .args .functions .now) (at-start .args .code .now) (at-start .args .entry) in let l = end-inside B (at-start .pre .0 .1) (at-loop .i) (omega arith) in
-    ((at-loop .inv .2, omega arith, at-start .pre .0 .0 .little-code, at-start .pre .0 .2), at-loop .inv .3)
+    let l = end-inside (at-start .args .edition) _ _ _ (at-start .pre .0 .0) (at-loop .i) (omega arith) in
+    ((at-loop .inv .2, omega arith, at-start .pre .0 .0 .fits .little-code, at-start .pre .0 .1), at-loop .inv .3)
 
 same-length : tie.Need-same-length Inv-loop μ-loop
 same-length c = c .before .before .before .walk-body .ensures .0 ∙ c .before .before .before .before .before .loop .inv .4
@@ -37,11 +38,10 @@ same-length c = c .before .before .before .walk-body .ensures .0 ∙ c .before .
 returns : tie.Need-returns Inv-loop μ-loop
 returns c = let at-start = c .before .before .before .before .before .before .before .before .before in
     let at-walk-body = c .before .before .before .walk-body in
-    let at-loop = c .before .before .before .before .before .loop in
-    let B : Bodies = bodies (at-start .args .edition) (at-start .args .functions .now) (at-start .args .code .now) (at-start .args .entry) in (
+    let at-loop = c .before .before .before .before .before .loop in (
       at-walk-body .ensures .0 ∙ at-loop .inv .4,
       (
-        bad-body B (at-start .pre .0 .1) (at-loop .i) (omega arith) (failed _ _ _ _ _ _ (not-true (at-walk-body .result) (c .if1 .taken)) (at-loop .inv .1) (at-walk-body .ensures .1)),
+        bad-body (at-start .args .edition) _ _ _ (at-start .pre .0 .0) (at-loop .i) (omega arith) (failed _ _ _ _ _ _ (not-true (at-walk-body .result) (c .if1 .taken)) (at-loop .inv .1) (at-walk-body .ensures .1)),
         λ e. absurd (true≢false e),
       ),
     )
@@ -53,13 +53,13 @@ returns-2 : tie.Need-returns-2 Inv-loop μ-loop
 returns-2 c = let at-start = c .before .before .before .before .before .before .before .before .before .before in
     let at-loop = c .before .before .before .before .before .before .loop in
     let at-walk-body = c .before .before .before .before .walk-body in
-    let B : Bodies = bodies (at-start .args .edition) (at-start .args .functions .now) (at-start .args .code .now) (at-start .args .entry) in let i = at-loop .i in let t = at-walk-body .last .1 .1 .1 .1 .0 in
+    let B : Bodies = bodies (at-start .args .edition) (at-start .args .functions .now) [] (at-start .args .code .now) (at-start .args .entry) in let i = at-loop .i in let t = at-walk-body .last .1 .1 .1 .1 .0 in
     let e : i ≡ functionCount (B .functions) = omega arith in
     let cut = passed _ _ _ _ t _ (not-false (at-walk-body .result) (c .before .if1 .left)) (at-loop .inv .1) (at-walk-body .ensures .1) in (
       at-walk-body .ensures .0 ∙ at-loop .inv .4,
       (
-        good-bodies B (at-start .pre .0 .1) i t e cut (crossed-more B (at-start .pre .0 .1) i t (at-loop .inv .5) cut),
-        λ z. starts-exactly (B .edition) (B .code) t (at-end B (at-start .pre .0 .1) i t e cut),
+        good-bodies (at-start .args .edition) _ _ _ (at-start .pre .0 .0) i t e cut (crossed-more (at-start .args .edition) _ _ _ (at-start .pre .0 .0) i t (at-loop .inv .5) cut),
+        λ z. starts-exactly (B .edition) (B .code) t (at-end (at-start .args .edition) _ _ _ (at-start .pre .0 .0) i t e cut),
       ),
     )
 
@@ -74,7 +74,7 @@ word-requires c κs = omega arith
 
 add-end : tie.Need-add-end Inv-loop μ-loop
 add-end c = let at-start = c .before .before .before .before .before .before .before .before .before .before .before in
-    let B : Bodies = bodies (at-start .args .edition) (at-start .args .functions .now) (at-start .args .code .now) (at-start .args .entry) in omega (arith, end-inside B (at-start .pre .0 .1) (c .before .before .before .before .before .before .before .loop .i) (omega arith))
+    omega (arith, end-inside (at-start .args .edition) _ _ _ (at-start .pre .0 .0) (c .before .before .before .before .before .before .before .loop .i) (omega arith))
 
 add-i : tie.Need-add-i Inv-loop μ-loop
 add-i c = omega arith
@@ -86,7 +86,7 @@ loop-again : tie.Need-loop-again Inv-loop μ-loop
 loop-again c = let at-start = c .before .before .before .before .before .before .before .before .before .before .before in
     let at-loop = c .before .before .before .before .before .before .before .loop in
     let at-walk-body = c .before .before .before .before .before .walk-body in
-    let B : Bodies = bodies (at-start .args .edition) (at-start .args .functions .now) (at-start .args .code .now) (at-start .args .entry) in let i = at-loop .i in let t = at-walk-body .last .1 .1 .1 .1 .0 in
+    let B : Bodies = bodies (at-start .args .edition) (at-start .args .functions .now) [] (at-start .args .code .now) (at-start .args .entry) in let i = at-loop .i in let t = at-walk-body .last .1 .1 .1 .1 .0 in
     let n : at-loop .end + c .word .result ≡ endBefore B (i + 1) = end-next B i _ _ (at-loop .inv .1) (c .word .ensures .0) in
     let whole = not-false (at-walk-body .result) (c .before .before .if1 .left) in (
       omega arith,
@@ -94,7 +94,7 @@ loop-again c = let at-start = c .before .before .before .before .before .before 
       omega arith,
       passed _ _ _ _ t _ whole refl (at-walk-body .ensures .1),
       at-walk-body .ensures .0 ∙ at-loop .inv .4,
-      crossed-more B (at-start .pre .0 .1) i t (at-loop .inv .5) (passed _ _ _ _ t _ whole (at-loop .inv .1) (at-walk-body .ensures .1)),
+      crossed-more (at-start .args .edition) _ _ _ (at-start .pre .0 .0) i t (at-loop .inv .5) (passed _ _ _ _ t _ whole (at-loop .inv .1) (at-walk-body .ensures .1)),
     )
 
 pub bad-code-spec : {M : Type 1} → statement M

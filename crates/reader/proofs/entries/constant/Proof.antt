@@ -1,47 +1,37 @@
 -- The proof of `reader::entries::constant`.
-use Prim.Native.Nat.{_<_, _≤_}
+use Prim.Native.Nat.{ℕ, _-_}
 use native.Mathlib.Omega.{arith}
+use mathlib.Core.Path.{ap, _∙_}
+use mathlib.Core.List.{List}
+use lib.Dec.{ltb}
+use lib.ListN.{length, drop, length-drop}
+use lib.Seq.{take-all}
 use borrow.Author.Needs.{needs}
-use borrow.Author.Tests.{lt-ltb, le-ltb}
-use Rattle.reader.proofs.Records.{constants-length, constant-byte, constant-word}
-use Rattle.rules.specs.ModuleFile.{constantsIn}
-use Rattle.rules.specs.Tables.{constantCount, constantOf, moduleOf}
+use Rattle.rules.specs.Bytes.{within}
+use Rattle.rules.specs.Tables.{constantOf}
+use Rattle.reader.proofs.Pool.{pool-constant}
 use Rattle.reader.proofs.entries.constant.Statement.{statement}
 use Rattle.reader.proofs.entries.constant.Tie as tie
 
+sub-pooled : tie.Need-sub-pooled
+sub-pooled c = search needs
+
+part-pooled-start : tie.Need-part-pooled-start
+part-pooled-start c = search needs
+
+part-pooled-end : tie.Need-part-pooled-end
+part-pooled-end c = search needs
+
+pooled-requires : tie.Need-pooled-requires
+pooled-requires c κs = search needs
+
 returns : tie.Need-returns
-unfolding moduleOf
 returns c = let at-start = c .before .before .before in
-    let s = at-start .args .file .now in
-    let l = constants-length s (at-start .args .c) ((at-start .pre)) in
-    let h : constantCount (constantsIn s) ≤ at-start .args .k = omega arith in simp (le-ltb _ _ h)
-
-mul-at : tie.Need-mul-at
-mul-at c = search needs
-
-add-at : tie.Need-add-at
-add-at c = search needs
-
-add-load64 : tie.Need-add-load64
-add-load64 c = search needs
-
-load64-requires : tie.Need-load64-requires
-load64-requires c κs = search needs
-
-shared-slice-read-t9 : tie.Need-shared-slice-read-t9
-shared-slice-read-t9 c = search needs
-
-returns-2 : tie.Need-returns-2
-unfolding moduleOf constantOf
-returns-2 c = let at-start = c .before .before .before .before .before in
-    let s = at-start .args .file .now in let k = at-start .args .k in
-    let l = constants-length s (at-start .args .c) ((at-start .pre)) in
-    let h : k < constantCount (constantsIn s) = omega arith in
-    let b = constant-byte s (at-start .args .c) ((at-start .pre)) k (omega arith) in
-    let w = constant-word s (at-start .args .c) ((at-start .pre)) 8 k 4 (omega arith) (omega arith) in
-    simp (lt-ltb _ _ h, b, w, ← c .before .load64 .ensures .0)
+    let s = at-start .args .file .now in let d = at-start .args .c in let k = at-start .args .k in
+    c .pooled .ensures
+    ∙ ap (λ (l : List ℕ). within (ltb k (d .constants)) (constantOf l k)) (take-all (length s - d .pool) (drop (d .pool) s) (simp length-drop (omega arith)))
+    ∙ pool-constant s d (at-start .pre) k
 
 pub constant-spec : {M : Type 1} → statement M
 constant-spec =
-    tie.close
-    (tie.spec returns mul-at add-at add-load64 load64-requires shared-slice-read-t9 returns-2)
+    tie.close (tie.spec sub-pooled part-pooled-start part-pooled-end pooled-requires returns)

@@ -1,5 +1,6 @@
 -- The proof of `reader::labels::bad_label`.
 use native.Mathlib.Omega.{arith}
+use mathlib.Core.List.{[]}
 use mathlib.Core.Path.{sym, _∙_}
 use borrow.Author.Needs.{needs}
 use borrow.Author.Tests.{not-true, not-false}
@@ -26,23 +27,22 @@ owned-requires c κs = search needs
 returns : tie.Need-returns
 returns c = let at-start = c .before .before .before .before .before .before .before .before in
     let at-owned = c .before .owned in
-    let B = bodies (at-start .args .edition) (at-start .args .functions .now) (at-start .args .code .now) (at-start .args .entry) in
+    let B = bodies (at-start .args .edition) (at-start .args .functions .now) [] (at-start .args .code .now) (at-start .args .entry) in
     not-owned B (at-start .args .labels .now) (at-start .args .i) _ _ (c .before .before .before .word .ensures .0) (c .before .before .word2 .ensures .0) (sym (at-owned .ensures) ∙ not-true (at-owned .result) (c .if1 .taken))
 
 shared-slice-read-result : tie.Need-shared-slice-read-result
 shared-slice-read-result c = let at-start = c .before .before .before .before .before .before .before .before .before in
     let at-owned = c .before .before .owned in
-    let B = bodies (at-start .args .edition) (at-start .args .functions .now) (at-start .args .code .now) (at-start .args .entry) in
-    omega (arith, owned-inside B (at-start .pre .0 .1) (c .before .before .before .before .word .result) (c .before .before .before .word2 .result) (at-start .pre .0 .0 .entry-inside) (sym (at-owned .ensures) ∙ not-false (at-owned .result) (c .before .if1 .left)))
+    omega (arith, owned-inside (at-start .args .edition) _ _ _ (at-start .pre .0) (c .before .before .before .before .word .result) (c .before .before .before .word2 .result) (sym (at-owned .ensures) ∙ not-false (at-owned .result) (c .before .if1 .left)))
 
 returns-2 : tie.Need-returns-2
 returns-2 c = let at-start = c .before .before .before .before .before .before .before .before .before in
     let at-owned = c .before .before .owned in
     let at-word = c .before .before .before .before .word in
     let at-word2 = c .before .before .before .word2 in
-    let B = bodies (at-start .args .edition) (at-start .args .functions .now) (at-start .args .code .now) (at-start .args .entry) in
+    let B = bodies (at-start .args .edition) (at-start .args .functions .now) [] (at-start .args .code .now) (at-start .args .entry) in
     let h = sym (at-owned .ensures) ∙ not-false (at-owned .result) (c .before .if1 .left) in
-    let l = owned-inside B (at-start .pre .0 .1) (at-word .result) (at-word2 .result) (at-start .pre .0 .0 .entry-inside) h in
+    let l = owned-inside (at-start .args .edition) _ _ _ (at-start .pre .0) (at-word .result) (at-word2 .result) h in
     owned-marked B (at-start .args .labels .now) (at-start .args .i) _ _ (at-word .ensures .0) (at-word2 .ensures .0) h _ (at-start .pre .1 .1) (omega arith) (omega arith)
 
 pub bad-label-spec : {M : Type 1} → statement M

@@ -1,6 +1,7 @@
 -- The proof of `reader::labels::bad_labels`.
 use Prim.Native.Nat.{_≤_, _-_}
 use native.Mathlib.Omega.{arith}
+use mathlib.Core.List.{[]}
 use mathlib.Core.Path.{_≡_, refl}
 use Rattle.format.proofs.Gathered.{some-none, some-more, some-end}
 use Rattle.rules.specs.Bytes.{some-below}
@@ -9,7 +10,7 @@ use Rattle.reader.proofs.labels.bad_labels.Statement.{statement}
 use Rattle.reader.proofs.labels.bad_labels.Tie as tie
 
 abbrev Inv-loop : tie.InvT-loop
-Inv-loop edition functions labels code entry starts n bad₀ i₀ bad i = (i ≤ n) × (bad ≡ some-below i (badLabel (bodies edition functions code entry) labels))
+Inv-loop edition functions labels code entry starts n bad₀ i₀ bad i = (i ≤ n) × (bad ≡ some-below i (badLabel (bodies edition functions [] code entry) labels))
 
 abbrev μ-loop : tie.MeasureT-loop
 μ-loop edition functions labels code entry starts n bad₀ i₀ bad i = n - i
