@@ -2,12 +2,11 @@
 use Prim.Native.Nat.{ℕ, zero, suc, _+_, _-_, _≤_, _<_}
 use native.Mathlib.Omega.{arith}
 use mathlib.Core.Path.{_≡_, refl, sym, ap, _∙_}
-use mathlib.Core.Bool.{Bool, true, false, cond}
+use mathlib.Core.Bool.{true, false}
 use mathlib.Core.Logic.{inl, inr, ⊎-elim}
 use mathlib.Core.Option.{Option, none, some}
 use mathlib.Core.List.{List}
 use lib.ListN.{length}
-use lib.Dec.{eqb}
 use borrow.Author.Tests.{lt-ltb, le-ltb, le-leb, lt-leb, eq-eqb, ne-eqb}
 use Rattle.rules.specs.declared.Instruction.the-variants.{Call}
 use Rattle.rules.specs.Bytes.{byte, maybe}
@@ -34,12 +33,7 @@ use Rattle.control.proofs.Frames.{length-saved, length-opened, opened-b
 
 pub pointer-kind : (b : ℕ) → 128 ≤ b → 7 ≡ kindOf (tyOf b)
 pointer-kind b h =
-    rw (ne-eqb b 3 (λ e. omega arith), ne-eqb b 4 (λ e. omega arith), ne-eqb b 6 (λ e. omega arith)) (go (eqb b 131) (eqb b 132))
-  where
-    go : (x y : Bool) → 7 ≡ kindOf (cond x (ptr int) (cond y (ptr long) (ptr double)))
-    go true y = refl
-    go false true = refl
-    go false false = refl
+    rw (ne-eqb b 3 (λ e. omega arith), ne-eqb b 4 (λ e. omega arith), ne-eqb b 6 (λ e. omega arith)) refl
 
 pub number-kind : (b : ℕ) → typeByte (tyOf b) ≡ b → b < 128 → b ≡ kindOf (tyOf b)
 number-kind b e h = sym e ∙ go (tyOf b) (omega (arith, e))
@@ -48,9 +42,7 @@ number-kind b e h = sym e ∙ go (tyOf b) (omega (arith, e))
     go (num int) l = refl
     go (num long) l = refl
     go (num double) l = refl
-    go (ptr int) l = absurd (omega arith)
-    go (ptr long) l = absurd (omega arith)
-    go (ptr double) l = absurd (omega arith)
+    go (ptr w) l = absurd (omega arith)
 
 module _ (s : List ℕ) (a : ℕ) (p t : List ℕ) (b : ℕ) where
   pub kinds-end : (j : ℕ) → j ≡ 0 → kindsMatch (paramsFrom s a j) (slotsOf p t (b + j)) ≡ true

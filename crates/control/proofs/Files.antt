@@ -1,24 +1,48 @@
 -- A function and a label of a module that can be read: what the code finds of them is in range.
-use Prim.Native.Nat.{ℕ, suc, _+_, _≤_, _<_}
+use Prim.Native.Nat.{ℕ, suc, _+_, _-_, _≤_, _<_}
 use native.Mathlib.Omega.{arith}
 use mathlib.Core.Path.{_≡_, refl, sym, ap, _∙_}
 use mathlib.Core.Bool.{Bool, true, false, cond}
 use mathlib.Core.Logic.{_⊎_, inl, inr}
-use mathlib.Core.Option.{Option, some}
+use mathlib.Core.Option.{Option, none, some}
 use mathlib.Core.List.{List}
 use lib.ListN.{length}
 use lib.Dec.{ltb, eqb}
-use borrow.Author.Tests.{ltb-true, eqb-true}
+use borrow.Author.Tests.{lt-ltb, ltb-true, ne-eqb, eqb-true}
 use Rattle.rules.specs.Bytes.{byte, word, maybe}
-use Rattle.rules.specs.Tables.{functionCount, badFunctions, endBefore, functionAt, functionOf, Function, bodyOf, entry, fn, paramsFrom, moduleOf}
+use Rattle.rules.specs.Instructions.{pointeeNumber, pointeeOf, typeByte, tyOf}
+use Rattle.rules.specs.Tables.{functionCount, structureCount, badFunctions, endBefore, functionAt, functionOf, resultOf, Function, bodyOf, entry, fn, paramsFrom, moduleOf}
 use Rattle.rules.specs.ModuleFile.{refusal, read, bodiesIn, tablesIn, functionsIn, codeIn}
-use Rattle.soundness.specs.Readable.{Has, few-parameters, label-is, params-length, starts-after}
+use Rattle.soundness.specs.Tests.{decide, none-some, some-inj}
+use Rattle.soundness.specs.Readable.{Has, ResultByte, byte-back, result-type, few-parameters, label-is, params-length, ends-rise, fills, starts-after}
 use Rattle.soundness.specs.Cutting.{few-functions, little-code, good-file, functions-good}
 use Rattle.reader.specs.declared.entries.FunctionRecord.{FunctionRecord}
 use Rattle.reader.specs.declared.entries.FoundFunction.the-variants.{Record}
 use Rattle.reader.specs.declared.entries.LabelRecord.{LabelRecord}
 use Rattle.reader.specs.Answers.{functionIn}
-use Rattle.reader.proofs.Bodies.{end-inside}
+
+pointee-back : (n : ℕ) → pointeeNumber (pointeeOf n) ≡ n
+pointee-back n =
+    decide (eqb n 0) (λ a. rw a (sym (eqb-true n 0 a)))
+    (λ a. decide (eqb n 3) (λ b. rw (a, b) (sym (eqb-true n 3 b)))
+    (λ b. decide (eqb n 4) (λ c. rw (a, b, c) (sym (eqb-true n 4 c)))
+    (λ c. decide (eqb n 6) (λ d. rw (a, b, c, d) (sym (eqb-true n 6 d))) (λ d. rw (a, b, c, d) refl))))
+
+-- a number whose type is not `null`'s is the byte of that type
+type-back : (x : ℕ) → (typeByte (tyOf x) ≡ 128 → ⊥) → typeByte (tyOf x) ≡ x
+type-back x ne =
+    decide (eqb x 3) (λ a. rw a (sym (eqb-true x 3 a)))
+    (λ a. decide (eqb x 4) (λ b. rw (a, b) (sym (eqb-true x 4 b)))
+    (λ b. decide (eqb x 6) (λ c. rw (a, b, c) (sym (eqb-true x 6 c)))
+    (λ c. let e : typeByte (tyOf x) ≡ 128 + (x - 128) = rw (a, b, c) (ap (λ (n : ℕ). 128 + n) (pointee-back (x - 128))) in
+    let l : 128 < x = omega (arith, ne) in
+    omega arith)))
+
+not-null : (z t : ℕ) → ResultByte z t → t ≡ 128 → ⊥
+not-null z t (inl (inl e)) q = omega arith
+not-null z t (inl (inr (inl e))) q = omega arith
+not-null z t (inl (inr (inr e))) q = omega arith
+not-null z t (inr h) q = let l : 138 ≤ t = h .0 in omega arith
 
 module _ (s : List ℕ) (readable : refusal s ≡ 0) where
   -- its number, its count of parameters and its end
@@ -42,13 +66,37 @@ module _ (s : List ℕ) (readable : refusal s ≡ 0) where
             let good : badFunctions (bodiesIn s) ≡ false = functions-good s readable in
             let few : byte fs (a + 8) ≤ 8 = few-parameters (bodiesIn s) good k h in
             let start : word 4 fs a ≡ endBefore (bodiesIn s) k = starts-after (bodiesIn s) good k h in
-            let inside : endBefore (bodiesIn s) (suc k) ≤ length (codeIn s) = end-inside (bodiesIn s) good (suc k) (omega arith) in
+            let rises : endBefore (bodiesIn s) (suc k) ≤ endBefore (bodiesIn s) (functionCount fs) = ends-rise (bodiesIn s) (suc k) (functionCount fs) h in
+            let full : endBefore (bodiesIn s) (functionCount fs) ≡ length (codeIn s) = fills (bodiesIn s) good in
             let next : endBefore (bodiesIn s) (suc k) ≡ endBefore (bodiesIn s) k + word 4 fs (a + 4) = refl in (
               h,
               omega (arith, same),
               omega (arith, little-code s readable),
               same,
             )
+
+    -- its return type is that of its byte
+    pub returned : functionIn (functionsIn s) (functionAt k) (Record g) ≡ read s .function k → (g .result ≡ 0 → ⊥) → typeByte (tyOf (g .result)) ≡ g .result
+    unfolding moduleOf functionOf
+    returned e ne = type-back (g .result) (λ q. go (result-type (bodiesIn s) (functions-good s readable) k (callee e .0)) q)
+      where
+        fs : List ℕ
+        fs = functionsIn s
+
+        y : ℕ
+        y = byte fs (functionAt k + 9)
+
+        same : some (tyOf (g .result)) ≡ resultOf y
+        same =
+            let q : functionIn fs (functionAt k) (Record g) ≡ some (functionOf fs (functionAt k)) = rw (lt-ltb k (functionCount fs) (callee e .0)) at e in
+            rw (ne-eqb (g .result) 0 ne) at (ap (λ (o : Option Function). maybe o none (λ F. F .result)) q)
+
+        go : (y ≡ 0) ⊎ ResultByte (structureCount (bodiesIn s .structures)) y → typeByte (tyOf (g .result)) ≡ 128 → ⊥
+        go (inl z) q = none-some (sym (same ∙ rw z refl))
+        go (inr z) q =
+            decide (eqb y 0) (λ n. none-some (sym (same ∙ rw n refl)))
+            (λ n. let t : tyOf (g .result) ≡ tyOf y = some-inj (tyOf (g .result)) (tyOf y) (same ∙ rw n refl) in
+            not-null (structureCount (bodiesIn s .structures)) y z (sym (byte-back (structureCount (bodiesIn s .structures)) y (inl z)) ∙ ap typeByte (sym t) ∙ q))
 
   -- a label's owner: the entry, or a function
   pub owner-good : (k : ℕ) (l : LabelRecord) → some (bodyOf (l .owner), l .place) ≡ read s .label k → (l .owner ≡ 0xffffffff) ⊎ (l .owner < 65535)

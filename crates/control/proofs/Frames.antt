@@ -8,7 +8,7 @@ use lib.ListN.{length, getD, set, length-set}
 use lib.Seq.{getD-set-same, getD-set-other, lt-length-set}
 use Rattle.rules.specs.Machine.{argumentSlots, opened, goto}
 use Rattle.rules.specs.Stack.{slotsOf}
-use Rattle.state.specs.State.{bodyIn, localsOf, frameAt, callersOf, depthOf, topOf, stateOf, Waiting, Ready}
+use Rattle.state.specs.State.{bodyIn, localsOf, frameAt, callersOf, depthOf, topOf, memoryOf, stateOf, Waiting, Ready}
 use Rattle.state.specs.declared.Registers.{Registers}
 use Rattle.state.proofs.Locals.{Alike, waiting-alike, callers-alike, locals-same, locals-bind}
 use Rattle.control.specs.Control.{savedIn, argumentsIn, openedIn, firstAt}
@@ -102,7 +102,7 @@ module _ (f : List ℕ) (a k b n : ℕ) where
 -- ---- the first frame
 
 module _ (p t f : List ℕ) (b s e n : ℕ) (words : 24 ≤ length f) (few : n ≤ 16) where
-  pub state-first : stateOf (firstAt s e n) p t (openedIn f 0 b 0 n) ≡ record { memory = record { stack = slotsOf p t n }; top = opened (bodyIn b) s e 0 n; callers = [] }
+  pub state-first : stateOf (firstAt s e n) p t (openedIn f 0 b 0 n) ≡ record { memory = memoryOf p t n; top = opened (bodyIn b) s e 0 n; callers = [] }
   unfolding callersOf
   state-first = rw (top-opened f 0 b 0 n words s e n few (omega arith)) refl
 

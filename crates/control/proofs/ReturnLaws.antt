@@ -1,32 +1,33 @@
 -- What `ret` does, way by way: a law for each return.
 use Prim.Native.Nat.{ℕ, zero, suc, _+_, _*_, _-_, _/_, _^_, _≤_, _<_}
 use native.Mathlib.Omega.{arith}
-use mathlib.Core.Path.{_≡_, refl, sym, ap, _∙_}
-use mathlib.Core.Bool.{Bool, true, false, cond, true≢false}
-use mathlib.Core.Option.{Option, none, some}
+use mathlib.Core.Path.{_≡_, refl, sym, ap, _∙_, subst}
+use mathlib.Core.Bool.{Bool, true, false, cond}
+use mathlib.Core.Logic.{inl, inr}
+use mathlib.Core.Option.{none}
 use mathlib.Core.List.{List, [], _∷_, _++_}
 use lib.ListN.{length, getD, drop}
 use lib.Dec.{eqb}
 use borrow.Author.Tests.{le-ltb, eq-eqb, ne-eqb, eqb-true}
 use Rattle.rules.specs.declared.Slot.{Slot}
-use Rattle.rules.specs.declared.Num.{Num}
 use Rattle.rules.specs.declared.Instruction.the-variants.{Ret}
-use Rattle.rules.specs.declared.Num.the-variants.{Int as int, Long as long, Double as double}
-use Rattle.rules.specs.Instructions.{numOf, numKind}
+use Rattle.rules.specs.Instructions.{typeByte, tyOf, kindOf}
 use Rattle.rules.specs.Tables.{functionCount, functionAt, entry, fn, moduleOf}
 use Rattle.rules.specs.ModuleFile.{read, functionsIn}
 use Rattle.rules.specs.Stack.{slotAt, slotsOf, under}
 use Rattle.rules.specs.Machine.{execIn, own, leaving}
+use Rattle.soundness.specs.Started.{all-at}
+use Rattle.soundness.specs.Kinds.{Kind, OfKind, Kinded}
 use Rattle.reader.specs.declared.entries.FunctionRecord.{FunctionRecord}
 use Rattle.reader.specs.declared.entries.FoundFunction.the-variants.{Record}
 use Rattle.reader.specs.Answers.{functionIn}
 use Rattle.state.specs.Slots.{payloadsWith, typesWith}
-use Rattle.state.specs.State.{bodyIn, depthOf, stateOf, frameAt, callersOf, Waiting, Caller, Ready, Does}
+use Rattle.state.specs.State.{bodyIn, depthOf, memoryOf, stateOf, frameAt, callersOf, Waiting, Caller, Ready, Does}
 use Rattle.state.specs.declared.Registers.{Registers}
 use Rattle.state.specs.declared.Progress.the-variants.{Goes, Finishes, Stops}
-use Rattle.state.proofs.Stack.{take1-short, take1-has, under-slots, slots-push}
+use Rattle.state.proofs.Stack.{at-slots, take1-short, take1-has, under-slots, slots-push}
 use Rattle.state.proofs.Outcomes.{stopping, putting}
-use Rattle.control.specs.Control.{isSome, restoredAt, pastFrame}
+use Rattle.control.specs.Control.{restoredAt, pastFrame}
 
 -- ---- the function that returns
 
@@ -39,29 +40,18 @@ own-is s few b = go (eqb b 65535) refl
     go true e = let q : b ≡ 65535 = eqb-true b 65535 e in rw (le-ltb b (functionCount (functionsIn s)) (omega arith)) refl
     go false e = refl
 
-no-value : (o : Option Num) → isSome o ≡ false → o ≡ none
-no-value none e = refl
-no-value (some τ) e = absurd (true≢false e)
+-- ---- the value that is returned
 
--- a return type and its type number
-value-kind : (x : ℕ) → isSome (numOf x) ≡ true → (τ : Num) × (numOf x ≡ some τ) × (numKind τ ≡ x)
-value-kind x e = go (eqb x 3) (eqb x 4) (eqb x 6) refl refl refl e
-  where
-    go : (a b d : Bool) → eqb x 3 ≡ a → eqb x 4 ≡ b → eqb x 6 ≡ d
-        → isSome (cond a (some int) (cond b (some long) (cond d (some double) none))) ≡ true
-        → (τ : Num) × (cond a (some int) (cond b (some long) (cond d (some double) none)) ≡ some τ) × (numKind τ ≡ x)
-    go true b d u v w y = (int, refl, sym (eqb-true x 3 u))
-    go false true d u v w y = (long, refl, sym (eqb-true x 4 v))
-    go false false true u v w y = (double, refl, sym (eqb-true x 6 w))
-    go false false false u v w y = absurd (true≢false (sym y))
+same-kind : (x n : ℕ) → Kind n → typeByte (tyOf x) ≡ x → n ≡ x → n ≡ kindOf (tyOf x)
+same-kind x n (inl e) b q = let z : x ≡ 3 = sym q ∙ e in rw (e, z) refl
+same-kind x n (inr (inl e)) b q = let z : x ≡ 4 = sym q ∙ e in rw (e, z) refl
+same-kind x n (inr (inr (inl e))) b q = let z : x ≡ 6 = sym q ∙ e in rw (e, z) refl
+same-kind x n (inr (inr (inr e))) b q = let z : x ≡ 7 = sym q ∙ e in absurd (let w : _≡_ {A = ℕ} 128 7 = rw z at b in omega arith)
 
--- a return type that is neither int nor long
-pub last-value : (x : ℕ) → (x ≡ 3 → ⊥) → (x ≡ 4 → ⊥) → eqb x 6 ≡ isSome (numOf x)
-last-value x n3 n4 = rw (ne-eqb x 3 n3, ne-eqb x 4 n4) (go (eqb x 6))
-  where
-    go : (b : Bool) → b ≡ isSome (cond b (some double) none)
-    go true = refl
-    go false = refl
+-- a type number that is a return type's byte is the number of that type: it is no pointer's
+pub top-kind : (p t : List ℕ) (fl h x : ℕ) (v : Slot) → fl + 1 ≤ h → v ≡ slotAt p t (h - 1) → Kinded (slotsOf p t h) → typeByte (tyOf x) ≡ x → v .kind ≡ x → v .kind ≡ kindOf (tyOf x)
+top-kind p t fl h x v one top d =
+    same-kind x (v .kind) (subst OfKind (sym top) (all-at OfKind (slotsOf p t h) d (h - 1) (slotAt p t (h - 1)) (at-slots p t h (h - 1) (omega arith))))
 
 -- ---- the frame that is left
 
@@ -87,7 +77,7 @@ module _ (cap : ℕ) (r : Registers) (p t f : List ℕ) (k : Ready cap r p t f) 
       (over : base ≤ h) (high : h ≤ cap) (rp : drop (cap * 8) p′ ≡ drop (cap * 8) p) (rt : drop cap t′ ≡ drop cap t)
       (sp : length p′ ≡ length p) (st : length t′ ≡ length t) where
     dropped : (d : ℕ) → depthOf r ≡ d
-        → Does cap r (pastFrame d r f h) p t f p′ t′ f (leaving (record { stack = slotsOf p t (r .height) }) vs base (slotsOf p t (r .height)) (callersOf f d))
+        → Does cap r (pastFrame d r f h) p t f p′ t′ f (leaving (memoryOf p t (r .height)) vs base (slotsOf p t (r .height)) (callersOf f d))
     unfolding callersOf frameAt Waiting
     dropped zero e =
         record { result = rw slots refl; unchanged = tt; ready = high; rest-payloads = rp; rest-types = rt; same-payloads = sp; same-types = st }
@@ -132,40 +122,38 @@ module _ (cap : ℕ) (r : Registers) (p t f : List ℕ) (k : Ready cap r p t f) 
       abbrev x : ℕ
       x = g .result
 
-      pub ret-bare : isSome (numOf x) ≡ false → Does cap r (pastFrame (depthOf r) r f base) p t f p t f (execIn (read s) cap Ret (stateOf r p t f))
+      pub ret-bare : x ≡ 0 → Does cap r (pastFrame (depthOf r) r f base) p t f p t f (execIn (read s) cap Ret (stateOf r p t f))
       unfolding execIn
       ret-bare bare =
-          rw (own-is s few body, ← is, no-value (numOf x) bare)
+          rw (own-is s few body, ← is, eq-eqb x 0 bare)
           (dropped p t [] base (sym (under-slots p t (r .height) base (omega (arith, k .low, k .over)))) (omega arith)
           (omega (arith, k .low, k .over, k .high)) refl refl refl refl (depthOf r) refl)
 
-      module _ (valued : isSome (numOf x) ≡ true) where
+      module _ (valued : x ≡ 0 → ⊥) where
         pub ret-21 : r .height < r .floor + 1 → Does cap r (Stops 21) p t f p t f (execIn (read s) cap Ret (stateOf r p t f))
         unfolding execIn
         ret-21 h =
             stopping cap r p t f k 21 _
-            (rw (own-is s few body, ← is, value-kind x valued .1) (take1-short p t (r .floor) (r .height) _ h))
+            (rw (own-is s few body, ← is, ne-eqb x 0 valued) (take1-short p t (r .floor) (r .height) _ h))
 
         module _ (v : Slot) (one : r .floor + 1 ≤ r .height) (top : v ≡ slotAt p t (r .height - 1)) where
-          pub ret-22 : (v .kind ≡ x → ⊥) → Does cap r (Stops 22) p t f p t f (execIn (read s) cap Ret (stateOf r p t f))
+          pub ret-22 : (v .kind ≡ kindOf (tyOf x) → ⊥) → Does cap r (Stops 22) p t f p t f (execIn (read s) cap Ret (stateOf r p t f))
           unfolding execIn
           ret-22 ne =
-              let w = value-kind x valued in
               stopping cap r p t f k 22 _
-              (rw (own-is s few body, ← is, w .1) (take1-has p t (r .floor) (r .height) _ one ∙ rw (← top, w .2, ne-eqb (v .kind) x ne) refl))
+              (rw (own-is s few body, ← is, ne-eqb x 0 valued) (take1-has p t (r .floor) (r .height) _ one ∙ rw (← top, ne-eqb (v .kind) (kindOf (tyOf x)) ne) refl))
 
           -- the value is written at the frame's first slot
-          pub ret-value : (p′ t′ : List ℕ) → v .kind ≡ x → p′ ≡ payloadsWith p base v → t′ ≡ typesWith t base v → v .payload < 2 ^ 64
+          pub ret-value : (p′ t′ : List ℕ) → v .kind ≡ kindOf (tyOf x) → p′ ≡ payloadsWith p base v → t′ ≡ typesWith t base v → v .payload < 2 ^ 64
               → Does cap r (pastFrame (depthOf r) r f (base + 1)) p t f p′ t′ f (execIn (read s) cap Ret (stateOf r p t f))
           unfolding execIn
           ret-value p′ t′ eq ep et fits =
-              let w = value-kind x valued in
               let below : base < r .height = omega (arith, k .low) in
               let moved = putting cap r p t f k v base p′ t′ ep et fits (omega (arith, k .high)) 0 (r .height) _ below (omega arith) (k .over) refl in
               let pushed : slotsOf p′ t′ (base + 1) ≡ v ∷ slotsOf p t base =
               rw (ep, et) (slots-push p t base v (omega (arith, k .high, k .payloads)) (omega (arith, k .high, k .types)) fits) in
-              rw (own-is s few body, ← is, w .1)
+              rw (own-is s few body, ← is, ne-eqb x 0 valued)
               (rw (take1-has p t (r .floor) (r .height) _ one)
-              (rw (← top, w .2, eq-eqb (v .kind) x eq)
+              (rw (← top, eq-eqb (v .kind) (kindOf (tyOf x)) eq)
               (dropped p′ t′ (v ∷ []) (base + 1) (pushed ∙ ap (λ (l : List Slot). v ∷ l) (sym (under-slots p t (r .height) base (omega arith))))
               (omega arith) (omega (arith, k .high)) (moved .rest-payloads) (moved .rest-types) (moved .same-payloads) (moved .same-types) (depthOf r) refl)))

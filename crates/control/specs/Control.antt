@@ -1,6 +1,6 @@
 -- What the functions of this crate find, write and read: targets, the words of frames, registers of another frame.
 use Prim.Native.Nat.{ℕ, zero, suc, _+_, _-_, _*_, _<_}
-use mathlib.Core.Bool.{Bool, true, false, cond}
+use mathlib.Core.Bool.{cond}
 use mathlib.Core.Option.{Option, none, some}
 use mathlib.Core.List.{List}
 use lib.ListN.{getD, set}
@@ -21,10 +21,6 @@ use Rattle.control.specs.declared.jumps.Popped.the-variants.{Int, Refuse
 abbrev pub placeOf : FoundPlace → Option ℕ
 placeOf (At q) = some q
 placeOf Nothing = none
-
-abbrev pub isSome : {A : Type 0} → Option A → Bool
-isSome none = false
-isSome (some a) = true
 
 -- ready with a capacity that the instruction does not ask for
 abbrev pub Prepared : Registers → List ℕ → List ℕ → List ℕ → Type 0

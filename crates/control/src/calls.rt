@@ -5,14 +5,15 @@ ghost use Prim.Native.Nat.{ℕ, _+_, _*_, _<_, _≤_};
 ghost use lib.ListN.{length};
 ghost use Rattle.rules.specs.declared.Instruction.the-variants.{Call, Ret};
 ghost use Rattle.rules.specs.Bytes.{byte, word};
-ghost use Rattle.rules.specs.Instructions.{numOf, typeByte, tyOf, kindOf};
+ghost use Rattle.rules.specs.Instructions.{typeByte, tyOf, kindOf};
 ghost use Rattle.rules.specs.Machine.{execIn, kindsMatch};
 ghost use Rattle.rules.specs.Tables.{functionAt, functionOf, paramsFrom};
 ghost use Rattle.rules.specs.ModuleFile.{read, refusal, functionsIn};
 ghost use Rattle.rules.specs.Stack.{slotsOf};
+ghost use Rattle.soundness.specs.Kinds.{Kinded};
 ghost use Rattle.format.specs.Layout.{Packed};
 ghost use Rattle.state.specs.State.{depthOf, stateOf, Ready, DoesOrLacks};
-ghost use Rattle.control.specs.Control.{isSome, ActsOn, Prepared, savedIn, argumentsIn, openedIn, firstAt, enteredAt, restoredAt, pastFrame};
+ghost use Rattle.control.specs.Control.{ActsOn, Prepared, savedIn, argumentsIn, openedIn, firstAt, enteredAt, restoredAt, pastFrame};
 use crate::exceptions::FUNCTION_OUTOFRANGE;
 use crate::exceptions::FUNCTION_TOPOFCALLSTACK;
 use crate::exceptions::STACK_DIFFERENTTYPE;
@@ -26,7 +27,7 @@ use state::Registers;
 
 // ---- call
 
-// The type number of a parameter's type byte. Every pointer is 7.
+// The type number of a type byte. Every pointer is 7.
 fn kind_of(b: u8) -> u8
     requires { ⌜ typeByte (tyOf b) ≡ b ⌝ }
     ensures { λ r. ⌜ r ≡ kindOf (tyOf b) ⌝ }
@@ -160,19 +161,6 @@ pub fn call(
 
 // ---- ret
 
-// Whether a function returns a value: its return type is 3, 4 or 6.
-fn has_value(result: u8) -> bool
-    ensures { λ r. ⌜ r ≡ isSome (numOf result) ⌝ }
-{
-    if result == 3 {
-        return true;
-    }
-    if result == 4 {
-        return true;
-    }
-    result == 6
-}
-
 // The registers of the frame whose words begin at a.
 fn restored(a: usize, height: usize, f: &[u16]) -> Registers
     requires { ⌜ a + 24 ≤ length (now f) ⌝ }
@@ -208,7 +196,8 @@ pub fn ret(
     t: &mut [u8],
     f: &[u16],
 ) -> Progress
-    requires { ⌜ Packed (now file) c × Prepared r (now p) (now t) (now f) ⌝ }
+    requires { ⌜ Packed (now file) c × (refusal (now file) ≡ 0) ⌝ }
+    requires { ⌜ Prepared r (now p) (now t) (now f) × Kinded (slotsOf (now p) (now t) (r .height)) ⌝ }
     ensures { λ a. ⌜ ((cap : ℕ) → ActsOn cap r a (now (p .entry)) (now (t .entry)) (now (f .entry)) (now (p .exit)) (now (t .exit)) (now (f .entry)) (execIn (read (now (file .entry))) cap Ret)) ⌝ }
 {
     let frame = r.frame;
@@ -217,8 +206,7 @@ pub fn ret(
         return Progress::Stops(FUNCTION_TOPOFCALLSTACK);
     };
     let base = wide(f[frame + 2]);
-    let valued = has_value(g.result);
-    if !valued {
+    if g.result == 0 {
         return leave(r, base, f);
     }
     let h = r.height;
@@ -227,7 +215,9 @@ pub fn ret(
     }
     let v = state::slot_at(p, t, h - 1);
     if v.kind != g.result {
-        return Progress::Stops(STACK_DIFFERENTTYPE);
+        if v.kind != kind_of(g.result) {
+            return Progress::Stops(STACK_DIFFERENTTYPE);
+        }
     }
     state::put_slot(p, t, base, v);
     leave(r, base + 1, f)

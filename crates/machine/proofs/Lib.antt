@@ -1,2 +1,3 @@
+pub mod Heapless
 pub mod Arms
 pub mod Turns

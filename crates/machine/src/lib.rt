@@ -6,7 +6,7 @@ ghost use Rattle.rules.specs.ModuleFile.{read, refusal};
 ghost use Rattle.format.specs.Layout.{Packed};
 ghost use Rattle.keys.specs.Keys.{Keyed};
 ghost use Rattle.state.specs.State.{stateOf};
-ghost use Rattle.machine.specs.Ends.{endWith, endAtStop, Fits, RunsTo};
+ghost use Rattle.machine.specs.Ends.{left, endWith, endAtStop, Fits, RunsTo};
 use format::Sections;
 use keys::Fetched;
 use state::Progress;
@@ -17,6 +17,13 @@ mod steps;
 const ALLOWANCE_USED_UP: u32 = 15;
 
 const FUNCTION_NORETINSTRUCTION: u32 = 29;
+
+// Whether a run ended with this number before an instruction that it left to who has the heap: 33 where a pointer names no slot.
+pub fn left(number: u32) -> bool
+    ensures { λ r. ⌜ r ≡ left number ⌝ }
+{
+    number == 33 || number == 36 || number == 37
+}
 
 // How a run ended: its number, the steps left of the allowance, and the registers then.
 pub struct Ended {
@@ -43,7 +50,8 @@ fn at_end(r: Registers, rest: u64, f: &[u16]) -> Ended
     ending(FUNCTION_NORETINSTRUCTION, rest, r)
 }
 
-// The run from a state: moment after moment, until it ends or the allowance is used up. The code is lent in keys.
+// The run from a state: moment after moment, until it ends, the allowance is used up, or an instruction needs the heap. The code is lent
+// in keys.
 pub fn run_from(
     file: &[u8],
     c: Sections,
@@ -61,6 +69,8 @@ pub fn run_from(
     ensures { λ e. ⌜ RunsTo (read (now (file .entry))) cap allowance (stateOf first (now (p .entry)) (now (t .entry)) (now (f .entry))) e (now (p .entry)) (now (t .entry)) (now (f .entry)) (now (p .exit)) (now (t .exit)) (now (f .exit)) ⌝ }
 {
     let code = &source[from..];
+    let constants = c.pool;
+    let pool = &file[constants..];
     let mut r = first;
     let mut rest = allowance;
     loop {
@@ -71,7 +81,7 @@ pub fn run_from(
         if rest == 0 {
             return ending(ALLOWANCE_USED_UP, rest, r);
         }
-        let a = steps::step(file, c, code, cap, r, b, p, t, f);
+        let a = steps::step(file, c, pool, code, cap, r, b, p, t, f);
         match a {
             Progress::Goes(q) => {
                 r = q;

@@ -2,6 +2,7 @@
 // stands in it once.
 ghost use mathlib.Core.Path.{_≡_};
 ghost use Prim.Native.Nat.{ℕ, _<_};
+ghost use lib.ListN.{drop};
 ghost use Rattle.rules.specs.ModuleFile.{read, refusal};
 ghost use Rattle.format.specs.Layout.{Packed};
 ghost use Rattle.keys.specs.Keys.{Known, Outside};
@@ -12,15 +13,20 @@ use format::Sections;
 use state::Progress;
 use state::Registers;
 
-// No run ends with these: a key that is no instruction's is never met. Keys that are neighbours have no arm in common, so that
-// the table needs no test of ranges.
+// The instruction is left to who has the heap. Keys that are neighbours have no arm in common, and these numbers are no other
+// exit's, so that the table needs no test of ranges.
+const LEFT: u32 = 36;
+
+const LEFT_NEW: u32 = 37;
+
+// No run ends with these: a key that is no instruction's is never met.
 const NEVER: u32 = 0;
 
 const NEVER_EVEN: u32 = 1;
 
 const NEVER_ODD: u32 = 2;
 
-// On the top operand, on bits, comparisons, conversions.
+// On the top operand, on bits, comparisons, conversions; `flea`, `null`, `new`, `delete` are left.
 fn single(r: Registers, b: u8, p: &mut [u8], t: &mut [u8]) -> Progress
     requires { ⌜ Known b × Outside b wides × Outside b numerics ⌝ }
     requires { ⌜ Computable r (now p) (now t) ⌝ }
@@ -42,11 +48,12 @@ fn single(r: Registers, b: u8, p: &mut [u8], t: &mut [u8]) -> Progress
         0x2b => operands::single::toi(r, p, t),
         0x2c => operands::single::tol(r, p, t),
         0x2e => operands::single::tod(r, p, t),
-        0x30 => operands::single::inc(r, p, t),
-        0x31 => operands::single::dec(r, p, t),
-        0x00 | 0x06 | 0x29 | 0x2d | 0x32 | 0x34 | 0x36 | 0x38 | 0x3a | 0x3c | 0x3e =>
-            Progress::Stops(NEVER_EVEN),
-        0x2a | 0x2f | 0x33 | 0x35 | 0x37 | 0x39 | 0x3b | 0x3d | 0x3f => Progress::Stops(NEVER_ODD),
+        0x29 => operands::single::inc(r, p, t),
+        0x2a => operands::single::dec(r, p, t),
+        0x06 | 0x30 | 0x32 => Progress::Stops(LEFT),
+        0x31 => Progress::Stops(LEFT_NEW),
+        0x00 | 0x2d | 0x34 | 0x36 | 0x38 | 0x3a | 0x3c | 0x3e => Progress::Stops(NEVER_EVEN),
+        0x2f | 0x33 | 0x35 | 0x37 | 0x39 | 0x3b | 0x3d | 0x3f => Progress::Stops(NEVER_ODD),
         _ => Progress::Stops(NEVER),
     }
 }
@@ -80,6 +87,7 @@ fn numeric(cap: usize, r: Registers, b: u8, p: &mut [u8], t: &mut [u8]) -> Progr
 pub(crate) fn step(
     file: &[u8],
     c: Sections,
+    pool: &[u8],
     code: &[u8],
     cap: usize,
     r: Registers,
@@ -88,13 +96,13 @@ pub(crate) fn step(
     t: &mut [u8],
     f: &mut [u16],
 ) -> Progress
-    requires { ⌜ Packed (now file) c × (refusal (now file) ≡ 0) ⌝ }
+    requires { ⌜ Packed (now file) c × (refusal (now file) ≡ 0) × (now pool ≡ drop (c .pool) (now file)) ⌝ }
     requires { ⌜ (r .place < r .stop) × Stands (now code) (r .place) b ⌝ }
     requires { ⌜ Ready cap r (now p) (now t) (now f) × Computable r (now p) (now t) ⌝ }
     ensures { λ a. ⌜ Steps (read (now (file .entry))) cap (now (code .entry)) r a (now (p .entry)) (now (t .entry)) (now (f .entry)) (now (p .exit)) (now (t .exit)) (now (f .exit)) ⌝ }
 {
     match b {
-        0x01 => moves::locals::push(file, c, code, cap, r, p, t),
+        0x01 => moves::locals::push(file, c, pool, code, cap, r, p, t),
         0x03 => moves::locals::load(code, cap, r, f, p, t),
         0x04 => moves::locals::store(code, cap, r, f, p, t),
         0x05 => moves::locals::lea(code, cap, r, f, p, t),

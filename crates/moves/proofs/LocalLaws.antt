@@ -1,16 +1,22 @@
 -- What `push`, `load`, `lea` and `store` do, a law for each way out.
-use Prim.Native.Nat.{ℕ, _+_, _-_, _^_, _≤_, _<_}
+use Prim.Native.Nat.{ℕ, _+_, _*_, _-_, _^_, _≤_, _<_}
 use native.Mathlib.Omega.{arith}
 use mathlib.Core.Path.{_≡_, refl, ap, _∙_}
 use mathlib.Core.Option.{none, some}
 use mathlib.Core.List.{List}
-use lib.ListN.{getD}
+use lib.ListN.{length, getD, drop, length-drop}
+use lib.Dec.{ltb}
 use borrow.Author.Tests.{le-ltb, lt-ltb, eq-eqb, ne-eqb}
 use Rattle.rules.specs.declared.Slot.{Slot}
 use Rattle.rules.specs.declared.Instruction.the-variants.{Push, Load, Store, Lea}
-use Rattle.rules.specs.Tables.{Module}
+use Rattle.rules.specs.Bytes.{within}
+use Rattle.rules.specs.Tables.{Module, constantOf}
+use Rattle.rules.specs.ModuleFile.{read}
 use Rattle.rules.specs.Stack.{slotAt, pointerTo}
 use Rattle.rules.specs.Machine.{execIn}
+use Rattle.format.specs.declared.Sections.{Sections}
+use Rattle.format.specs.Layout.{Packed}
+use Rattle.reader.proofs.Pool.{pool-constant}
 use Rattle.state.specs.Slots.{payloadsWith}
 use Rattle.state.specs.State.{stateOf, movedTo, boundTo, boundIn, Ready, Does}
 use Rattle.state.specs.declared.Registers.{Registers}
@@ -21,6 +27,14 @@ use Rattle.state.proofs.Outcomes.{stopping, putting, binding}
 use Rattle.state.proofs.Families.{types-same}
 use Rattle.state.proofs.Locals.{length-locals, at-locals, at-locals-out}
 use Rattle.moves.specs.Moves.{pushedAt, assignedTo}
+
+-- the constants of a file in the lent pool
+module _ (s : List ℕ) (c : Sections) (k : Packed s c) (pool : List ℕ) (is : pool ≡ drop (c .pool) s) where
+  pub pool-long : 12 * c .constants ≤ length pool
+  pool-long = let l : length (drop (c .pool) s) ≡ length s - c .pool = length-drop (c .pool) s in rw is (omega arith)
+
+  pub pool-is : (i : ℕ) → within (ltb i (c .constants)) (constantOf pool i) ≡ read s .constant i
+  pool-is i = rw is (pool-constant s c k i)
 
 module _ (cap : ℕ) (r : Registers) (p t f : List ℕ) (k : Ready cap r p t f) where
   -- how many locals the frame has

@@ -1,6 +1,7 @@
 // `push`, and the instructions on locals. A local's slot is the word at frame + 4 + n.
+ghost use mathlib.Core.Path.{_≡_};
 ghost use Prim.Native.Nat.{_+_, _<_, _≤_};
-ghost use lib.ListN.{length};
+ghost use lib.ListN.{length, drop};
 ghost use Rattle.rules.specs.Bytes.{word};
 ghost use Rattle.rules.specs.Tables.{Module};
 ghost use Rattle.rules.specs.ModuleFile.{read};
@@ -21,23 +22,24 @@ use rules::Slot;
 use state::Progress;
 use state::Registers;
 
-// `push`.
+// `push`, of a constant of the lent pool.
 pub fn push(
     file: &[u8],
     c: Sections,
+    pool: &[u8],
     code: &[u8],
     cap: usize,
     r: Registers,
     p: &mut [u8],
     t: &mut [u8],
 ) -> Progress
-    requires { ⌜ Packed (now file) c ⌝ }
+    requires { ⌜ Packed (now file) c × (now pool ≡ drop (c .pool) (now file)) ⌝ }
     requires { ⌜ ReadyOn cap r (now p) (now t) ⌝ }
     requires { ⌜ (r .place < r .stop) × (r .place + 5 ≤ length (now code)) ⌝ }
     ensures { λ a. ⌜ Acts cap r a (now (p .entry)) (now (t .entry)) (now (p .exit)) (now (t .exit)) (execIn (read (now (file .entry))) cap (Push (word 4 (now (code .entry)) (r .place + 1)))) ⌝ }
 {
     let n = keys::operand(code, r.place);
-    let found = view::constant(file, c, n as usize);
+    let found = reader::entries::pooled(pool, c.constants, n as usize);
     let FoundConstant::Constant(v) = found else {
         return Progress::Stops(CONSTANTPOOL_OUTOFRANGE);
     };

@@ -1,9 +1,9 @@
-// Moves through a pointer: type 7, its payload the number of the slot that it names.
+// Moves through a pointer: type 7, its payload the number of the slot that it names. Where that is no slot, who has the heap does it.
 ghost use Prim.Native.Nat.{_<_};
 ghost use Rattle.rules.specs.Tables.{Module};
 ghost use Rattle.rules.specs.Machine.{execIn};
 ghost use Rattle.rules.specs.declared.Instruction.the-variants.{Tload, Tstore};
-ghost use Rattle.state.specs.State.{ReadyOn, Acts};
+ghost use Rattle.state.specs.State.{ReadyOn, ActsOrDefers};
 use crate::exceptions::POINTER_NOTPOINTER;
 use crate::exceptions::POINTER_UNKNOWNADDRESS;
 use crate::exceptions::STACK_DIFFERENTTYPE;
@@ -15,7 +15,7 @@ use state::Registers;
 pub fn tload(cap: usize, r: Registers, p: &mut [u8], t: &mut [u8]) -> Progress
     requires { ⌜ ReadyOn cap r (now p) (now t) ⌝ }
     requires { ⌜ r .place < r .stop ⌝ }
-    ensures { λ a. ⌜ ((m : Module) → Acts cap r a (now (p .entry)) (now (t .entry)) (now (p .exit)) (now (t .exit)) (execIn m cap Tload)) ⌝ }
+    ensures { λ a. ⌜ ((m : Module) → ActsOrDefers cap r a (now (p .entry)) (now (t .entry)) (now (p .exit)) (now (t .exit)) (execIn m cap Tload)) ⌝ }
 {
     let h = r.height;
     if h < r.floor + 1 {
@@ -37,7 +37,7 @@ pub fn tload(cap: usize, r: Registers, p: &mut [u8], t: &mut [u8]) -> Progress
 pub fn tstore(cap: usize, r: Registers, p: &mut [u8], t: &[u8]) -> Progress
     requires { ⌜ ReadyOn cap r (now p) (now t) ⌝ }
     requires { ⌜ r .place < r .stop ⌝ }
-    ensures { λ a. ⌜ ((m : Module) → Acts cap r a (now (p .entry)) (now (t .entry)) (now (p .exit)) (now (t .entry)) (execIn m cap Tstore)) ⌝ }
+    ensures { λ a. ⌜ ((m : Module) → ActsOrDefers cap r a (now (p .entry)) (now (t .entry)) (now (p .exit)) (now (t .entry)) (execIn m cap Tstore)) ⌝ }
 {
     let h = r.height;
     if h < r.floor + 2 {

@@ -17,7 +17,7 @@ use Rattle.values.specs.declared.Value.{Value}
 use Rattle.values.specs.declared.Computed.{Computed}
 use Rattle.values.specs.declared.Computed.the-variants.{Yields, Raises}
 use Rattle.state.specs.Slots.{payloadsWith, typesWith}
-use Rattle.state.specs.State.{movedTo, Acts}
+use Rattle.state.specs.State.{movedTo, Acts, ActsOrDefers}
 use Rattle.state.specs.declared.Registers.{Registers}
 use Rattle.state.specs.declared.Progress.{Progress}
 use Rattle.state.specs.declared.Progress.the-variants.{Goes, Stops}
@@ -38,6 +38,10 @@ pub record Computable (r : Registers) (p t : List ℕ) : Type 0 where
 -- the code did what the rules say of i, in any module and for any capacity
 abbrev pub Executes : Instruction → Registers → Progress → List ℕ → List ℕ → List ℕ → List ℕ → Type 0
 Executes i r a p t p′ t′ = (m : Module) (cap : ℕ) → Acts cap r a p t p′ t′ (execIn m cap i)
+
+-- the same, or it left it to who has the heap
+abbrev pub ExecutesOrDefers : Instruction → Registers → Progress → List ℕ → List ℕ → List ℕ → List ℕ → Type 0
+ExecutesOrDefers i r a p t p′ t′ = (m : Module) (cap : ℕ) → ActsOrDefers cap r a p t p′ t′ (execIn m cap i)
 
 -- the code went on with h slots, x's payload written to slot i; or it stopped with x's exception
 abbrev pub Puts : Registers → ℕ → ℕ → Computed → Progress → List ℕ → List ℕ → Type 0
@@ -71,4 +75,4 @@ pub record Points (r : Registers) (p t : List ℕ) (i : ℕ) (a : Value) : Type 
 -- what `find` finds, for `inc` and `dec`
 abbrev pub Finds : Registers → List ℕ → List ℕ → Pointee → Type 0
 Finds r p t (At i a) = Points r p t i a
-Finds r p t (Nowhere e) = (u : Bool) → Executes (Bump u) r (Stops e) p t p t
+Finds r p t (Nowhere e) = (u : Bool) → ExecutesOrDefers (Bump u) r (Stops e) p t p t

@@ -1,9 +1,9 @@
-// `inc` and `dec`: of the number that the pointer on top names.
+// `inc` and `dec`: of the number that the pointer on top names, where that is a slot.
 ghost use mathlib.Core.Bool.{true, false};
 ghost use Prim.Native.Nat.{_+_, _-_, _*_, _<_, _≤_};
 ghost use lib.ListN.{length};
 ghost use Rattle.rules.specs.declared.Instruction.the-variants.{Bump};
-ghost use Rattle.operands.specs.Operands.{Computable, Executes, Puts, Finds};
+ghost use Rattle.operands.specs.Operands.{Computable, ExecutesOrDefers, Puts, Finds};
 use crate::exceptions::POINTER_NOTPOINTER;
 use crate::exceptions::POINTER_UNKNOWNADDRESS;
 use crate::exceptions::STACK_EMPTY;
@@ -54,7 +54,7 @@ fn put_back(r: Registers, i: usize, x: Computed, p: &mut [u8]) -> Progress
 // `inc`.
 pub fn inc(r: Registers, p: &mut [u8], t: &[u8]) -> Progress
     requires { ⌜ Computable r (now p) (now t) ⌝ }
-    ensures { λ a. ⌜ Executes (Bump true) r a (now (p .entry)) (now (t .entry)) (now (p .exit)) (now (t .entry)) ⌝ }
+    ensures { λ a. ⌜ ExecutesOrDefers (Bump true) r a (now (p .entry)) (now (t .entry)) (now (p .exit)) (now (t .entry)) ⌝ }
 {
     let found = find(r, p, t);
     match found {
@@ -66,7 +66,7 @@ pub fn inc(r: Registers, p: &mut [u8], t: &[u8]) -> Progress
 // `dec`.
 pub fn dec(r: Registers, p: &mut [u8], t: &[u8]) -> Progress
     requires { ⌜ Computable r (now p) (now t) ⌝ }
-    ensures { λ a. ⌜ Executes (Bump false) r a (now (p .entry)) (now (t .entry)) (now (p .exit)) (now (t .entry)) ⌝ }
+    ensures { λ a. ⌜ ExecutesOrDefers (Bump false) r a (now (p .entry)) (now (t .entry)) (now (p .exit)) (now (t .entry)) ⌝ }
 {
     let found = find(r, p, t);
     match found {

@@ -12,7 +12,7 @@ use borrow.Author.Tests.{eq-eqb, ne-eqb, eqb-true, eqb-false}
 use Rattle.rules.specs.declared.Num.the-variants.{Int as int, Long as long, Double as double}
 use Rattle.rules.specs.declared.Slot.{Slot}
 use Rattle.rules.specs.Bytes.{byte}
-use Rattle.rules.specs.Instructions.{Ty, num, ptr, tyOf}
+use Rattle.rules.specs.Instructions.{Ty, num, ptr, pointeeOf, tyOf}
 use Rattle.rules.specs.Tables.{paramsFrom}
 use Rattle.rules.specs.Stack.{slotAt, slotsOf}
 use Rattle.rules.specs.Answers.{declared, admitted}
@@ -33,25 +33,21 @@ module _ (b : ℕ) (v : Slot) where
 
   -- a double, or a pointer, for which there is no value
   pub suits-last : v .kind ≡ b → (b ≡ 3 → ⊥) → (b ≡ 4 → ⊥) → eqb b 6 ≡ suits (tyOf b) v
-  suits-last k n3 n4 = rw (ne-eqb b 3 n3, ne-eqb b 4 n4) (go (eqb b 6) (eqb b 131) (eqb b 132) refl)
+  suits-last k n3 n4 = rw (ne-eqb b 3 n3, ne-eqb b 4 n4) (go (eqb b 6) refl)
     where
-      go : (x y z : Bool) → eqb b 6 ≡ x → x ≡ suits (cond x (num double) (cond y (ptr int) (cond z (ptr long) (ptr double)))) v
-      go true y z e = rw (eq-eqb (v .kind) 6 (k ∙ eqb-true b 6 e)) refl
-      go false true z e = refl
-      go false false true e = refl
-      go false false false e = refl
+      go : (x : Bool) → eqb b 6 ≡ x → x ≡ suits (cond x (num double) (ptr (pointeeOf (b - 128)))) v
+      go true e = rw (eq-eqb (v .kind) 6 (k ∙ eqb-true b 6 e)) refl
+      go false e = refl
 
   pub suits-not : (v .kind ≡ b → ⊥) → false ≡ suits (tyOf b) v
-  suits-not k = go (eqb b 3) (eqb b 4) (eqb b 6) (eqb b 131) (eqb b 132) refl refl refl
+  suits-not k = go (eqb b 3) (eqb b 4) (eqb b 6) refl refl refl
     where
-      go : (x y z u w : Bool) → eqb b 3 ≡ x → eqb b 4 ≡ y → eqb b 6 ≡ z
-          → false ≡ suits (cond x (num int) (cond y (num long) (cond z (num double) (cond u (ptr int) (cond w (ptr long) (ptr double)))))) v
-      go true y z u w ex ey ez = rw (ne-eqb (v .kind) 3 (λ q. k (q ∙ sym (eqb-true b 3 ex)))) refl
-      go false true z u w ex ey ez = rw (ne-eqb (v .kind) 4 (λ q. k (q ∙ sym (eqb-true b 4 ey)))) refl
-      go false false true u w ex ey ez = rw (ne-eqb (v .kind) 6 (λ q. k (q ∙ sym (eqb-true b 6 ez)))) refl
-      go false false false true w ex ey ez = refl
-      go false false false false true ex ey ez = refl
-      go false false false false false ex ey ez = refl
+      go : (x y z : Bool) → eqb b 3 ≡ x → eqb b 4 ≡ y → eqb b 6 ≡ z
+          → false ≡ suits (cond x (num int) (cond y (num long) (cond z (num double) (ptr (pointeeOf (b - 128)))))) v
+      go true y z ex ey ez = rw (ne-eqb (v .kind) 3 (λ q. k (q ∙ sym (eqb-true b 3 ex)))) refl
+      go false true z ex ey ez = rw (ne-eqb (v .kind) 4 (λ q. k (q ∙ sym (eqb-true b 4 ey)))) refl
+      go false false true ex ey ez = rw (ne-eqb (v .kind) 6 (λ q. k (q ∙ sym (eqb-true b 6 ez)))) refl
+      go false false false ex ey ez = refl
 
 -- ---- all of them
 

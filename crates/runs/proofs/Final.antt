@@ -8,12 +8,17 @@ use lib.Seq.{take-add, getD-drop, length-take-le, take-suc, drop-drop}
 use Rattle.rules.specs.declared.RunAnswer.{RunAnswer}
 use Rattle.rules.specs.declared.RunAnswer.the-variants.{Stopped, Finished}
 use Rattle.rules.specs.Bytes.{bytes, word}
-use Rattle.rules.specs.Stack.{slotAt, slotsOf, payloadBytes, typeBytes, payloadsAfter, typesAfter}
+use Rattle.rules.specs.Stack.{Lent, slotAt, slotsOf, payloadBytes, typeBytes, payloadsAfter, typesAfter}
+use Rattle.rules.specs.Heap.{emptyHeap, LentHeap, cellsAfter, tableAfter}
 use Rattle.rules.specs.Machine.{Outcome, outcome}
 use Rattle.rules.specs.Answers.{answered, ran}
 use Rattle.memory.proofs.Copies.{word-bytes}
+use Rattle.heap.specs.Blocks.{bare, blocksOf}
+use Rattle.heap.specs.Changes.{Makes}
+use Rattle.heap.proofs.Lent.{Small, cells-shown, table-shown}
+use Rattle.state.specs.State.{memoryOf}
 use Rattle.state.proofs.Stack.{length-slots}
-use Rattle.runs.specs.Runs.{lentOf, slotsIn, clearedTo, ClosedAs}
+use Rattle.runs.specs.Runs.{lentOf, slotsIn, lentHeapOf, cellsIn, clearedTo, ClosedAs, LeavesAs, Empty, Emptied}
 
 module _ (p t : List ℕ) (small : (i : ℕ) → getD p i 0 < 256) where
   -- the memory's first bytes are those of its slots
@@ -55,7 +60,7 @@ module _ (p t : List ℕ) where
 module _ (p t p′ t′ : List ℕ) (small : (i : ℕ) → getD p i 0 < 256) (n k h cap : ℕ) (ec : cap ≡ slotsIn p t) (l : h ≤ cap)
     (ep : p′ ≡ clearedTo p (h * 8) (cap * 8)) (et : t′ ≡ clearedTo t h cap) where
   abbrev ending : Outcome
-  ending = outcome n k (record { stack = slotsOf p t h })
+  ending = outcome n k (memoryOf p t h)
 
   leaves : (r : RunAnswer) → r ≡ answered n (record { steps = k; height = h }) → ClosedAs ending p t p′ t′ r
   leaves r er =
@@ -63,9 +68,7 @@ module _ (p t p′ t′ : List ℕ) (small : (i : ℕ) → getD p i 0 < 256) (n 
       ep ∙ payloads-after p t small cap h l (omega (arith, capacity-payloads p t)) ∙ ap (λ c. payloadsAfter c (slotsOf p t h) p) ec in
       let b : t′ ≡ typesAfter (slotsIn p t) (slotsOf p t h) t =
       et ∙ types-after p t small cap h l (omega (arith, capacity-types p t)) ∙ ap (λ c. typesAfter c (slotsOf p t h) t) ec in
-      let z : r ≡ answered n (record { steps = k; height = length (slotsOf p t h) }) =
-      er ∙ ap (λ j. answered n (record { steps = k; height = j })) (sym (length-slots p t h)) in
-      λ i. record { answer = z i; stack = record { payloads = a i; types = b i } }
+      (er ∙ ap (λ j. answered n (record { steps = k; height = j })) (sym (length-slots p t h)), λ i. record { payloads = a i; types = b i })
 
   pub finished : n ≡ 0 → ClosedAs ending p t p′ t′ (Finished (record { steps = k; height = h }))
   finished e = leaves _ (rw e refl)
@@ -77,11 +80,48 @@ module _ (p t p′ t′ : List ℕ) (small : (i : ℕ) → getD p i 0 < 256) (n 
       more zero e = absurd (e refl)
       more (suc n) e = refl
 
--- what a run leaves depends on the capacity and on what lies past it
-pub leaves-of : (o : Outcome) (p t p′ t′ : List ℕ) (cap : ℕ) → cap ≡ slotsIn p t → length p′ ≡ length p → length t′ ≡ length t
-    → drop (cap * 8) p′ ≡ drop (cap * 8) p → drop cap t′ ≡ drop cap t → ran o (lentOf p′ t′) ≡ ran o (lentOf p t)
+-- ---- the lent heap
+
+-- with the slots
+pub joined : (o : Outcome) (p t c b p′ t′ c′ b′ : List ℕ) (r : RunAnswer) → ClosedAs o p t p′ t′ r → c′ ≡ cellsAfter (cellsIn c b) (o .memory .heap .blocks) c
+    → b′ ≡ tableAfter (cellsIn c b) (o .memory .heap .blocks) b → LeavesAs o p t c b p′ t′ c′ b′ r
+joined o p t c b p′ t′ c′ b′ r x ec eb = λ i. record { answer = x .0 i; stack = x .1 i; heap = record { cells = ec i; table = eb i } }
+
+-- that no block was taken from
+module _ (n : ℕ) (c b : List ℕ) (empty : Empty n c b) where
+  pub cells-blank : Small c → c ≡ cellsAfter n [] c
+  unfolding blocksOf
+  cells-blank small = cells-shown n bare [] c b (empty []) small
+
+  pub table-blank : Small b → b ≡ tableAfter n [] b
+  unfolding blocksOf
+  table-blank small = table-shown n bare [] c b (empty []) small
+
+pub emptied : (n : ℕ) (c b c′ b′ : List ℕ) → n ≡ cellsIn c b → ((d : List ℕ) → Makes n bare d c b c′ b′ (emptyHeap n)) → Emptied c b c′ b′
+emptied n c b c′ b′ e m =
+    record {
+      empty = rw (← e) (λ d. m d .sane);
+      past-cells = rw (← e) (m [] .past-cells);
+      past-table = rw (← e) (m [] .past-table);
+      same-cells = m [] .same-cells;
+      same-table = m [] .same-table;
+    }
+
+-- ---- what a run leaves depends on the capacities and on what lies past them
+
+pub stack-of : (o : Outcome) (p t p′ t′ : List ℕ) (y : LentHeap) (cap : ℕ) → cap ≡ slotsIn p t → length p′ ≡ length p → length t′ ≡ length t
+    → drop (cap * 8) p′ ≡ drop (cap * 8) p → drop cap t′ ≡ drop cap t → ran o (lentOf p′ t′) y ≡ ran o (lentOf p t) y
 unfolding payloadsAfter typesAfter
-leaves-of o p t p′ t′ cap ec lp lt dp dt = rw (lp, lt, ← ec, dp, dt) refl
+stack-of o p t p′ t′ y cap ec lp lt dp dt = rw (lp, lt, ← ec, dp, dt) refl
+
+pub heap-of : (o : Outcome) (x : Lent) (c b c′ b′ : List ℕ) → Emptied c b c′ b′ → ran o x (lentHeapOf c′ b′) ≡ ran o x (lentHeapOf c b)
+unfolding cellsAfter tableAfter
+heap-of o x c b c′ b′ e =
+    let n : ℕ = cellsIn c b in
+    let u : 8 * n ≡ n * 8 = omega arith in
+    let v : 24 * n ≡ n * 24 = omega arith in
+    let same : cellsIn c′ b′ ≡ n = rw (e .same-cells, e .same-table) refl in
+    rw same (rw (u, v, e .past-cells, e .past-table) refl)
 
 -- ---- clearing
 

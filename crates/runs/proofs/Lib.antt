@@ -3,3 +3,5 @@ pub mod Arguments
 pub mod Bodies
 pub mod Returns
 pub mod Resumed
+pub mod Over
+pub mod Waits

@@ -14,49 +14,52 @@ use Rattle.rules.specs.Instructions.{Ty}
 use Rattle.rules.specs.Tables.{bodyOf, functionAt, paramsFrom}
 use Rattle.rules.specs.ModuleFile.{refusal, read, functionsIn}
 use Rattle.rules.specs.Stack.{slotsOf}
+use Rattle.rules.specs.Heap.{emptyHeap}
 use Rattle.rules.specs.Machine.{Outcome, outcome, run}
 use Rattle.rules.specs.Typing.{startOf}
 use Rattle.rules.specs.Answers.{admitted, arguments, startState, outcomeOf, ran, runRefusal, runModule}
+use Rattle.soundness.specs.Framed.{withHeap}
 use Rattle.soundness.specs.Kinds.{start-kinds}
 use Rattle.format.specs.declared.Sections.{Sections}
 use Rattle.format.specs.Layout.{sectionsOf}
 use Rattle.reader.specs.declared.Opened.the-variants.{Refused}
 use Rattle.reader.specs.Answers.{answer, openedOf}
 use Rattle.reader.proofs.Opening.{opened-refused}
-use Rattle.state.specs.State.{stateOf, Ready}
+use Rattle.state.specs.State.{memoryOf, stateOf, Ready}
 use Rattle.state.specs.declared.Registers.{Registers}
+use Rattle.heap.proofs.Lent.{Small}
 use Rattle.state.proofs.Stack.{length-slots}
 use Rattle.control.specs.Control.{openedIn, firstAt}
 use Rattle.control.proofs.Frames.{state-first, ready-first}
 use Rattle.machine.specs.Ends.{Fits}
 use Rattle.runs.specs.declared.BodyRecord.{BodyRecord}
-use Rattle.runs.specs.Runs.{lentOf, slotsIn, ClosedAs, RunIs, Copied, BodyIs}
-use Rattle.runs.proofs.Final.{capacity-payloads, capacity-types, capacity-most, leaves-of}
+use Rattle.runs.specs.Runs.{lentOf, slotsIn, lentHeapOf, cellsIn, ClosedAs, LeavesAs, RunIs, Empty, Emptied, Copied, BodyIs}
+use Rattle.runs.proofs.Final.{capacity-payloads, capacity-types, capacity-most, joined, cells-blank, table-blank, stack-of, heap-of}
 use Rattle.runs.proofs.Arguments.{admitted-lengths}
 
--- the file s, the body's number f, the arguments a and b, the lent bytes p and t
-module _ (s : List ℕ) (f : ℕ) (a b p t : List ℕ) where
-  pub run-unread : (n k : ℕ) → Refused k ≡ openedOf s → RunIs s f a b n p t p t (Rejected k)
+-- the file s, the body's number f, the arguments a and b, the lent bytes p and t, c and h
+module _ (s : List ℕ) (f : ℕ) (a b p t c h : List ℕ) where
+  pub run-unread : (n k : ℕ) → Refused k ≡ openedOf s → RunIs s f a b n p t c h p t c h (Rejected k)
   unfolding runModule runRefusal
   run-unread n k q = go (refusal s) refl
     where
-      go : (r : ℕ) → refusal s ≡ r → RunIs s f a b n p t p t (Rejected k)
+      go : (r : ℕ) → refusal s ≡ r → RunIs s f a b n p t c h p t c h (Rejected k)
       go zero w =
           absurd (let g : Refused k ≡ answer zero (sectionsOf s) = q ∙ ap (λ (j : ℕ). answer j (sectionsOf s)) w in
           let z : _≡_ {A = ℕ} 0 1 = cc in omega arith)
       go (suc r) w = let e : k ≡ suc r = opened-refused s k q ∙ w in rw w (rw e refl)
 
-  pub run-12 : (n : ℕ) → refusal s ≡ 0 → startOf (read s) (bodyOf f) ≡ none → RunIs s f a b n p t p t (Rejected 12)
+  pub run-12 : (n : ℕ) → refusal s ≡ 0 → startOf (read s) (bodyOf f) ≡ none → RunIs s f a b n p t c h p t c h (Rejected 12)
   unfolding runModule runRefusal
   run-12 n readable e = rw (readable, e) refl
 
   -- ---- a body that is there
 
-  module _ (c : Sections) (g : BodyRecord) (is : BodyIs s c f g) where
+  module _ (l : Sections) (g : BodyRecord) (is : BodyIs s l f g) where
     abbrev params : List Ty
     params = paramsFrom (functionsIn s) (functionAt (g .body) + 10) (g .params)
 
-    pub run-13 : (n : ℕ) → refusal s ≡ 0 → (v : Bool) → v ≡ admitted params (lentOf a b) → v ≡ false → RunIs s f a b n p t p t (Rejected 13)
+    pub run-13 : (n : ℕ) → refusal s ≡ 0 → (v : Bool) → v ≡ admitted params (lentOf a b) → v ≡ false → RunIs s f a b n p t c h p t c h (Rejected 13)
     unfolding runModule runRefusal
     run-13 n readable v ev q = rw (readable, is .starts, sym ev ∙ q) refl
 
@@ -74,16 +77,28 @@ module _ (s : List ℕ) (f : ℕ) (a b p t : List ℕ) where
       count = length-slots a b (length b) ∙ lengths .0
 
       -- the run that the rules give
-      runs : (n : ℕ) → refusal s ≡ 0 → runModule s f (lentOf a b) n (lentOf p t) ≡ ran (outcomeOf (read s) (bodyOf f) held n cap) (lentOf p t)
+      runs : (n : ℕ) → refusal s ≡ 0
+          → runModule s f (lentOf a b) n (lentOf p t) (lentHeapOf c h) ≡ ran (outcomeOf (read s) (bodyOf f) held n cap (cellsIn c h)) (lentOf p t) (lentHeapOf c h)
       unfolding runModule runRefusal
       runs n readable = rw (readable, is .starts, fit, ec) refl
 
-      pub run-20 : (n : ℕ) → refusal s ≡ 0 → cap < g .params → (p′ t′ : List ℕ) (x : RunAnswer)
-          → ClosedAs (outcome 20 0 (record { stack = slotsOf p t 0 })) p t p′ t′ x → RunIs s f a b n p t p′ t′ x
-      unfolding outcomeOf slotsOf
-      run-20 n readable l p′ t′ x left =
-          let o : outcomeOf (read s) (bodyOf f) held n cap ≡ outcome 20 0 (record { stack = [] }) = rw (count, lt-leb (g .params) cap l) refl in
-          left ∙ ap (λ (y : Outcome). ran y (lentOf p t)) (sym o) ∙ sym (runs n readable)
+      -- the cells and the table are cleared to c₁ and h₁
+      module _ (c₁ h₁ : List ℕ) (clear : Emptied c h c₁ h₁) where
+        pub same-cells : cellsIn c₁ h₁ ≡ cellsIn c h
+        same-cells = rw (clear .same-cells, clear .same-table) refl
+
+        pub still-empty : Empty (cellsIn c₁ h₁) c₁ h₁
+        still-empty = rw same-cells (clear .empty)
+
+        pub run-20 : (n : ℕ) → refusal s ≡ 0 → cap < g .params → Small c₁ → Small h₁ → (p′ t′ : List ℕ) (x : RunAnswer)
+            → ClosedAs (outcome 20 0 (memoryOf p t 0)) p t p′ t′ x → RunIs s f a b n p t c h p′ t′ c₁ h₁ x
+        unfolding outcomeOf slotsOf
+        run-20 n readable less sc sh p′ t′ x closed =
+            let y : Outcome = outcome 20 0 (record { stack = []; heap = emptyHeap (cellsIn c h) }) in
+            let o : outcomeOf (read s) (bodyOf f) held n cap (cellsIn c h) ≡ y = rw (count, lt-leb (g .params) cap less) refl in
+            joined y p t c₁ h₁ p′ t′ c₁ h₁ x closed (cells-blank (cellsIn c₁ h₁) c₁ h₁ still-empty sc) (table-blank (cellsIn c₁ h₁) c₁ h₁ still-empty sh)
+            ∙ heap-of y (lentOf p t) c h c₁ h₁ clear
+            ∙ ap (λ (z : Outcome). ran z (lentOf p t) (lentHeapOf c h)) (sym o) ∙ sym (runs n readable)
 
       -- ---- arguments that fit
 
@@ -108,10 +123,11 @@ module _ (s : List ℕ) (f : ℕ) (a b p t : List ℕ) where
               (omega (arith, capacity-types p t, copied .same-types))
               (omega arith) enough (is .near))
 
-          start-is : stateOf r p₁ t₁ w′ ≡ startState (read s) (bodyOf f) held
-          start-is =
+          -- over n cells of heap
+          start-is : (n : ℕ) → withHeap (emptyHeap n) (stateOf r p₁ t₁ w′) ≡ startState (read s) (bodyOf f) held n
+          start-is n =
               rw (er, ew)
-              (state-first p₁ t₁ w (g .body) (g .start) (g .end) (g .params) (omega arith) (omega (arith, is .few))
+              (ap (withHeap (emptyHeap n)) (state-first p₁ t₁ w (g .body) (g .start) (g .end) (g .params) (omega arith) (omega (arith, is .few)))
               ∙ rw (is .starts, is .ends, is .named, count, copied .slots, ← lengths .0) refl)
 
           few-held : length held ≤ cap
@@ -122,19 +138,22 @@ module _ (s : List ℕ) (f : ℕ) (a b p t : List ℕ) where
           starts-fit readable =
               record {
                 ready = ready;
-                fit = rw start-is (start-kinds s f (lentOf a b) (rw (readable, is .starts, fit) refl) cap few-held);
+                fit = rw (start-is 0) (start-kinds s f (lentOf a b) (rw (readable, is .starts, fit) refl) cap 0 few-held);
               }
 
           pub same-slots : cap ≡ slotsIn p₁ t₁
           same-slots = rw (copied .same-payloads, copied .same-types) ec
 
-          pub run-over : (n : ℕ) → refusal s ≡ 0 → (p′ t′ : List ℕ) (x : RunAnswer) → ClosedAs (run (read s) cap n 0 (stateOf r p₁ t₁ w′)) p₁ t₁ p′ t′ x
-              → RunIs s f a b n p t p′ t′ x
+          pub run-over : (n : ℕ) → refusal s ≡ 0 → (c₁ h₁ : List ℕ) → Emptied c h c₁ h₁ → (p′ t′ c′ h′ : List ℕ) (x : RunAnswer)
+              → LeavesAs (run (read s) cap n 0 (withHeap (emptyHeap (cellsIn c₁ h₁)) (stateOf r p₁ t₁ w′))) p₁ t₁ c₁ h₁ p′ t′ c′ h′ x
+              → RunIs s f a b n p t c h p′ t′ c′ h′ x
           unfolding outcomeOf
-          run-over n readable p′ t′ x left =
-              let o : Outcome = run (read s) cap n 0 (stateOf r p₁ t₁ w′) in
-              let came : outcomeOf (read s) (bodyOf f) held n cap ≡ o = rw (le-leb (length held) cap few-held) (ap (run (read s) cap n 0) (sym start-is)) in
+          run-over n readable c₁ h₁ clear p′ t′ c′ h′ x left =
+              let o : Outcome = run (read s) cap n 0 (withHeap (emptyHeap (cellsIn c₁ h₁)) (stateOf r p₁ t₁ w′)) in
+              let came : outcomeOf (read s) (bodyOf f) held n cap (cellsIn c h) ≡ o =
+              rw (le-leb (length held) cap few-held) (ap (run (read s) cap n 0) (sym (start-is (cellsIn c h)) ∙ ap (λ (i : ℕ). withHeap (emptyHeap i) (stateOf r p₁ t₁ w′)) (sym (same-cells c₁ h₁ clear)))) in
               left
-              ∙ leaves-of o p t p₁ t₁ cap ec (copied .same-payloads) (copied .same-types) (copied .rest-payloads cap enough) (copied .rest-types cap enough)
-              ∙ ap (λ (y : Outcome). ran y (lentOf p t)) (sym came)
+              ∙ heap-of o (lentOf p₁ t₁) c h c₁ h₁ clear
+              ∙ stack-of o p t p₁ t₁ (lentHeapOf c h) cap ec (copied .same-payloads) (copied .same-types) (copied .rest-payloads cap enough) (copied .rest-types cap enough)
+              ∙ ap (λ (y : Outcome). ran y (lentOf p t) (lentHeapOf c h)) (sym came)
               ∙ sym (runs n readable)

@@ -1,4 +1,4 @@
-// The run of a body by number on lent arguments: refusals, the arguments in their slots, the first frame, the answer.
+// The run of a body by number on lent arguments: refusals, the arguments in their slots, the first frame, the heap, the answer.
 ghost use mathlib.Core.Path.{_≡_};
 ghost use Prim.Native.Nat.{_+_, _-_, _*_, _<_, _≤_, min};
 ghost use lib.ListN.{length, replicate};
@@ -6,11 +6,12 @@ ghost use Rattle.rules.specs.Answers as Answers;
 ghost use Rattle.rules.specs.Instructions.{tyOf};
 ghost use Rattle.rules.specs.Machine.{outcome};
 ghost use Rattle.rules.specs.Tables.{functionAt, paramsFrom};
-ghost use Rattle.rules.specs.ModuleFile.{edition, refusal, functionsIn};
-ghost use Rattle.rules.specs.Stack.{slotsOf};
+ghost use Rattle.rules.specs.ModuleFile.{edition, read, refusal, functionsIn};
 ghost use Rattle.format.specs.Layout.{Packed};
 ghost use Rattle.keys.specs.Keys.{Keyed};
-ghost use Rattle.runs.specs.Runs.{lentOf, slotsIn, clearedTo, ClosedAs, RunIs, Standing, RestIs, suits, Copied, FoundIs, Begins};
+ghost use Rattle.state.specs.State.{memoryOf};
+ghost use Rattle.machine.specs.Ends.{endWith, Fits};
+ghost use Rattle.runs.specs.Runs.{lentOf, slotsIn, cellsIn, clearedTo, ClosedAs, RunIs, Empty, Emptied, Standing, RestIs, RunsOver, isOver, suits, Copied, FoundIs, Begins};
 use format::Sections;
 use machine::Ended;
 use reader::Opened;
@@ -18,6 +19,7 @@ use reader::entries::FoundFunction;
 use rules::RunAnswer;
 use rules::Slot;
 use rules::Tally;
+use state::Progress;
 use state::Registers;
 
 const ENTRY: u32 = 0xffff_ffff;
@@ -44,6 +46,14 @@ fn capacity(p: &[u8], t: &[u8]) -> usize
     ensures { λ r. ⌜ r ≡ slotsIn (now (p .entry)) (now (t .entry)) ⌝ }
 {
     let whole = least(p.len() / 8, t.len());
+    least(whole, 4096)
+}
+
+// The smaller number of whole cells and entries, at most 4,096.
+fn heap_capacity(cells: &[u8], table: &[u8]) -> usize
+    ensures { λ r. ⌜ r ≡ cellsIn (now (cells .entry)) (now (table .entry)) ⌝ }
+{
+    let whole = least(cells.len() / 8, table.len() / 24);
     least(whole, 4096)
 }
 
@@ -75,7 +85,7 @@ fn close(
     t: &mut [u8],
 ) -> RunAnswer
     requires { ⌜ (cap ≡ slotsIn (now p) (now t)) × (height ≤ cap) ⌝ }
-    ensures { λ r. ⌜ ClosedAs (outcome number steps (record { stack = slotsOf (now (p .entry)) (now (t .entry)) height })) (now (p .entry)) (now (t .entry)) (now (p .exit)) (now (t .exit)) r ⌝ }
+    ensures { λ r. ⌜ ClosedAs (outcome number steps (memoryOf (now (p .entry)) (now (t .entry)) height)) (now (p .entry)) (now (t .entry)) (now (p .exit)) (now (t .exit)) r ⌝ }
 {
     clear_part(p, height * 8, cap * 8);
     clear_part(t, height, cap);
@@ -87,6 +97,14 @@ fn close(
         return RunAnswer::Finished(tally);
     }
     RunAnswer::Stopped(number, tally)
+}
+
+// Clears the lent heap, up to its capacity.
+fn clear_heap(cells: &mut [u8], table: &mut [u8])
+    ensures { λ r. ⌜ Emptied (now (cells .entry)) (now (table .entry)) (now (cells .exit)) (now (table .exit)) ⌝ }
+{
+    let size = heap_capacity(cells, table);
+    heap::blocks::start(cells, table, size);
 }
 
 // ---- arguments
@@ -187,6 +205,23 @@ fn find(file: &[u8], c: Sections, function: u32) -> FoundBody
 
 // ---- the run
 
+// Whether a run for which few words and no heap were at hand is over.
+fn is_over(number: u32) -> bool
+    ensures { λ r. ⌜ r ≡ isOver number ⌝ }
+{
+    if number == STACK_OVERFLOW {
+        return false;
+    }
+    let waits = machine::left(number);
+    !waits
+}
+
+fn ended(number: u32, rest: u64, last: Registers) -> Ended
+    ensures { λ e. ⌜ e ≡ endWith number rest last ⌝ }
+{
+    Ended { number, rest, last }
+}
+
 // Copies words, so that frames go on where more are lent.
 fn copy_words(from: &[u16], to: &mut [u16])
     requires { ⌜ length (now from) ≤ length (now to) ⌝ }
@@ -196,6 +231,54 @@ fn copy_words(from: &[u16], to: &mut [u16])
     while i < from.len() {
         to[i] = from[i];
         i += 1;
+    }
+}
+
+// The rest of a run over the heap, which has no blocks yet: the machine as far as it goes without the heap, then the instruction
+// that it left, and on.
+fn run_over(
+    file: &[u8],
+    c: Sections,
+    cap: usize,
+    size: usize,
+    e: Ended,
+    p: &mut [u8],
+    t: &mut [u8],
+    f: &mut [u16],
+    source: &[u8],
+    from: usize,
+    cells: &mut [u8],
+    table: &mut [u8],
+) -> Ended
+    requires { ⌜ Packed (now file) c × (refusal (now file) ≡ 0) × Keyed (now file) (now source) from ⌝ }
+    requires { ⌜ Fits (read (now file)) cap (e .last) (now p) (now t) (now f) × Empty size (now cells) (now table) × (length (now f) ≡ 1536) ⌝ }
+    ensures { λ g. ⌜ RunsOver (now (file .entry)) cap size (e .last) (e .rest) g (now (p .entry)) (now (t .entry)) (now (f .entry)) (now (cells .entry)) (now (table .entry)) (now (p .exit)) (now (t .exit)) (now (cells .exit)) (now (table .exit)) ⌝ }
+{
+    let mut shelf = [0u64; 4];
+    shelf[1] = 1;
+    let code = &source[from..];
+    let mut last = e.last;
+    let mut rest = e.rest;
+    loop {
+        let g = machine::run_from(file, c, cap, last, rest, p, t, f, source, from);
+        let waits = machine::left(g.number);
+        if !waits {
+            return g;
+        }
+        let r = g.last;
+        let a = access::step(file, c, code, cap, size, r, &mut shelf, p, t, cells, table);
+        match a {
+            Progress::Goes(q) => {
+                last = q;
+                rest = g.rest - 1;
+            }
+            Progress::Finishes(q) => {
+                return ended(0, g.rest - 1, q);
+            }
+            Progress::Stops(n) => {
+                return ended(n, g.rest, r);
+            }
+        }
     }
 }
 
@@ -211,13 +294,15 @@ fn finish(
     f: &mut [u16],
     source: &[u8],
     from: usize,
+    cells: &mut [u8],
+    table: &mut [u8],
 ) -> RunAnswer
     requires { ⌜ Packed (now file) c × (refusal (now file) ≡ 0) × Keyed (now file) (now source) from ⌝ }
-    requires { ⌜ Standing (now file) cap e allowance (now p) (now t) (now f) × (length (now f) ≡ 1536) ⌝ }
-    ensures { λ r. ⌜ RestIs (now (file .entry)) cap e allowance (now (p .entry)) (now (t .entry)) (now (f .entry)) (now (p .exit)) (now (t .exit)) r ⌝ }
+    requires { ⌜ Standing (now file) cap e allowance (now p) (now t) (now f) (now cells) (now table) × (length (now f) ≡ 1536) ⌝ }
+    ensures { λ r. ⌜ RestIs (now (file .entry)) cap e allowance (now (p .entry)) (now (t .entry)) (now (f .entry)) (now (cells .entry)) (now (table .entry)) (now (p .exit)) (now (t .exit)) (now (cells .exit)) (now (table .exit)) r ⌝ }
 {
-    let last = e.last;
-    let g = machine::run_from(file, c, cap, last, e.rest, p, t, f, source, from);
+    let size = heap_capacity(cells, table);
+    let g = run_over(file, c, cap, size, e, p, t, f, source, from, cells, table);
     close(g.number, allowance - g.rest, g.last.height, cap, p, t)
 }
 
@@ -231,18 +316,20 @@ fn finish_old(
     p: &mut [u8],
     t: &mut [u8],
     f: &mut [u16],
+    cells: &mut [u8],
+    table: &mut [u8],
 ) -> RunAnswer
     requires { ⌜ Packed (now file) c × (refusal (now file) ≡ 0) × (edition (now file) ≡ 1) ⌝ }
-    requires { ⌜ Standing (now file) cap e allowance (now p) (now t) (now f) × (length (now f) ≡ 1536) ⌝ }
-    ensures { λ r. ⌜ RestIs (now (file .entry)) cap e allowance (now (p .entry)) (now (t .entry)) (now (f .entry)) (now (p .exit)) (now (t .exit)) r ⌝ }
+    requires { ⌜ Standing (now file) cap e allowance (now p) (now t) (now f) (now cells) (now table) × (length (now f) ≡ 1536) ⌝ }
+    ensures { λ r. ⌜ RestIs (now (file .entry)) cap e allowance (now (p .entry)) (now (t .entry)) (now (f .entry)) (now (cells .entry)) (now (table .entry)) (now (p .exit)) (now (t .exit)) (now (cells .exit)) (now (table .exit)) r ⌝ }
 {
     let mut own = [0u8; 16384];
     let at = c.code;
     keys::edition1::translate(&file[at..], &mut own);
-    finish(file, c, cap, e, allowance, p, t, f, &own, 0)
+    finish(file, c, cap, e, allowance, p, t, f, &own, 0, cells, table)
 }
 
-// The rest of a run where a call found none left of the few words that were lent.
+// The rest of a run where a call found none left of the few words that were lent, or where the heap is needed.
 fn deeper(
     file: &[u8],
     c: Sections,
@@ -252,19 +339,34 @@ fn deeper(
     p: &mut [u8],
     t: &mut [u8],
     few: &[u16],
+    cells: &mut [u8],
+    table: &mut [u8],
 ) -> RunAnswer
     requires { ⌜ Packed (now file) c × (refusal (now file) ≡ 0) ⌝ }
-    requires { ⌜ Standing (now file) cap e allowance (now p) (now t) (now few) ⌝ }
-    ensures { λ r. ⌜ RestIs (now (file .entry)) cap e allowance (now (p .entry)) (now (t .entry)) (now (few .entry)) (now (p .exit)) (now (t .exit)) r ⌝ }
+    requires { ⌜ Standing (now file) cap e allowance (now p) (now t) (now few) (now cells) (now table) ⌝ }
+    ensures { λ r. ⌜ RestIs (now (file .entry)) cap e allowance (now (p .entry)) (now (t .entry)) (now (few .entry)) (now (cells .entry)) (now (table .entry)) (now (p .exit)) (now (t .exit)) (now (cells .exit)) (now (table .exit)) r ⌝ }
 {
     let mut f = [0u16; 1536];
     copy_words(few, &mut f);
     let edition = format::word(file, 0);
     if edition == 1 {
-        return finish_old(file, c, cap, e, allowance, p, t, &mut f);
+        return finish_old(file, c, cap, e, allowance, p, t, &mut f, cells, table);
     }
     let from = c.code;
-    finish(file, c, cap, e, allowance, p, t, &mut f, file, from)
+    finish(
+        file,
+        c,
+        cap,
+        e,
+        allowance,
+        p,
+        t,
+        &mut f,
+        file,
+        from,
+        cells,
+        table,
+    )
 }
 
 // The rest of a run of short code of edition 1, with the few words as long as they last.
@@ -277,24 +379,27 @@ fn run_old(
     p: &mut [u8],
     t: &mut [u8],
     few: &mut [u16],
+    cells: &mut [u8],
+    table: &mut [u8],
 ) -> RunAnswer
     requires { ⌜ Packed (now file) c × (refusal (now file) ≡ 0) × (edition (now file) ≡ 1) × (c .extent ≤ 512) ⌝ }
-    requires { ⌜ Standing (now file) cap e allowance (now p) (now t) (now few) ⌝ }
-    ensures { λ r. ⌜ RestIs (now (file .entry)) cap e allowance (now (p .entry)) (now (t .entry)) (now (few .entry)) (now (p .exit)) (now (t .exit)) r ⌝ }
+    requires { ⌜ Standing (now file) cap e allowance (now p) (now t) (now few) (now cells) (now table) ⌝ }
+    ensures { λ r. ⌜ RestIs (now (file .entry)) cap e allowance (now (p .entry)) (now (t .entry)) (now (few .entry)) (now (cells .entry)) (now (table .entry)) (now (p .exit)) (now (t .exit)) (now (cells .exit)) (now (table .exit)) r ⌝ }
 {
     let mut own = [0u8; 512];
     let at = c.code;
     keys::edition1::translate(&file[at..], &mut own);
     let last = e.last;
     let g = machine::run_from(file, c, cap, last, e.rest, p, t, few, &own, 0);
-    if g.number == 20 {
-        return deeper(file, c, cap, g, allowance, p, t, few);
+    let over = is_over(g.number);
+    if !over {
+        return deeper(file, c, cap, g, allowance, p, t, few, cells, table);
     }
     close(g.number, allowance - g.rest, g.last.height, cap, p, t)
 }
 
-// The rest of a run that is not edition 3's with few words. It is a function of its own for the compiler's sake: so the usual run
-// pays nothing for it.
+// The rest of a run that is not edition 3's with few words and no heap. It is a function of its own for the compiler's sake: so the
+// usual run pays nothing for it.
 fn run_rest(
     file: &[u8],
     c: Sections,
@@ -304,18 +409,20 @@ fn run_rest(
     p: &mut [u8],
     t: &mut [u8],
     few: &mut [u16],
+    cells: &mut [u8],
+    table: &mut [u8],
 ) -> RunAnswer
     requires { ⌜ Packed (now file) c × (refusal (now file) ≡ 0) ⌝ }
-    requires { ⌜ Standing (now file) cap e allowance (now p) (now t) (now few) ⌝ }
-    ensures { λ r. ⌜ RestIs (now (file .entry)) cap e allowance (now (p .entry)) (now (t .entry)) (now (few .entry)) (now (p .exit)) (now (t .exit)) r ⌝ }
+    requires { ⌜ Standing (now file) cap e allowance (now p) (now t) (now few) (now cells) (now table) ⌝ }
+    ensures { λ r. ⌜ RestIs (now (file .entry)) cap e allowance (now (p .entry)) (now (t .entry)) (now (few .entry)) (now (cells .entry)) (now (table .entry)) (now (p .exit)) (now (t .exit)) (now (cells .exit)) (now (table .exit)) r ⌝ }
 {
     let edition = format::word(file, 0);
     if edition == 1 {
         if c.extent <= 512 {
-            return run_old(file, c, cap, e, allowance, p, t, few);
+            return run_old(file, c, cap, e, allowance, p, t, few, cells, table);
         }
     }
-    deeper(file, c, cap, e, allowance, p, t, few)
+    deeper(file, c, cap, e, allowance, p, t, few, cells, table)
 }
 
 // The run of a body of a module that can be read.
@@ -328,9 +435,11 @@ fn run_opened(
     allowance: u64,
     p: &mut [u8],
     t: &mut [u8],
+    cells: &mut [u8],
+    table: &mut [u8],
 ) -> RunAnswer
     requires { ⌜ Packed (now file) c × (refusal (now file) ≡ 0) ⌝ }
-    ensures { λ r. ⌜ RunIs (now (file .entry)) function (now (args .entry)) (now (kinds .entry)) allowance (now (p .entry)) (now (t .entry)) (now (p .exit)) (now (t .exit)) r ⌝ }
+    ensures { λ r. ⌜ RunIs (now (file .entry)) function (now (args .entry)) (now (kinds .entry)) allowance (now (p .entry)) (now (t .entry)) (now (cells .entry)) (now (table .entry)) (now (p .exit)) (now (t .exit)) (now (cells .exit)) (now (table .exit)) r ⌝ }
 {
     let found = find(file, c, function);
     let FoundBody::Record(b) = found else {
@@ -341,6 +450,7 @@ fn run_opened(
     if !admitted {
         return RunAnswer::Rejected(ARGUMENTS_REFUSED);
     }
+    clear_heap(cells, table);
     let cap = capacity(p, t);
     if cap < n {
         return close(STACK_OVERFLOW, 0, 0, cap, p, t);
@@ -355,12 +465,13 @@ fn run_opened(
             rest: allowance,
             last: first,
         };
-        return run_rest(file, c, cap, e, allowance, p, t, &mut f);
+        return run_rest(file, c, cap, e, allowance, p, t, &mut f, cells, table);
     }
     let from = c.code;
     let e = machine::run_from(file, c, cap, first, allowance, p, t, &mut f, file, from);
-    if e.number == 20 {
-        return run_rest(file, c, cap, e, allowance, p, t, &mut f);
+    let over = is_over(e.number);
+    if !over {
+        return run_rest(file, c, cap, e, allowance, p, t, &mut f, cells, table);
     }
     close(e.number, allowance - e.rest, e.last.height, cap, p, t)
 }
@@ -374,8 +485,10 @@ pub fn run(
     allowance: u64,
     payloads: &mut [u8],
     types: &mut [u8],
+    heap: &mut [u8],
+    blocks: &mut [u8],
 ) -> RunAnswer
-    ensures { λ r. ⌜ RunIs (now (file .entry)) function (now («arg_payloads» .entry)) (now («arg_types» .entry)) allowance (now (payloads .entry)) (now (types .entry)) (now (payloads .exit)) (now (types .exit)) r ⌝ }
+    ensures { λ r. ⌜ RunIs (now (file .entry)) function (now («arg_payloads» .entry)) (now («arg_types» .entry)) allowance (now (payloads .entry)) (now (types .entry)) (now (heap .entry)) (now (blocks .entry)) (now (payloads .exit)) (now (types .exit)) (now (heap .exit)) (now (blocks .exit)) r ⌝ }
 {
     let opened = reader::open(file);
     match opened {
@@ -389,6 +502,8 @@ pub fn run(
             allowance,
             payloads,
             types,
+            heap,
+            blocks,
         ),
     }
 }

@@ -1,5 +1,6 @@
 -- Laws that instructions of one family share: too few operands, the slot that a pointer names, a slot that keeps its type.
-use Prim.Native.Nat.{ℕ, _+_, _*_, _≤_, _<_}
+use Prim.Native.Nat.{ℕ, _+_, _*_, _/_, _≤_, _<_}
+use native.Mathlib.Omega.{arith}
 use mathlib.Core.Path.{_≡_, refl, sym, ap, _∙_}
 use mathlib.Core.List.{List}
 use lib.ListN.{set}
@@ -13,15 +14,20 @@ use Rattle.rules.specs.declared.Instruction.the-variants.{One, Two}
 use Rattle.rules.specs.Bytes.{written}
 use Rattle.rules.specs.Tables.{Module}
 use Rattle.rules.specs.Stack.{slotAt, slotsOf}
-use Rattle.rules.specs.Machine.{execIn, Next, deref}
+use Rattle.rules.specs.Heap.{Heap, Spot, onStack, nullAddress, targetOf}
+use Rattle.rules.specs.Machine.{Memory, Next, keeping, execIn, deref}
+use Rattle.soundness.specs.Framed.{withHeap}
 use Rattle.state.specs.Slots.{payloadsWith, typesWith}
-use Rattle.state.specs.State.{stateOf, Ready, Does}
+use Rattle.state.specs.State.{stateOf, Ready, Does, DoesOver}
 use Rattle.state.specs.declared.Registers.{Registers}
 use Rattle.state.specs.declared.Progress.the-variants.{Stops}
-use Rattle.state.proofs.Stack.{at-slots, at-slots-out, take1-short, take2-short}
-use Rattle.state.proofs.Outcomes.{stopping}
+use Rattle.state.proofs.Stack.{at-slots, take1-short, take2-short}
+use Rattle.state.proofs.Outcomes.{stopping, stopping-over}
 
 module _ (cap : ℕ) (r : Registers) (p t f : List ℕ) (k : Ready cap r p t f) (m : Module) where
+  abbrev pub memoryOver : Heap → Memory
+  memoryOver g = keeping (stateOf r p t f .memory) g
+
   -- ---- too few operands
 
   pub one-21 : (o : Unary) → r .height < r .floor + 1 → Does cap r (Stops 21) p t f p t f (execIn m cap (One o) (stateOf r p t f))
@@ -34,16 +40,19 @@ module _ (cap : ℕ) (r : Registers) (p t f : List ℕ) (k : Ready cap r p t f) 
 
   -- ---- an instruction i that does j with the slot that w names, h slots being left
 
-  module _ (i : Instruction) (w : Slot) (h : ℕ) (j : ℕ → Slot → Next) (e : execIn m cap i (stateOf r p t f) ≡ deref w (slotsOf p t h) j) where
-    pub named-31 : (w .kind ≡ 7 → ⊥) → Does cap r (Stops 31) p t f p t f (execIn m cap i (stateOf r p t f))
-    named-31 ne = stopping cap r p t f k 31 _ (e ∙ rw (ne-eqb (w .kind) 7 ne) refl)
+  module _ (i : Instruction) (w : Slot) (h : ℕ) (j : Memory → Spot → Slot → Next)
+      (e : (g : Heap) → execIn m cap i (withHeap g (stateOf r p t f)) ≡ deref m (memoryOver g) w (slotsOf p t h) (j (memoryOver g))) where
+    pub named-31 : (w .kind ≡ 7 → ⊥) → DoesOver cap r (Stops 31) p t f p t f (execIn m cap i)
+    named-31 ne = stopping-over cap r p t f k 31 (execIn m cap i) (λ g. e g ∙ rw (ne-eqb (w .kind) 7 ne) refl)
 
-    module _ (is : w .kind ≡ 7) where
-      pub named-33 : h ≤ w .payload → Does cap r (Stops 33) p t f p t f (execIn m cap i (stateOf r p t f))
-      named-33 out = stopping cap r p t f k 33 _ (e ∙ rw (eq-eqb (w .kind) 7 is, at-slots-out p t h (w .payload) out) refl)
-
-      pub named : w .payload < h → execIn m cap i (stateOf r p t f) ≡ j (w .payload) (slotAt p t (w .payload))
-      named below = e ∙ rw (eq-eqb (w .kind) 7 is, at-slots p t h (w .payload) below) refl
+    -- over every heap it is a slot
+    pub named : w .kind ≡ 7 → w .payload < h → h ≤ r .height
+        → (g : Heap) → execIn m cap i (withHeap g (stateOf r p t f)) ≡ j (memoryOver g) (onStack (w .payload)) (slotAt p t (w .payload))
+    unfolding targetOf
+    named is below left g =
+        let low : w .payload / 65536 ≡ 0 = omega (arith, k .small, k .high) in
+        let given : w .payload ≡ nullAddress → ⊥ = λ q. omega (arith, k .small, k .high) in
+        e g ∙ rw (eq-eqb (w .kind) 7 is, ne-eqb (w .payload) nullAddress given, eq-eqb (w .payload / 65536) 0 low, at-slots p t h (w .payload) below) refl
 
 -- ---- a slot that keeps its type: its type byte need not be written
 

@@ -7,10 +7,12 @@ use lib.ListN.{length, getD, drop, length-set}
 use lib.Seq.{drop-set-lt}
 use Rattle.rules.specs.declared.Slot.{Slot}
 use Rattle.rules.specs.Stack.{slotsOf, put}
-use Rattle.rules.specs.Machine.{State, goto, bind, becomes, Next, stops}
+use Rattle.rules.specs.Heap.{Heap, emptyHeap}
+use Rattle.rules.specs.Machine.{State, goto, bind, becomes, Next, goes, stops, finishes}
+use Rattle.soundness.specs.Framed.{withHeap, onto}
 use Rattle.memory.proofs.Words.{drop-written, length-written}
 use Rattle.state.specs.Slots.{payloadsWith, typesWith}
-use Rattle.state.specs.State.{callersOf, depthOf, topOf, stateOf, movedTo, boundTo, boundIn, Ready, Does}
+use Rattle.state.specs.State.{callersOf, depthOf, topOf, stateOf, movedTo, boundTo, boundIn, Ready, Does, SameOver, DoesOver, Defers}
 use Rattle.state.specs.declared.Registers.{Registers}
 use Rattle.state.specs.declared.Progress.the-variants.{Goes, Stops}
 use Rattle.state.proofs.Stack.{slots-push, slots-put}
@@ -19,6 +21,19 @@ use Rattle.state.proofs.Locals.{Alike, callers-alike, waiting-alike, le
 -- the state at another place, with another stack
 abbrev pub shifted : State → ℕ → List Slot → Next
 shifted s q st = becomes (s .memory) st (goto q (s .top)) (s .callers)
+
+-- what does the same over every heap, y but for the heap
+pub over-every : (e : State → Next) (s : State) (y : Next) → ((g : Heap) → e (withHeap g s) ≡ onto g y) → SameOver e s
+over-every e s y q g = q g ∙ sym (ap (onto g) (q (s .memory .heap)) ∙ twice y)
+  where
+    twice : (x : Next) → onto g (onto (s .memory .heap) x) ≡ onto g x
+    twice (goes s′) = refl
+    twice (stops n) = refl
+    twice (finishes M) = refl
+
+-- left to who has the heap
+pub deferring : (p t : List ℕ) → Defers (Stops 33) p t p t
+deferring p t = record { stops-with = refl; keeps-payloads = refl; keeps-types = refl }
 
 pub ready-moved : {cap : ℕ} {r : Registers} {p t f p′ t′ : List ℕ} (q h : ℕ) → Ready cap r p t f → length p′ ≡ length p → length t′ ≡ length t
     → h ≤ cap → r .floor ≤ h → Ready cap (movedTo r q h) p′ t′ f
@@ -43,6 +58,10 @@ module _ (cap : ℕ) (r : Registers) (p t f : List ℕ) (k : Ready cap r p t f) 
   pub stopping : (e : ℕ) (x : Next) → x ≡ stops e → Does cap r (Stops e) p t f p t f x
   stopping e x q =
       record { result = sym q; unchanged = refl; ready = k; rest-payloads = refl; rest-types = refl; same-payloads = refl; same-types = refl }
+
+  -- over every heap
+  pub stopping-over : (n : ℕ) (e : State → Next) → ((g : Heap) → e (withHeap g (stateOf r p t f)) ≡ stops n) → DoesOver cap r (Stops n) p t f p t f e
+  stopping-over n e q = (stopping n _ (q (emptyHeap 0)), over-every e (stateOf r p t f) (stops n) q)
 
   -- the place changes, and the stack loses its top slots down to h
   pub dropping : (q h : ℕ) (x : Next) → h ≤ r .height → r .floor ≤ h → x ≡ shifted (stateOf r p t f) q (slotsOf p t h)

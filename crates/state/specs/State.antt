@@ -8,7 +8,9 @@ use lib.ListN.{length, getD, set, drop}
 use lib.Dec.{eqb}
 use Rattle.rules.specs.Tables.{Body, entry, fn}
 use Rattle.rules.specs.Stack.{slotsOf}
-use Rattle.rules.specs.Machine.{Frame, State, Next, goes, stops, finishes}
+use Rattle.rules.specs.Heap.{Heap, emptyHeap}
+use Rattle.rules.specs.Machine.{Frame, Memory, State, Next, goes, stops, finishes}
+use Rattle.soundness.specs.Framed.{withHeap, onto}
 use Rattle.state.specs.declared.Registers.{Registers}
 use Rattle.state.specs.declared.Progress.{Progress}
 use Rattle.state.specs.declared.Progress.the-variants.{Goes, Finishes, Stops}
@@ -58,14 +60,17 @@ topOf r f =
       locals = localsOf f (r .frame) (getD f (r .frame + 3) 0);
     }
 
--- p payload bytes, t type bytes, f frames
+-- n slots over no heap
+abbrev pub memoryOf : List ℕ → List ℕ → ℕ → Memory
+memoryOf p t n = record { stack = slotsOf p t n; heap = emptyHeap 0 }
+
+-- p payload bytes, t type bytes, f frames; over no heap
 abbrev pub stateOf : Registers → List ℕ → List ℕ → List ℕ → State
-stateOf r p t f =
-    record { memory = record { stack = slotsOf p t (r .height) }; top = topOf r f; callers = callersOf f (depthOf r) }
+stateOf r p t f = record { memory = memoryOf p t (r .height); top = topOf r f; callers = callersOf f (depthOf r) }
 
 abbrev pub nextOf : Progress → List ℕ → List ℕ → List ℕ → Next
 nextOf (Goes q) p t f = goes (stateOf q p t f)
-nextOf (Finishes q) p t f = finishes (record { stack = slotsOf p t (q .height) })
+nextOf (Finishes q) p t f = finishes (memoryOf p t (q .height))
 nextOf (Stops e) p t f = stops e
 
 -- ---- what holds between instructions
@@ -124,6 +129,28 @@ ReadyOn cap r p t = (f : List ℕ) × Ready cap r p t f
 -- the code did what e says of the state, whatever the frames
 abbrev pub Acts : ℕ → Registers → Progress → List ℕ → List ℕ → List ℕ → List ℕ → (State → Next) → Type 0
 Acts cap r a p t p′ t′ e = (f : List ℕ) → Ready cap r p t f → Does cap r a p t f p′ t′ f (e (stateOf r p t f))
+
+-- ---- heaps
+
+-- e does over every heap what it does over that of the state
+abbrev pub SameOver : (State → Next) → State → Type 0
+SameOver e s = (h : Heap) → e (withHeap h s) ≡ onto h (e s)
+
+-- the code did what e says of the state, over no heap and hence over every heap
+abbrev pub DoesOver : ℕ → Registers → Progress → List ℕ → List ℕ → List ℕ → List ℕ → List ℕ → List ℕ → (State → Next) → Type 0
+DoesOver cap r a p t f p′ t′ f′ e = Does cap r a p t f p′ t′ f′ (e (stateOf r p t f)) × SameOver e (stateOf r p t f)
+
+-- the instruction is left to who has the heap; nothing changed
+pub record Defers (a : Progress) (p t p′ t′ : List ℕ) : Type 0 where
+  pub stops-with : a ≡ Stops 33
+  pub keeps-payloads : p′ ≡ p
+  pub keeps-types : t′ ≡ t
+
+-- the code did what e says of the state, whatever the frames and the heap, or left it
+abbrev pub ActsOrDefers : ℕ → Registers → Progress → List ℕ → List ℕ → List ℕ → List ℕ → (State → Next) → Type 0
+ActsOrDefers cap r a p t p′ t′ e = (f : List ℕ) → Ready cap r p t f → DoesOver cap r a p t f p′ t′ f e ⊎ Defers a p t p′ t′
+
+-- ---- words
 
 -- the code found no words for another frame, and fewer than 64 are lent; nothing changed
 pub record Lacks (a : Progress) (p t f p′ t′ f′ : List ℕ) : Type 0 where

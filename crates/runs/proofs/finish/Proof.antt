@@ -1,24 +1,25 @@
--- The proof of `runs::finish`.
+use Rattle.runs.proofs.Resumed.{finished-over}
 use native.Mathlib.Omega.{arith}
-use Rattle.runs.proofs.Resumed.{still, closed-over}
 use borrow.Author.Needs.{needs}
 use Rattle.runs.proofs.finish.Statement.{statement}
 use Rattle.runs.proofs.finish.Tie as tie
+use Rattle.runs.proofs.finish.Reads as reads
+use Rattle.runs.proofs.finish.Lts as lts
+use Rattle.runs.proofs.close.Reads as close-reads
+use Rattle.runs.proofs.heap_capacity.Reads as heap-capacity-reads
+use Rattle.runs.proofs.run_over.Reads as run-over-reads
 
-run-from-requires : tie.Need-run-from-requires
-run-from-requires c κs = search needs
+heap-capacity-requires : tie.Need-heap-capacity-requires
+heap-capacity-requires c κs = search needs
+
+run-over-requires : tie.Need-run-over-requires
+run-over-requires c κs = ((c .before .before .before .before .before .before .before .before .before .before .before .before .before .before .before .pre) .0, ((c .before .before .before .before .before .before .before .before .before .before .before .before .before .before .before .pre) .1 .0 .fits, rw ((c .before .before .before .before .before .heap-capacity) .ensures) ((c .before .before .before .before .before .before .before .before .before .before .before .before .before .before .before .pre) .1 .0 .empty), (c .before .before .before .before .before .before .before .before .before .before .before .before .before .before .before .pre) .1 .1))
 
 sub-close : tie.Need-sub-close
-sub-close c =
-    let at-run-from = c .before .before .before .before .before .before .before in
-    let start = at-run-from .before .before .before .before .before .before .before .before .before .before in
-    omega (arith, at-run-from .run-from .ensures .left, start .pre .1 .0 .left)
+sub-close c = omega (arith, (c .before .before .before .before .before .before .before .before .before .before .before .run-over) .ensures .left, (c .before .before .before .before .before .before .before .before .before .before .before .before .before .before .before .before .before .before .before .before .before .before .before .before .before .before .before .pre) .1 .0 .left)
 
 close-requires : tie.Need-close-requires
-close-requires c κs =
-    let at-run-from = c .before .before .before .before .before .before .before .before .before in
-    let start = at-run-from .before .before .before .before .before .before .before .before .before .before in
-    (still _ _ _ _ _ _ _ _ _ _ _ (start .pre .1 .0 .slots) (at-run-from .run-from .ensures), at-run-from .run-from .ensures .high)
+close-requires c κs = (rw ((c .before .before .before .before .before .before .before .before .before .before .before .before .before .run-over) .ensures .same-payloads, (c .before .before .before .before .before .before .before .before .before .before .before .before .before .run-over) .ensures .same-types) ((c .before .before .before .before .before .before .before .before .before .before .before .before .before .before .before .before .before .before .before .before .before .before .before .before .before .before .before .before .before .pre) .1 .0 .slots), (c .before .before .before .before .before .before .before .before .before .before .before .before .before .run-over) .ensures .high)
 
 same-length : tie.Need-same-length
 same-length c = search needs
@@ -29,21 +30,26 @@ same-length-2 c = search needs
 same-length-3 : tie.Need-same-length-3
 same-length-3 c = search needs
 
+same-length-4 : tie.Need-same-length-4
+same-length-4 c = search needs
+
+same-length-5 : tie.Need-same-length-5
+same-length-5 c = search needs
+
 returns : tie.Need-returns
-returns c =
-    let at-close = c .before .before .before .before in
-    let at-run-from = at-close .before .before .before .before .before .before .before .before .before .before in
-    let start = at-run-from .before .before .before .before .before .before .before .before .before .before in
-    closed-over _ _ _ _ _ _ _ _ _ _ _ (start .pre .1 .0 .slots) (at-run-from .run-from .ensures) _ _ _ _ _ (omega (arith, at-run-from .run-from .ensures .left, start .pre .1 .0 .left)) (λ q. omega (arith, start .pre .1 .1)) (at-close .close .ensures)
+returns c = finished-over _ _ _ ((c .before .before .before .before .before .before .before .before .before .before .before .before .before .before .before .before .before .before .before .before .before .before .before .before .before .before .before .before .before .before .before .before .before .before .args) .e) _ _ _ _ _ _ _ _ _ _ _ ((c .before .before .before .before .before .before .before .before .before .before .before .before .before .before .before .before .before .before .before .before .before .before .before .before .before .before .before .before .before .before .before .before .before .before .pre) .1 .0 .slots) ((c .before .before .before .before .before .before .before .before .before .before .before .before .before .before .before .before .before .before .before .before .before .before .before .before .heap-capacity) .ensures) ((c .before .before .before .before .before .before .before .before .before .before .before .before .before .before .before .before .before .before .before .before .before .before .before .before .before .before .before .before .before .before .before .before .before .before .pre) .1 .0 .left) ((c .before .before .before .before .before .before .before .before .before .before .before .before .before .before .before .before .before .before .run-over) .ensures) _ _ _ ((c .before .before .before .before .close) .ensures)
 
 pub finish-spec : {M : Type 1} → statement M
 finish-spec =
     tie.close
     (tie.spec
-    run-from-requires
+    heap-capacity-requires
+    run-over-requires
     sub-close
     close-requires
     same-length
     same-length-2
     same-length-3
+    same-length-4
+    same-length-5
     returns)

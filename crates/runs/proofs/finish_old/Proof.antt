@@ -1,8 +1,13 @@
--- The proof of `runs::finish_old`.
+use Rattle.runs.proofs.Waits.{old-structures}
 use Rattle.runs.proofs.Resumed.{lent-old}
+use native.Mathlib.Omega.{arith}
 use borrow.Author.Needs.{needs}
 use Rattle.runs.proofs.finish_old.Statement.{statement}
 use Rattle.runs.proofs.finish_old.Tie as tie
+use Rattle.runs.proofs.finish_old.Reads as reads
+use Rattle.runs.proofs.finish_old.Lts as lts
+use Rattle.keys.proofs.edition1.translate.Reads as translate-reads
+use Rattle.runs.proofs.finish.Reads as finish-reads
 
 sub-translate : tie.Need-sub-translate
 sub-translate c = search needs
@@ -17,16 +22,13 @@ slice-aggregate-translate : tie.Need-slice-aggregate-translate
 slice-aggregate-translate c = search needs
 
 translate-requires : tie.Need-translate-requires
-translate-requires c κs = search needs
+translate-requires c κs = omega (arith, (c .before .before .before .before .before .before .before .before .pre) .0 .0 .whole, (c .before .before .before .before .before .before .before .before .pre) .0 .0 .little-code, (c .before .before .before .before .before .before .before .before .pre) .0 .0 .code-is, old-structures _ _ ((c .before .before .before .before .before .before .before .before .pre) .0 .0) ((c .before .before .before .before .before .before .before .before .pre) .0 .2))
 
 slice-aggregate-finish : tie.Need-slice-aggregate-finish
 slice-aggregate-finish c = search needs
 
 finish-requires : tie.Need-finish-requires
-finish-requires c κs =
-    let at-translate = c .before .before .before .before .before in
-    let start = at-translate .before .before .before .before .before .before .before in
-    ((start .pre .0 .0, start .pre .0 .1, lent-old _ (start .pre .0 .1) _ (start .pre .0 .0 .code-is) (start .pre .0 .2) (at-translate .translate .ensures)), start .pre .1)
+finish-requires c κs = (((c .before .before .before .before .before .before .before .before .before .before .before .before .before .before .before .before .pre) .0 .0, (c .before .before .before .before .before .before .before .before .before .before .before .before .before .before .before .before .pre) .0 .1, lent-old _ ((c .before .before .before .before .before .before .before .before .before .before .before .before .before .before .before .before .pre) .0 .1) _ ((c .before .before .before .before .before .before .before .before .before .before .before .before .before .before .before .before .pre) .0 .0 .code-is) ((c .before .before .before .before .before .before .before .before .before .before .before .before .before .before .before .before .pre) .0 .2) ((c .before .before .before .before .before .before .before .translate) .ensures)), (c .before .before .before .before .before .before .before .before .before .before .before .before .before .before .before .before .pre) .1)
 
 same-length : tie.Need-same-length
 same-length c = search needs
@@ -36,6 +38,12 @@ same-length-2 c = search needs
 
 same-length-3 : tie.Need-same-length-3
 same-length-3 c = search needs
+
+same-length-4 : tie.Need-same-length-4
+same-length-4 c = search needs
+
+same-length-5 : tie.Need-same-length-5
+same-length-5 c = search needs
 
 returns : tie.Need-returns
 returns c = search needs
@@ -54,4 +62,6 @@ finish-old-spec =
     same-length
     same-length-2
     same-length-3
+    same-length-4
+    same-length-5
     returns)

@@ -1,10 +1,13 @@
--- The proof of `runs::run`.
+use Rattle.runs.proofs.Returns.{run-unread}
+use Rattle.reader.proofs.Opening.{opened-sections, opened-packed}
 use mathlib.Core.Path.{sym, _∙_}
 use borrow.Author.Needs.{needs}
-use Rattle.reader.proofs.Opening.{opened-sections, opened-packed}
-use Rattle.runs.proofs.Returns.{run-unread}
 use Rattle.runs.proofs.run.Statement.{statement}
 use Rattle.runs.proofs.run.Tie as tie
+use Rattle.runs.proofs.run.Reads as reads
+use Rattle.runs.proofs.run.Lts as lts
+use Rattle.reader.proofs.open.Reads as open-reads
+use Rattle.runs.proofs.run_opened.Reads as run-opened-reads
 
 open-requires : tie.Need-open-requires
 open-requires c κs = search needs
@@ -16,22 +19,22 @@ enum-known-opened-2 : tie.Need-enum-known-opened-2
 enum-known-opened-2 c = search needs
 
 run-opened-requires : tie.Need-run-opened-requires
-run-opened-requires c κs =
-    let at-opened2 = c .before .before .before in
-    let at-open = at-opened2 .before .before in
-    let module-is = sym (at-opened2 .opened2 .given .1) ∙ at-open .«open» .ensures in
-    (opened-packed _ _ module-is, opened-sections _ _ module-is .0)
+run-opened-requires c κs = (opened-packed _ _ (sym ((c .before .before .before .before .before .opened2) .given .1) ∙ (c .before .before .before .before .before .before .before .«open») .ensures), opened-sections _ _ (sym ((c .before .before .before .before .before .opened2) .given .1) ∙ (c .before .before .before .before .before .before .before .«open») .ensures) .0)
 
 returns : tie.Need-returns
-returns c =
-    let at-open = c .before .before .before in
-    run-unread _ _ _ _ _ _ _ _ (sym (c .before .opened .given .1) ∙ at-open .«open» .ensures)
+returns c = run-unread _ _ _ _ _ _ _ _ _ _ (sym ((c .before .opened) .given .1) ∙ (c .before .before .before .«open») .ensures)
 
 same-length : tie.Need-same-length
 same-length c = search needs
 
 same-length-2 : tie.Need-same-length-2
 same-length-2 c = search needs
+
+same-length-3 : tie.Need-same-length-3
+same-length-3 c = search needs
+
+same-length-4 : tie.Need-same-length-4
+same-length-4 c = search needs
 
 returns-2 : tie.Need-returns-2
 returns-2 c = search needs
@@ -47,4 +50,6 @@ run-spec =
     returns
     same-length
     same-length-2
+    same-length-3
+    same-length-4
     returns-2)

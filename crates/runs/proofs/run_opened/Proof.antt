@@ -1,14 +1,27 @@
--- The proof of `runs::run_opened`.
-use Prim.Native.Nat.{_-_}
-use native.Mathlib.Omega.{arith}
-use mathlib.Core.Path.{_≡_, refl, _∙_}
-use borrow.Author.Tests.{not-true, not-false}
-use Rattle.keys.proofs.Files.{third-keyed}
+use Rattle.runs.proofs.Waits.{waits, no-overflow, not-left, long-enough}
+use Rattle.runs.proofs.Returns.{run-12, run-13, run-20, room, starts-fit, same-slots, run-over, still-empty}
 use Rattle.runs.proofs.Resumed.{still, closed-over, closed-deeper}
-use Rattle.runs.proofs.Returns.{run-12, run-13, run-20, room, starts-fit, same-slots, run-over}
+use Rattle.keys.proofs.Files.{file-keyed}
+use borrow.Author.Tests.{not-true, not-false}
+use mathlib.Core.Path.{_≡_, refl, _∙_}
+use native.Mathlib.Omega.{arith}
+use Prim.Native.Nat.{_-_}
 use borrow.Author.Needs.{needs}
 use Rattle.runs.proofs.run_opened.Statement.{statement}
 use Rattle.runs.proofs.run_opened.Tie as tie
+use Rattle.runs.proofs.run_opened.Reads as reads
+use Rattle.runs.proofs.run_opened.Lts as lts
+use Rattle.control.proofs.calls.first_frame.Reads as first-frame-reads
+use Rattle.format.proofs.word.Reads as word-reads
+use Rattle.machine.proofs.run_from.Reads as run-from-reads
+use Rattle.runs.proofs.admits.Reads as admits-reads
+use Rattle.runs.proofs.capacity.Reads as capacity-reads
+use Rattle.runs.proofs.clear_heap.Reads as clear-heap-reads
+use Rattle.runs.proofs.close.Reads as close-reads
+use Rattle.runs.proofs.copy_arguments.Reads as copy-arguments-reads
+use Rattle.runs.proofs.find.Reads as find-reads
+use Rattle.runs.proofs.is_over.Reads as is-over-reads
+use Rattle.runs.proofs.run_rest.Reads as run-rest-reads
 
 find-requires : tie.Need-find-requires
 find-requires c κs = search needs
@@ -20,22 +33,16 @@ enum-told : tie.Need-enum-told
 enum-told c = search needs
 
 returns : tie.Need-returns
-returns c =
-    let start = c .before .before .before .before .before .before .before .before in
-    run-12 _ _ _ _ _ _ _ (start .pre .1) (rw (c .enum-told .given .1) at (c .before .before .find .ensures))
+returns c = run-12 _ _ _ _ _ _ _ _ _ ((c .before .before .before .before .before .before .before .before .before .before .pre) .1) (rw ((c .enum-told) .given .1) at ((c .before .before .find) .ensures))
 
 admits-requires : tie.Need-admits-requires
-admits-requires c κs =
-    let at-find = c .before .before .before in
-    let start = at-find .before .before .before .before .before .before in
-    let is = rw (c .before .found .given .1) at (at-find .find .ensures) in (start .pre .0, is .few, is .declares)
+admits-requires c κs = let is = (rw ((c .before .found) .given .1) at ((c .before .before .before .find) .ensures)) in ((c .before .before .before .before .before .before .before .before .before .before .before .pre) .0, is .few, is .declares)
 
 returns-2 : tie.Need-returns-2
-returns-2 c =
-    let at-found = c .before .before .before in
-    let at-find = at-found .before .before in
-    let start = at-find .before .before .before .before .before .before in
-    run-13 _ _ _ _ _ _ _ (at-found .found .given .0 .0) (rw (at-found .found .given .1) at (at-find .find .ensures)) _ (start .pre .1) _ (c .before .admits .ensures) (not-true _ (c .if1 .taken))
+returns-2 c = run-13 _ _ _ _ _ _ _ _ _ ((c .before .before .before .found) .given .0 .0) (rw ((c .before .before .before .found) .given .1) at ((c .before .before .before .before .before .find) .ensures)) _ ((c .before .before .before .before .before .before .before .before .before .before .before .before .before .pre) .1) _ ((c .before .admits) .ensures) (not-true _ ((c .if1) .taken))
+
+clear-heap-requires : tie.Need-clear-heap-requires
+clear-heap-requires c κs = search needs
 
 capacity-requires : tie.Need-capacity-requires
 capacity-requires c κs = search needs
@@ -49,189 +56,98 @@ same-length c = search needs
 same-length-2 : tie.Need-same-length-2
 same-length-2 c = search needs
 
-returns-3 : tie.Need-returns-3
-returns-3 c =
-    let at-close = c .before .before .before .before in
-    let at-if2 = at-close .before .before .before in
-    let at-capacity = at-if2 .before in
-    let at-if1 = at-capacity .before .before .before in
-    let at-admits = at-if1 .before in
-    let at-found = at-admits .before .before in
-    let at-find = at-found .before .before in
-    let start = at-find .before .before .before .before .before .before in
-    run-20 _ _ _ _ _ _ _ (at-found .found .given .0 .0) (rw (at-found .found .given .1) at (at-find .find .ensures)) _ (at-admits .admits .ensures) (not-false _ (at-if1 .if1 .left)) _ (at-capacity .capacity .ensures) _ (start .pre .1) (at-if2 .if2 .taken) _ _ _ (at-close .close .ensures)
-
-copy-arguments-requires : tie.Need-copy-arguments-requires
-copy-arguments-requires c κs =
-    let at-capacity = c .before .before .before in
-    let at-if1 = at-capacity .before .before .before in
-    let at-admits = at-if1 .before in
-    let at-found = at-admits .before .before in
-    let at-find = at-found .before .before in
-    let start = at-find .before .before .before .before .before .before in
-    room _ _ (start .args .args .now) (start .args .kinds .now) (start .args .p .now) (start .args .t .now) _ (at-found .found .given .0 .0) (rw (at-found .found .given .1) at (at-find .find .ensures)) _ (at-admits .admits .ensures) (not-false _ (at-if1 .if1 .left)) _ (at-capacity .capacity .ensures) (c .before .before .if2 .left)
-
-slice-aggregate-first-frame : tie.Need-slice-aggregate-first-frame
-slice-aggregate-first-frame c = search needs
-
-first-frame-requires : tie.Need-first-frame-requires
-first-frame-requires c κs =
-    let at-found = c .before .before .before .before .before .before .before .before .before .before .before .before .before .before .before in
-    let at-find = at-found .before .before in
-    let is = rw (at-found .found .given .1) at (at-find .find .ensures) in (omega arith, is .body-fits, is .few)
-
-word-requires : tie.Need-word-requires
-word-requires c κs =
-    let start = c .before .before .before .before .before .before .before .before .before .before .before .before .before .before .before .before .before .before .before .before .before .before .before .before .before in
-    omega (arith, start .pre .0 .code-is, start .pre .0 .whole)
-
-slice-aggregate-run-rest : tie.Need-slice-aggregate-run-rest
-slice-aggregate-run-rest c = search needs
-
-run-rest-requires : tie.Need-run-rest-requires
-run-rest-requires c κs =
-    let at-first-frame = c .before .before .before .before .before .before in
-    let at-copy-arguments = at-first-frame .before .before .before .before .before .before in
-    let at-if2 = at-copy-arguments .before .before .before in
-    let at-capacity = at-if2 .before in
-    let at-if1 = at-capacity .before .before .before in
-    let at-admits = at-if1 .before in
-    let at-found = at-admits .before .before in
-    let at-find = at-found .before .before in
-    let start = at-find .before .before .before .before .before .before in
-    ((start .pre), record { slots = same-slots _ _ _ _ _ _ _ (at-found .found .given .0 .0) (rw (at-found .found .given .1) at (at-find .find .ensures)) _ (at-admits .admits .ensures) (not-false _ (at-if1 .if1 .left)) _ (at-capacity .capacity .ensures) (at-if2 .if2 .left) _ _ _ _ _ (at-copy-arguments .copy-arguments .ensures) refl (at-first-frame .first-frame .ensures .0) (at-first-frame .first-frame .ensures .1); left = omega arith; fits = starts-fit _ _ _ _ _ _ _ (at-found .found .given .0 .0) (rw (at-found .found .given .1) at (at-find .find .ensures)) _ (at-admits .admits .ensures) (not-false _ (at-if1 .if1 .left)) _ (at-capacity .capacity .ensures) (at-if2 .if2 .left) _ _ _ _ _ (at-copy-arguments .copy-arguments .ensures) refl (at-first-frame .first-frame .ensures .0) (at-first-frame .first-frame .ensures .1) (start .pre .1) })
-
 same-length-3 : tie.Need-same-length-3
 same-length-3 c = search needs
 
 same-length-4 : tie.Need-same-length-4
 same-length-4 c = search needs
 
+returns-3 : tie.Need-returns-3
+returns-3 c = run-20 _ _ ((c .before .before .before .before .before .before .before .before .before .before .before .before .before .before .before .before .before .before .before .before .before .before .before .before .before .before .before .before .before .before .before .args) .args .now) ((c .before .before .before .before .before .before .before .before .before .before .before .before .before .before .before .before .before .before .before .before .before .before .before .before .before .before .before .before .before .before .before .args) .kinds .now) ((c .before .before .before .before .before .before .before .before .before .before .before .before .before .before .before .before .before .before .before .before .before .before .before .before .before .before .before .before .before .before .before .args) .p .now) ((c .before .before .before .before .before .before .before .before .before .before .before .before .before .before .before .before .before .before .before .before .before .before .before .before .before .before .before .before .before .before .before .args) .t .now) ((c .before .before .before .before .before .before .before .before .before .before .before .before .before .before .before .before .before .before .before .before .before .before .before .before .before .before .before .before .before .before .before .args) .cells .now) ((c .before .before .before .before .before .before .before .before .before .before .before .before .before .before .before .before .before .before .before .before .before .before .before .before .before .before .before .before .before .before .before .args) .table .now) _ ((c .before .before .before .before .before .before .before .before .before .before .before .before .before .before .before .before .before .before .before .before .before .found) .given .0 .0) (rw ((c .before .before .before .before .before .before .before .before .before .before .before .before .before .before .before .before .before .before .before .before .before .found) .given .1) at ((c .before .before .before .before .before .before .before .before .before .before .before .before .before .before .before .before .before .before .before .before .before .before .before .find) .ensures)) _ ((c .before .before .before .before .before .before .before .before .before .before .before .before .before .before .before .before .before .before .before .admits) .ensures) (not-false _ ((c .before .before .before .before .before .before .before .before .before .before .before .before .before .before .before .before .before .before .if1) .left)) _ ((c .before .before .before .before .before .before .before .before .capacity) .ensures) _ _ ((c .before .before .before .before .before .before .before .before .before .before .before .before .before .before .before .clear-heap) .ensures) _ ((c .before .before .before .before .before .before .before .before .before .before .before .before .before .before .before .before .before .before .before .before .before .before .before .before .before .before .before .before .before .before .before .pre) .1) ((c .before .before .before .before .before .before .before .if2) .taken) (λ i. (c .before .before .before .before .before .before .before .before .before .before .before .before .before .slice-known5) .given i .fits) (λ i. (c .before .before .before .before .before .before .before .before .before .before .before .slice-known6) .given i .fits) _ _ _ ((c .before .before .before .before .close) .ensures)
+
+copy-arguments-requires : tie.Need-copy-arguments-requires
+copy-arguments-requires c κs = room _ _ ((c .before .before .before .before .before .before .before .before .before .before .before .before .before .before .before .before .before .before .before .before .before .before .before .before .before .before .args) .args .now) ((c .before .before .before .before .before .before .before .before .before .before .before .before .before .before .before .before .before .before .before .before .before .before .before .before .before .before .args) .kinds .now) ((c .before .before .before .before .before .before .before .before .before .before .before .before .before .before .before .before .before .before .before .before .before .before .before .before .before .before .args) .p .now) ((c .before .before .before .before .before .before .before .before .before .before .before .before .before .before .before .before .before .before .before .before .before .before .before .before .before .before .args) .t .now) ((c .before .before .before .before .before .before .before .before .before .before .before .before .before .before .before .before .before .before .before .before .before .before .before .before .before .before .args) .cells .now) ((c .before .before .before .before .before .before .before .before .before .before .before .before .before .before .before .before .before .before .before .before .before .before .before .before .before .before .args) .table .now) _ ((c .before .before .before .before .before .before .before .before .before .before .before .before .before .before .before .before .found) .given .0 .0) (rw ((c .before .before .before .before .before .before .before .before .before .before .before .before .before .before .before .before .found) .given .1) at ((c .before .before .before .before .before .before .before .before .before .before .before .before .before .before .before .before .before .before .find) .ensures)) _ ((c .before .before .before .before .before .before .before .before .before .before .before .before .before .before .admits) .ensures) (not-false _ ((c .before .before .before .before .before .before .before .before .before .before .before .before .before .if1) .left)) _ ((c .before .before .before .capacity) .ensures) ((c .before .before .if2) .left)
+
+slice-aggregate-first-frame : tie.Need-slice-aggregate-first-frame
+slice-aggregate-first-frame c = search needs
+
+first-frame-requires : tie.Need-first-frame-requires
+first-frame-requires c κs = let is = (rw ((c .before .before .before .before .before .before .before .before .before .before .before .before .before .before .before .before .before .before .before .before .before .before .found) .given .1) at ((c .before .before .before .before .before .before .before .before .before .before .before .before .before .before .before .before .before .before .before .before .before .before .before .before .find) .ensures)) in (omega arith, is .body-fits, is .few)
+
+word-requires : tie.Need-word-requires
+word-requires c κs = omega (arith, long-enough _ _ ((c .before .before .before .before .before .before .before .before .before .before .before .before .before .before .before .before .before .before .before .before .before .before .before .before .before .before .before .before .before .before .before .before .before .before .pre) .0))
+
+slice-aggregate-run-rest : tie.Need-slice-aggregate-run-rest
+slice-aggregate-run-rest c = search needs
+
+run-rest-requires : tie.Need-run-rest-requires
+run-rest-requires c κs = ((c .before .before .before .before .before .before .before .before .before .before .before .before .before .before .before .before .before .before .before .before .before .before .before .before .before .before .before .before .before .before .before .before .before .before .before .before .before .before .before .before .before .pre), record { slots = same-slots _ _ ((c .before .before .before .before .before .before .before .before .before .before .before .before .before .before .before .before .before .before .before .before .before .before .before .before .before .before .before .before .before .before .before .before .before .before .before .before .before .before .before .before .before .args) .args .now) ((c .before .before .before .before .before .before .before .before .before .before .before .before .before .before .before .before .before .before .before .before .before .before .before .before .before .before .before .before .before .before .before .before .before .before .before .before .before .before .before .before .before .args) .kinds .now) ((c .before .before .before .before .before .before .before .before .before .before .before .before .before .before .before .before .before .before .before .before .before .before .before .before .before .before .before .before .before .before .before .before .before .before .before .before .before .before .before .before .before .args) .p .now) ((c .before .before .before .before .before .before .before .before .before .before .before .before .before .before .before .before .before .before .before .before .before .before .before .before .before .before .before .before .before .before .before .before .before .before .before .before .before .before .before .before .before .args) .t .now) ((c .before .before .before .before .before .before .before .before .before .before .before .before .before .before .before .before .before .before .before .before .before .before .before .before .before .before .before .before .before .before .before .before .before .before .before .before .before .before .before .before .before .args) .cells .now) ((c .before .before .before .before .before .before .before .before .before .before .before .before .before .before .before .before .before .before .before .before .before .before .before .before .before .before .before .before .before .before .before .before .before .before .before .before .before .before .before .before .before .args) .table .now) _ ((c .before .before .before .before .before .before .before .before .before .before .before .before .before .before .before .before .before .before .before .before .before .before .before .before .before .before .before .before .before .before .before .found) .given .0 .0) (rw ((c .before .before .before .before .before .before .before .before .before .before .before .before .before .before .before .before .before .before .before .before .before .before .before .before .before .before .before .before .before .before .before .found) .given .1) at ((c .before .before .before .before .before .before .before .before .before .before .before .before .before .before .before .before .before .before .before .before .before .before .before .before .before .before .before .before .before .before .before .before .before .find) .ensures)) _ ((c .before .before .before .before .before .before .before .before .before .before .before .before .before .before .before .before .before .before .before .before .before .before .before .before .before .before .before .before .before .admits) .ensures) (not-false _ ((c .before .before .before .before .before .before .before .before .before .before .before .before .before .before .before .before .before .before .before .before .before .before .before .before .before .before .before .before .if1) .left)) _ ((c .before .before .before .before .before .before .before .before .before .before .before .before .before .before .before .before .before .before .capacity) .ensures) ((c .before .before .before .before .before .before .before .before .before .before .before .before .before .before .before .before .before .if2) .left) _ _ _ _ _ ((c .before .before .before .before .before .before .before .before .before .before .before .before .before .before .copy-arguments) .ensures) refl ((c .before .before .before .before .before .before .before .before .first-frame) .ensures .0) ((c .before .before .before .before .before .before .before .before .first-frame) .ensures .1); left = omega arith; fits = starts-fit _ _ ((c .before .before .before .before .before .before .before .before .before .before .before .before .before .before .before .before .before .before .before .before .before .before .before .before .before .before .before .before .before .before .before .before .before .before .before .before .before .before .before .before .before .args) .args .now) ((c .before .before .before .before .before .before .before .before .before .before .before .before .before .before .before .before .before .before .before .before .before .before .before .before .before .before .before .before .before .before .before .before .before .before .before .before .before .before .before .before .before .args) .kinds .now) ((c .before .before .before .before .before .before .before .before .before .before .before .before .before .before .before .before .before .before .before .before .before .before .before .before .before .before .before .before .before .before .before .before .before .before .before .before .before .before .before .before .before .args) .p .now) ((c .before .before .before .before .before .before .before .before .before .before .before .before .before .before .before .before .before .before .before .before .before .before .before .before .before .before .before .before .before .before .before .before .before .before .before .before .before .before .before .before .before .args) .t .now) ((c .before .before .before .before .before .before .before .before .before .before .before .before .before .before .before .before .before .before .before .before .before .before .before .before .before .before .before .before .before .before .before .before .before .before .before .before .before .before .before .before .before .args) .cells .now) ((c .before .before .before .before .before .before .before .before .before .before .before .before .before .before .before .before .before .before .before .before .before .before .before .before .before .before .before .before .before .before .before .before .before .before .before .before .before .before .before .before .before .args) .table .now) _ ((c .before .before .before .before .before .before .before .before .before .before .before .before .before .before .before .before .before .before .before .before .before .before .before .before .before .before .before .before .before .before .before .found) .given .0 .0) (rw ((c .before .before .before .before .before .before .before .before .before .before .before .before .before .before .before .before .before .before .before .before .before .before .before .before .before .before .before .before .before .before .before .found) .given .1) at ((c .before .before .before .before .before .before .before .before .before .before .before .before .before .before .before .before .before .before .before .before .before .before .before .before .before .before .before .before .before .before .before .before .before .find) .ensures)) _ ((c .before .before .before .before .before .before .before .before .before .before .before .before .before .before .before .before .before .before .before .before .before .before .before .before .before .before .before .before .before .admits) .ensures) (not-false _ ((c .before .before .before .before .before .before .before .before .before .before .before .before .before .before .before .before .before .before .before .before .before .before .before .before .before .before .before .before .if1) .left)) _ ((c .before .before .before .before .before .before .before .before .before .before .before .before .before .before .before .before .before .before .capacity) .ensures) ((c .before .before .before .before .before .before .before .before .before .before .before .before .before .before .before .before .before .if2) .left) _ _ _ _ _ ((c .before .before .before .before .before .before .before .before .before .before .before .before .before .before .copy-arguments) .ensures) refl ((c .before .before .before .before .before .before .before .before .first-frame) .ensures .0) ((c .before .before .before .before .before .before .before .before .first-frame) .ensures .1) ((c .before .before .before .before .before .before .before .before .before .before .before .before .before .before .before .before .before .before .before .before .before .before .before .before .before .before .before .before .before .before .before .before .before .before .before .before .before .before .before .before .before .pre) .1); empty = still-empty _ _ ((c .before .before .before .before .before .before .before .before .before .before .before .before .before .before .before .before .before .before .before .before .before .before .before .before .before .before .before .before .before .before .before .before .before .before .before .before .before .before .before .before .before .args) .args .now) ((c .before .before .before .before .before .before .before .before .before .before .before .before .before .before .before .before .before .before .before .before .before .before .before .before .before .before .before .before .before .before .before .before .before .before .before .before .before .before .before .before .before .args) .kinds .now) ((c .before .before .before .before .before .before .before .before .before .before .before .before .before .before .before .before .before .before .before .before .before .before .before .before .before .before .before .before .before .before .before .before .before .before .before .before .before .before .before .before .before .args) .p .now) ((c .before .before .before .before .before .before .before .before .before .before .before .before .before .before .before .before .before .before .before .before .before .before .before .before .before .before .before .before .before .before .before .before .before .before .before .before .before .before .before .before .before .args) .t .now) ((c .before .before .before .before .before .before .before .before .before .before .before .before .before .before .before .before .before .before .before .before .before .before .before .before .before .before .before .before .before .before .before .before .before .before .before .before .before .before .before .before .before .args) .cells .now) ((c .before .before .before .before .before .before .before .before .before .before .before .before .before .before .before .before .before .before .before .before .before .before .before .before .before .before .before .before .before .before .before .before .before .before .before .before .before .before .before .before .before .args) .table .now) _ ((c .before .before .before .before .before .before .before .before .before .before .before .before .before .before .before .before .before .before .before .before .before .before .before .before .before .before .before .before .before .before .before .found) .given .0 .0) (rw ((c .before .before .before .before .before .before .before .before .before .before .before .before .before .before .before .before .before .before .before .before .before .before .before .before .before .before .before .before .before .before .before .found) .given .1) at ((c .before .before .before .before .before .before .before .before .before .before .before .before .before .before .before .before .before .before .before .before .before .before .before .before .before .before .before .before .before .before .before .before .before .find) .ensures)) _ ((c .before .before .before .before .before .before .before .before .before .before .before .before .before .before .before .before .before .before .before .before .before .before .before .before .before .before .before .before .before .admits) .ensures) (not-false _ ((c .before .before .before .before .before .before .before .before .before .before .before .before .before .before .before .before .before .before .before .before .before .before .before .before .before .before .before .before .if1) .left)) _ ((c .before .before .before .before .before .before .before .before .before .before .before .before .before .before .before .before .before .before .capacity) .ensures) ((c .before .before .before .before .before .before .before .before .before .before .before .before .before .before .before .before .before .before .before .before .before .before .before .before .before .clear-heap) .last .0) ((c .before .before .before .before .before .before .before .before .before .before .before .before .before .before .before .before .before .before .before .before .before .before .before .before .before .clear-heap) .last .1 .0) ((c .before .before .before .before .before .before .before .before .before .before .before .before .before .before .before .before .before .before .before .before .before .before .before .before .before .clear-heap) .ensures) })
+
+same-length-5 : tie.Need-same-length-5
+same-length-5 c = search needs
+
+same-length-6 : tie.Need-same-length-6
+same-length-6 c = search needs
+
+same-length-7 : tie.Need-same-length-7
+same-length-7 c = (c .before .before .before .before .before .before .before .before .before .run-rest) .kept .1 .1 .1 .1 .1 .1 .1 .1 .0 ∙ (c .before .before .before .before .before .before .before .before .before .before .before .before .before .before .before .before .before .before .before .before .before .before .before .before .before .before .before .before .before .before .before .before .before .before .before .clear-heap) .ensures .same-cells
+
+same-length-8 : tie.Need-same-length-8
+same-length-8 c = (c .before .before .before .before .before .before .before .before .before .run-rest) .kept .1 .1 .1 .1 .1 .1 .1 .1 .1 .0 ∙ (c .before .before .before .before .before .before .before .before .before .before .before .before .before .before .before .before .before .before .before .before .before .before .before .before .before .before .before .before .before .before .before .before .before .before .before .clear-heap) .ensures .same-table
+
 returns-4 : tie.Need-returns-4
-returns-4 c =
-    let at-run-rest = c .before .before .before .before .before in
-    let at-first-frame = at-run-rest .before .before .before .before .before .before .before in
-    let at-copy-arguments = at-first-frame .before .before .before .before .before .before in
-    let at-if2 = at-copy-arguments .before .before .before in
-    let at-capacity = at-if2 .before in
-    let at-if1 = at-capacity .before .before .before in
-    let at-admits = at-if1 .before in
-    let at-found = at-admits .before .before in
-    let at-find = at-found .before .before in
-    let start = at-find .before .before .before .before .before .before in
-    let z : start .args .allowance - start .args .allowance ≡ 0 = omega arith in run-over _ _ _ _ _ _ _ (at-found .found .given .0 .0) (rw (at-found .found .given .1) at (at-find .find .ensures)) _ (at-admits .admits .ensures) (not-false _ (at-if1 .if1 .left)) _ (at-capacity .capacity .ensures) (at-if2 .if2 .left) _ _ _ _ _ (at-copy-arguments .copy-arguments .ensures) refl (at-first-frame .first-frame .ensures .0) (at-first-frame .first-frame .ensures .1) _ (start .pre .1) _ _ _ (rw z at (at-run-rest .run-rest .ensures))
+returns-4 c = let z : (c .before .before .before .before .before .before .before .before .before .before .before .before .before .before .before .before .before .before .before .before .before .before .before .before .before .before .before .before .before .before .before .before .before .before .before .before .before .before .before .before .before .before .before .before .before .before .before .before .before .before .before .args) .allowance - (c .before .before .before .before .before .before .before .before .before .before .before .before .before .before .before .before .before .before .before .before .before .before .before .before .before .before .before .before .before .before .before .before .before .before .before .before .before .before .before .before .before .before .before .before .before .before .before .before .before .before .before .args) .allowance ≡ 0 = omega arith in run-over _ _ ((c .before .before .before .before .before .before .before .before .before .before .before .before .before .before .before .before .before .before .before .before .before .before .before .before .before .before .before .before .before .before .before .before .before .before .before .before .before .before .before .before .before .before .before .before .before .before .before .before .before .before .before .args) .args .now) ((c .before .before .before .before .before .before .before .before .before .before .before .before .before .before .before .before .before .before .before .before .before .before .before .before .before .before .before .before .before .before .before .before .before .before .before .before .before .before .before .before .before .before .before .before .before .before .before .before .before .before .before .args) .kinds .now) ((c .before .before .before .before .before .before .before .before .before .before .before .before .before .before .before .before .before .before .before .before .before .before .before .before .before .before .before .before .before .before .before .before .before .before .before .before .before .before .before .before .before .before .before .before .before .before .before .before .before .before .before .args) .p .now) ((c .before .before .before .before .before .before .before .before .before .before .before .before .before .before .before .before .before .before .before .before .before .before .before .before .before .before .before .before .before .before .before .before .before .before .before .before .before .before .before .before .before .before .before .before .before .before .before .before .before .before .before .args) .t .now) ((c .before .before .before .before .before .before .before .before .before .before .before .before .before .before .before .before .before .before .before .before .before .before .before .before .before .before .before .before .before .before .before .before .before .before .before .before .before .before .before .before .before .before .before .before .before .before .before .before .before .before .before .args) .cells .now) ((c .before .before .before .before .before .before .before .before .before .before .before .before .before .before .before .before .before .before .before .before .before .before .before .before .before .before .before .before .before .before .before .before .before .before .before .before .before .before .before .before .before .before .before .before .before .before .before .before .before .before .before .args) .table .now) _ ((c .before .before .before .before .before .before .before .before .before .before .before .before .before .before .before .before .before .before .before .before .before .before .before .before .before .before .before .before .before .before .before .before .before .before .before .before .before .before .before .before .before .found) .given .0 .0) (rw ((c .before .before .before .before .before .before .before .before .before .before .before .before .before .before .before .before .before .before .before .before .before .before .before .before .before .before .before .before .before .before .before .before .before .before .before .before .before .before .before .before .before .found) .given .1) at ((c .before .before .before .before .before .before .before .before .before .before .before .before .before .before .before .before .before .before .before .before .before .before .before .before .before .before .before .before .before .before .before .before .before .before .before .before .before .before .before .before .before .before .before .find) .ensures)) _ ((c .before .before .before .before .before .before .before .before .before .before .before .before .before .before .before .before .before .before .before .before .before .before .before .before .before .before .before .before .before .before .before .before .before .before .before .before .before .before .before .admits) .ensures) (not-false _ ((c .before .before .before .before .before .before .before .before .before .before .before .before .before .before .before .before .before .before .before .before .before .before .before .before .before .before .before .before .before .before .before .before .before .before .before .before .before .before .if1) .left)) _ ((c .before .before .before .before .before .before .before .before .before .before .before .before .before .before .before .before .before .before .before .before .before .before .before .before .before .before .before .before .capacity) .ensures) ((c .before .before .before .before .before .before .before .before .before .before .before .before .before .before .before .before .before .before .before .before .before .before .before .before .before .before .before .if2) .left) _ _ _ _ _ ((c .before .before .before .before .before .before .before .before .before .before .before .before .before .before .before .before .before .before .before .before .before .before .before .before .copy-arguments) .ensures) refl ((c .before .before .before .before .before .before .before .before .before .before .before .before .before .before .before .before .before .before .first-frame) .ensures .0) ((c .before .before .before .before .before .before .before .before .before .before .before .before .before .before .before .before .before .before .first-frame) .ensures .1) _ ((c .before .before .before .before .before .before .before .before .before .before .before .before .before .before .before .before .before .before .before .before .before .before .before .before .before .before .before .before .before .before .before .before .before .before .before .before .before .before .before .before .before .before .before .before .before .before .before .before .before .before .before .pre) .1) ((c .before .before .before .before .before .before .before .before .before .before .before .before .before .before .before .before .before .before .before .before .before .before .before .before .before .before .before .before .before .before .before .before .before .before .before .clear-heap) .last .0) ((c .before .before .before .before .before .before .before .before .before .before .before .before .before .before .before .before .before .before .before .before .before .before .before .before .before .before .before .before .before .before .before .before .before .before .before .clear-heap) .last .1 .0) ((c .before .before .before .before .before .before .before .before .before .before .before .before .before .before .before .before .before .before .before .before .before .before .before .before .before .before .before .before .before .before .before .before .before .before .before .clear-heap) .ensures) _ _ _ _ _ (rw z at ((c .before .before .before .before .before .before .before .before .before .run-rest) .ensures))
 
 slice-aggregate-run-from : tie.Need-slice-aggregate-run-from
 slice-aggregate-run-from c = search needs
 
 run-from-requires : tie.Need-run-from-requires
-run-from-requires c κs =
-    let at-if3 = c .before .before .before in
-    let at-word = at-if3 .before in
-    let at-first-frame = at-word .before .before in
-    let at-copy-arguments = at-first-frame .before .before .before .before .before .before in
-    let at-if2 = at-copy-arguments .before .before .before in
-    let at-capacity = at-if2 .before in
-    let at-if1 = at-capacity .before .before .before in
-    let at-admits = at-if1 .before in
-    let at-found = at-admits .before .before in
-    let at-find = at-found .before .before in
-    let start = at-find .before .before .before .before .before .before in
-    ((start .pre), (third-keyed _ (start .pre .1) _ (start .pre .0 .code-is) (λ q. at-if3 .if3 .left (at-word .word .ensures .0 ∙ q)), starts-fit _ _ _ _ _ _ _ (at-found .found .given .0 .0) (rw (at-found .found .given .1) at (at-find .find .ensures)) _ (at-admits .admits .ensures) (not-false _ (at-if1 .if1 .left)) _ (at-capacity .capacity .ensures) (at-if2 .if2 .left) _ _ _ _ _ (at-copy-arguments .copy-arguments .ensures) refl (at-first-frame .first-frame .ensures .0) (at-first-frame .first-frame .ensures .1) (start .pre .1)))
+run-from-requires c κs = ((c .before .before .before .before .before .before .before .before .before .before .before .before .before .before .before .before .before .before .before .before .before .before .before .before .before .before .before .before .before .before .before .before .before .before .before .before .before .before .before .pre), (file-keyed _ ((c .before .before .before .before .before .before .before .before .before .before .before .before .before .before .before .before .before .before .before .before .before .before .before .before .before .before .before .before .before .before .before .before .before .before .before .before .before .before .before .pre) .1) _ ((c .before .before .before .before .before .before .before .before .before .before .before .before .before .before .before .before .before .before .before .before .before .before .before .before .before .before .before .before .before .before .before .before .before .before .before .before .before .before .before .pre) .0 .code-is) (λ q. (c .before .before .before .if3) .left ((c .before .before .before .before .word) .ensures .0 ∙ q)), starts-fit _ _ ((c .before .before .before .before .before .before .before .before .before .before .before .before .before .before .before .before .before .before .before .before .before .before .before .before .before .before .before .before .before .before .before .before .before .before .before .before .before .before .before .args) .args .now) ((c .before .before .before .before .before .before .before .before .before .before .before .before .before .before .before .before .before .before .before .before .before .before .before .before .before .before .before .before .before .before .before .before .before .before .before .before .before .before .before .args) .kinds .now) ((c .before .before .before .before .before .before .before .before .before .before .before .before .before .before .before .before .before .before .before .before .before .before .before .before .before .before .before .before .before .before .before .before .before .before .before .before .before .before .before .args) .p .now) ((c .before .before .before .before .before .before .before .before .before .before .before .before .before .before .before .before .before .before .before .before .before .before .before .before .before .before .before .before .before .before .before .before .before .before .before .before .before .before .before .args) .t .now) ((c .before .before .before .before .before .before .before .before .before .before .before .before .before .before .before .before .before .before .before .before .before .before .before .before .before .before .before .before .before .before .before .before .before .before .before .before .before .before .before .args) .cells .now) ((c .before .before .before .before .before .before .before .before .before .before .before .before .before .before .before .before .before .before .before .before .before .before .before .before .before .before .before .before .before .before .before .before .before .before .before .before .before .before .before .args) .table .now) _ ((c .before .before .before .before .before .before .before .before .before .before .before .before .before .before .before .before .before .before .before .before .before .before .before .before .before .before .before .before .before .found) .given .0 .0) (rw ((c .before .before .before .before .before .before .before .before .before .before .before .before .before .before .before .before .before .before .before .before .before .before .before .before .before .before .before .before .before .found) .given .1) at ((c .before .before .before .before .before .before .before .before .before .before .before .before .before .before .before .before .before .before .before .before .before .before .before .before .before .before .before .before .before .before .before .find) .ensures)) _ ((c .before .before .before .before .before .before .before .before .before .before .before .before .before .before .before .before .before .before .before .before .before .before .before .before .before .before .before .admits) .ensures) (not-false _ ((c .before .before .before .before .before .before .before .before .before .before .before .before .before .before .before .before .before .before .before .before .before .before .before .before .before .before .if1) .left)) _ ((c .before .before .before .before .before .before .before .before .before .before .before .before .before .before .before .before .capacity) .ensures) ((c .before .before .before .before .before .before .before .before .before .before .before .before .before .before .before .if2) .left) _ _ _ _ _ ((c .before .before .before .before .before .before .before .before .before .before .before .before .copy-arguments) .ensures) refl ((c .before .before .before .before .before .before .first-frame) .ensures .0) ((c .before .before .before .before .before .before .first-frame) .ensures .1) ((c .before .before .before .before .before .before .before .before .before .before .before .before .before .before .before .before .before .before .before .before .before .before .before .before .before .before .before .before .before .before .before .before .before .before .before .before .before .before .before .pre) .1)))
+
+is-over-requires : tie.Need-is-over-requires
+is-over-requires c κs = search needs
 
 slice-aggregate-run-rest-2 : tie.Need-slice-aggregate-run-rest-2
 slice-aggregate-run-rest-2 c = search needs
 
 run-rest-requires-2 : tie.Need-run-rest-requires-2
-run-rest-requires-2 c κs =
-    let at-if4 = c .before .before .before in
-    let at-run-from = at-if4 .before .before .before .before .before .before .before in
-    let at-first-frame = at-run-from .before .before .before .before .before .before .before in
-    let at-copy-arguments = at-first-frame .before .before .before .before .before .before in
-    let at-if2 = at-copy-arguments .before .before .before in
-    let at-capacity = at-if2 .before in
-    let at-if1 = at-capacity .before .before .before in
-    let at-admits = at-if1 .before in
-    let at-found = at-admits .before .before in
-    let at-find = at-found .before .before in
-    let start = at-find .before .before .before .before .before .before in
-    ((start .pre), record { slots = still _ _ _ _ _ _ _ _ _ _ _ (same-slots _ _ _ _ _ _ _ (at-found .found .given .0 .0) (rw (at-found .found .given .1) at (at-find .find .ensures)) _ (at-admits .admits .ensures) (not-false _ (at-if1 .if1 .left)) _ (at-capacity .capacity .ensures) (at-if2 .if2 .left) _ _ _ _ _ (at-copy-arguments .copy-arguments .ensures) refl (at-first-frame .first-frame .ensures .0) (at-first-frame .first-frame .ensures .1)) (at-run-from .run-from .ensures); left = at-run-from .run-from .ensures .left; fits = at-run-from .run-from .ensures .resumes (at-if4 .if4 .taken) .fits })
+run-rest-requires-2 c κs = ((c .before .before .before .before .before .before .before .before .before .before .before .before .before .before .before .before .before .before .before .before .before .before .before .before .before .before .before .before .before .before .before .before .before .before .before .before .before .before .before .before .before .before .before .before .before .before .before .before .before .before .before .before .pre), record { slots = still _ _ _ _ _ _ _ _ _ _ _ (same-slots _ _ ((c .before .before .before .before .before .before .before .before .before .before .before .before .before .before .before .before .before .before .before .before .before .before .before .before .before .before .before .before .before .before .before .before .before .before .before .before .before .before .before .before .before .before .before .before .before .before .before .before .before .before .before .before .args) .args .now) ((c .before .before .before .before .before .before .before .before .before .before .before .before .before .before .before .before .before .before .before .before .before .before .before .before .before .before .before .before .before .before .before .before .before .before .before .before .before .before .before .before .before .before .before .before .before .before .before .before .before .before .before .before .args) .kinds .now) ((c .before .before .before .before .before .before .before .before .before .before .before .before .before .before .before .before .before .before .before .before .before .before .before .before .before .before .before .before .before .before .before .before .before .before .before .before .before .before .before .before .before .before .before .before .before .before .before .before .before .before .before .before .args) .p .now) ((c .before .before .before .before .before .before .before .before .before .before .before .before .before .before .before .before .before .before .before .before .before .before .before .before .before .before .before .before .before .before .before .before .before .before .before .before .before .before .before .before .before .before .before .before .before .before .before .before .before .before .before .before .args) .t .now) ((c .before .before .before .before .before .before .before .before .before .before .before .before .before .before .before .before .before .before .before .before .before .before .before .before .before .before .before .before .before .before .before .before .before .before .before .before .before .before .before .before .before .before .before .before .before .before .before .before .before .before .before .before .args) .cells .now) ((c .before .before .before .before .before .before .before .before .before .before .before .before .before .before .before .before .before .before .before .before .before .before .before .before .before .before .before .before .before .before .before .before .before .before .before .before .before .before .before .before .before .before .before .before .before .before .before .before .before .before .before .before .args) .table .now) _ ((c .before .before .before .before .before .before .before .before .before .before .before .before .before .before .before .before .before .before .before .before .before .before .before .before .before .before .before .before .before .before .before .before .before .before .before .before .before .before .before .before .before .before .found) .given .0 .0) (rw ((c .before .before .before .before .before .before .before .before .before .before .before .before .before .before .before .before .before .before .before .before .before .before .before .before .before .before .before .before .before .before .before .before .before .before .before .before .before .before .before .before .before .before .found) .given .1) at ((c .before .before .before .before .before .before .before .before .before .before .before .before .before .before .before .before .before .before .before .before .before .before .before .before .before .before .before .before .before .before .before .before .before .before .before .before .before .before .before .before .before .before .before .before .find) .ensures)) _ ((c .before .before .before .before .before .before .before .before .before .before .before .before .before .before .before .before .before .before .before .before .before .before .before .before .before .before .before .before .before .before .before .before .before .before .before .before .before .before .before .before .admits) .ensures) (not-false _ ((c .before .before .before .before .before .before .before .before .before .before .before .before .before .before .before .before .before .before .before .before .before .before .before .before .before .before .before .before .before .before .before .before .before .before .before .before .before .before .before .if1) .left)) _ ((c .before .before .before .before .before .before .before .before .before .before .before .before .before .before .before .before .before .before .before .before .before .before .before .before .before .before .before .before .before .capacity) .ensures) ((c .before .before .before .before .before .before .before .before .before .before .before .before .before .before .before .before .before .before .before .before .before .before .before .before .before .before .before .before .if2) .left) _ _ _ _ _ ((c .before .before .before .before .before .before .before .before .before .before .before .before .before .before .before .before .before .before .before .before .before .before .before .before .before .copy-arguments) .ensures) refl ((c .before .before .before .before .before .before .before .before .before .before .before .before .before .before .before .before .before .before .before .first-frame) .ensures .0) ((c .before .before .before .before .before .before .before .before .before .before .before .before .before .before .before .before .before .before .before .first-frame) .ensures .1)) ((c .before .before .before .before .before .before .before .before .before .before .before .before .run-from) .ensures); left = (c .before .before .before .before .before .before .before .before .before .before .before .before .run-from) .ensures .left; fits = (c .before .before .before .before .before .before .before .before .before .before .before .before .run-from) .ensures .resumes (waits ((c .before .before .before .before .before .before .before .before .before .before .before .before .run-from) .result .number) _ ((c .before .before .before .before .before .before .is-over) .ensures) (not-true _ ((c .before .before .before .before .before .if4) .taken))) .fits; empty = still-empty _ _ ((c .before .before .before .before .before .before .before .before .before .before .before .before .before .before .before .before .before .before .before .before .before .before .before .before .before .before .before .before .before .before .before .before .before .before .before .before .before .before .before .before .before .before .before .before .before .before .before .before .before .before .before .before .args) .args .now) ((c .before .before .before .before .before .before .before .before .before .before .before .before .before .before .before .before .before .before .before .before .before .before .before .before .before .before .before .before .before .before .before .before .before .before .before .before .before .before .before .before .before .before .before .before .before .before .before .before .before .before .before .before .args) .kinds .now) ((c .before .before .before .before .before .before .before .before .before .before .before .before .before .before .before .before .before .before .before .before .before .before .before .before .before .before .before .before .before .before .before .before .before .before .before .before .before .before .before .before .before .before .before .before .before .before .before .before .before .before .before .before .args) .p .now) ((c .before .before .before .before .before .before .before .before .before .before .before .before .before .before .before .before .before .before .before .before .before .before .before .before .before .before .before .before .before .before .before .before .before .before .before .before .before .before .before .before .before .before .before .before .before .before .before .before .before .before .before .before .args) .t .now) ((c .before .before .before .before .before .before .before .before .before .before .before .before .before .before .before .before .before .before .before .before .before .before .before .before .before .before .before .before .before .before .before .before .before .before .before .before .before .before .before .before .before .before .before .before .before .before .before .before .before .before .before .before .args) .cells .now) ((c .before .before .before .before .before .before .before .before .before .before .before .before .before .before .before .before .before .before .before .before .before .before .before .before .before .before .before .before .before .before .before .before .before .before .before .before .before .before .before .before .before .before .before .before .before .before .before .before .before .before .before .before .args) .table .now) _ ((c .before .before .before .before .before .before .before .before .before .before .before .before .before .before .before .before .before .before .before .before .before .before .before .before .before .before .before .before .before .before .before .before .before .before .before .before .before .before .before .before .before .before .found) .given .0 .0) (rw ((c .before .before .before .before .before .before .before .before .before .before .before .before .before .before .before .before .before .before .before .before .before .before .before .before .before .before .before .before .before .before .before .before .before .before .before .before .before .before .before .before .before .before .found) .given .1) at ((c .before .before .before .before .before .before .before .before .before .before .before .before .before .before .before .before .before .before .before .before .before .before .before .before .before .before .before .before .before .before .before .before .before .before .before .before .before .before .before .before .before .before .before .before .find) .ensures)) _ ((c .before .before .before .before .before .before .before .before .before .before .before .before .before .before .before .before .before .before .before .before .before .before .before .before .before .before .before .before .before .before .before .before .before .before .before .before .before .before .before .before .admits) .ensures) (not-false _ ((c .before .before .before .before .before .before .before .before .before .before .before .before .before .before .before .before .before .before .before .before .before .before .before .before .before .before .before .before .before .before .before .before .before .before .before .before .before .before .before .if1) .left)) _ ((c .before .before .before .before .before .before .before .before .before .before .before .before .before .before .before .before .before .before .before .before .before .before .before .before .before .before .before .before .before .capacity) .ensures) ((c .before .before .before .before .before .before .before .before .before .before .before .before .before .before .before .before .before .before .before .before .before .before .before .before .before .before .before .before .before .before .before .before .before .before .before .before .clear-heap) .last .0) ((c .before .before .before .before .before .before .before .before .before .before .before .before .before .before .before .before .before .before .before .before .before .before .before .before .before .before .before .before .before .before .before .before .before .before .before .before .clear-heap) .last .1 .0) ((c .before .before .before .before .before .before .before .before .before .before .before .before .before .before .before .before .before .before .before .before .before .before .before .before .before .before .before .before .before .before .before .before .before .before .before .before .clear-heap) .ensures) })
 
-same-length-5 : tie.Need-same-length-5
-same-length-5 c =
-    let at-run-rest2 = c .before .before .before .before .before in
-    let at-run-from = at-run-rest2 .before .before .before .before .before .before .before .before .before .before .before in
-    let at-copy-arguments = at-run-from .before .before .before .before .before .before .before .before .before .before .before .before .before in
-    at-run-rest2 .run-rest2 .kept .1 .1 .1 .1 .1 .0 ∙ at-run-from .run-from .ensures .same-payloads ∙ at-copy-arguments .copy-arguments .ensures .same-payloads
+same-length-9 : tie.Need-same-length-9
+same-length-9 c = (c .before .before .before .before .before .before .before .before .before .run-rest2) .kept .1 .1 .1 .1 .1 .0 ∙ (c .before .before .before .before .before .before .before .before .before .before .before .before .before .before .before .before .before .before .before .before .before .before .run-from) .ensures .same-payloads ∙ (c .before .before .before .before .before .before .before .before .before .before .before .before .before .before .before .before .before .before .before .before .before .before .before .before .before .before .before .before .before .before .before .before .before .before .before .copy-arguments) .ensures .same-payloads
 
-same-length-6 : tie.Need-same-length-6
-same-length-6 c =
-    let at-run-rest2 = c .before .before .before .before .before in
-    let at-run-from = at-run-rest2 .before .before .before .before .before .before .before .before .before .before .before in
-    let at-copy-arguments = at-run-from .before .before .before .before .before .before .before .before .before .before .before .before .before in
-    at-run-rest2 .run-rest2 .kept .1 .1 .1 .1 .1 .1 .0 ∙ at-run-from .run-from .ensures .same-types ∙ at-copy-arguments .copy-arguments .ensures .same-types
+same-length-10 : tie.Need-same-length-10
+same-length-10 c = (c .before .before .before .before .before .before .before .before .before .run-rest2) .kept .1 .1 .1 .1 .1 .1 .0 ∙ (c .before .before .before .before .before .before .before .before .before .before .before .before .before .before .before .before .before .before .before .before .before .before .run-from) .ensures .same-types ∙ (c .before .before .before .before .before .before .before .before .before .before .before .before .before .before .before .before .before .before .before .before .before .before .before .before .before .before .before .before .before .before .before .before .before .before .before .copy-arguments) .ensures .same-types
+
+same-length-11 : tie.Need-same-length-11
+same-length-11 c = (c .before .before .before .before .before .before .before .before .before .run-rest2) .kept .1 .1 .1 .1 .1 .1 .1 .1 .0 ∙ (c .before .before .before .before .before .before .before .before .before .before .before .before .before .before .before .before .before .before .before .before .before .before .before .before .before .before .before .before .before .before .before .before .before .before .before .before .before .before .before .before .before .before .before .before .before .before .clear-heap) .ensures .same-cells
+
+same-length-12 : tie.Need-same-length-12
+same-length-12 c = (c .before .before .before .before .before .before .before .before .before .run-rest2) .kept .1 .1 .1 .1 .1 .1 .1 .1 .1 .0 ∙ (c .before .before .before .before .before .before .before .before .before .before .before .before .before .before .before .before .before .before .before .before .before .before .before .before .before .before .before .before .before .before .before .before .before .before .before .before .before .before .before .before .before .before .before .before .before .before .clear-heap) .ensures .same-table
 
 returns-5 : tie.Need-returns-5
-returns-5 c =
-    let at-run-rest2 = c .before .before .before .before .before in
-    let at-if4 = at-run-rest2 .before .before .before .before in
-    let at-run-from = at-if4 .before .before .before .before .before .before .before in
-    let at-first-frame = at-run-from .before .before .before .before .before .before .before in
-    let at-copy-arguments = at-first-frame .before .before .before .before .before .before in
-    let at-if2 = at-copy-arguments .before .before .before in
-    let at-capacity = at-if2 .before in
-    let at-if1 = at-capacity .before .before .before in
-    let at-admits = at-if1 .before in
-    let at-found = at-admits .before .before in
-    let at-find = at-found .before .before in
-    let start = at-find .before .before .before .before .before .before in
-    run-over _ _ _ _ _ _ _ (at-found .found .given .0 .0) (rw (at-found .found .given .1) at (at-find .find .ensures)) _ (at-admits .admits .ensures) (not-false _ (at-if1 .if1 .left)) _ (at-capacity .capacity .ensures) (at-if2 .if2 .left) _ _ _ _ _ (at-copy-arguments .copy-arguments .ensures) refl (at-first-frame .first-frame .ensures .0) (at-first-frame .first-frame .ensures .1) _ (start .pre .1) _ _ _ (closed-deeper _ _ _ _ _ _ _ _ _ _ _ (same-slots _ _ _ _ _ _ _ (at-found .found .given .0 .0) (rw (at-found .found .given .1) at (at-find .find .ensures)) _ (at-admits .admits .ensures) (not-false _ (at-if1 .if1 .left)) _ (at-capacity .capacity .ensures) (at-if2 .if2 .left) _ _ _ _ _ (at-copy-arguments .copy-arguments .ensures) refl (at-first-frame .first-frame .ensures .0) (at-first-frame .first-frame .ensures .1)) (at-run-from .run-from .ensures) _ _ _ 0 _ (omega arith) (at-if4 .if4 .taken) (at-run-rest2 .run-rest2 .ensures))
+returns-5 c = run-over _ _ ((c .before .before .before .before .before .before .before .before .before .before .before .before .before .before .before .before .before .before .before .before .before .before .before .before .before .before .before .before .before .before .before .before .before .before .before .before .before .before .before .before .before .before .before .before .before .before .before .before .before .before .before .before .before .before .before .before .before .before .before .before .before .before .args) .args .now) ((c .before .before .before .before .before .before .before .before .before .before .before .before .before .before .before .before .before .before .before .before .before .before .before .before .before .before .before .before .before .before .before .before .before .before .before .before .before .before .before .before .before .before .before .before .before .before .before .before .before .before .before .before .before .before .before .before .before .before .before .before .before .before .args) .kinds .now) ((c .before .before .before .before .before .before .before .before .before .before .before .before .before .before .before .before .before .before .before .before .before .before .before .before .before .before .before .before .before .before .before .before .before .before .before .before .before .before .before .before .before .before .before .before .before .before .before .before .before .before .before .before .before .before .before .before .before .before .before .before .before .before .args) .p .now) ((c .before .before .before .before .before .before .before .before .before .before .before .before .before .before .before .before .before .before .before .before .before .before .before .before .before .before .before .before .before .before .before .before .before .before .before .before .before .before .before .before .before .before .before .before .before .before .before .before .before .before .before .before .before .before .before .before .before .before .before .before .before .before .args) .t .now) ((c .before .before .before .before .before .before .before .before .before .before .before .before .before .before .before .before .before .before .before .before .before .before .before .before .before .before .before .before .before .before .before .before .before .before .before .before .before .before .before .before .before .before .before .before .before .before .before .before .before .before .before .before .before .before .before .before .before .before .before .before .before .before .args) .cells .now) ((c .before .before .before .before .before .before .before .before .before .before .before .before .before .before .before .before .before .before .before .before .before .before .before .before .before .before .before .before .before .before .before .before .before .before .before .before .before .before .before .before .before .before .before .before .before .before .before .before .before .before .before .before .before .before .before .before .before .before .before .before .before .before .args) .table .now) _ ((c .before .before .before .before .before .before .before .before .before .before .before .before .before .before .before .before .before .before .before .before .before .before .before .before .before .before .before .before .before .before .before .before .before .before .before .before .before .before .before .before .before .before .before .before .before .before .before .before .before .before .before .before .found) .given .0 .0) (rw ((c .before .before .before .before .before .before .before .before .before .before .before .before .before .before .before .before .before .before .before .before .before .before .before .before .before .before .before .before .before .before .before .before .before .before .before .before .before .before .before .before .before .before .before .before .before .before .before .before .before .before .before .before .found) .given .1) at ((c .before .before .before .before .before .before .before .before .before .before .before .before .before .before .before .before .before .before .before .before .before .before .before .before .before .before .before .before .before .before .before .before .before .before .before .before .before .before .before .before .before .before .before .before .before .before .before .before .before .before .before .before .before .before .find) .ensures)) _ ((c .before .before .before .before .before .before .before .before .before .before .before .before .before .before .before .before .before .before .before .before .before .before .before .before .before .before .before .before .before .before .before .before .before .before .before .before .before .before .before .before .before .before .before .before .before .before .before .before .before .before .admits) .ensures) (not-false _ ((c .before .before .before .before .before .before .before .before .before .before .before .before .before .before .before .before .before .before .before .before .before .before .before .before .before .before .before .before .before .before .before .before .before .before .before .before .before .before .before .before .before .before .before .before .before .before .before .before .before .if1) .left)) _ ((c .before .before .before .before .before .before .before .before .before .before .before .before .before .before .before .before .before .before .before .before .before .before .before .before .before .before .before .before .before .before .before .before .before .before .before .before .before .before .before .capacity) .ensures) ((c .before .before .before .before .before .before .before .before .before .before .before .before .before .before .before .before .before .before .before .before .before .before .before .before .before .before .before .before .before .before .before .before .before .before .before .before .before .before .if2) .left) _ _ _ _ _ ((c .before .before .before .before .before .before .before .before .before .before .before .before .before .before .before .before .before .before .before .before .before .before .before .before .before .before .before .before .before .before .before .before .before .before .before .copy-arguments) .ensures) refl ((c .before .before .before .before .before .before .before .before .before .before .before .before .before .before .before .before .before .before .before .before .before .before .before .before .before .before .before .before .before .first-frame) .ensures .0) ((c .before .before .before .before .before .before .before .before .before .before .before .before .before .before .before .before .before .before .before .before .before .before .before .before .before .before .before .before .before .first-frame) .ensures .1) _ ((c .before .before .before .before .before .before .before .before .before .before .before .before .before .before .before .before .before .before .before .before .before .before .before .before .before .before .before .before .before .before .before .before .before .before .before .before .before .before .before .before .before .before .before .before .before .before .before .before .before .before .before .before .before .before .before .before .before .before .before .before .before .before .pre) .1) ((c .before .before .before .before .before .before .before .before .before .before .before .before .before .before .before .before .before .before .before .before .before .before .before .before .before .before .before .before .before .before .before .before .before .before .before .before .before .before .before .before .before .before .before .before .before .before .clear-heap) .last .0) ((c .before .before .before .before .before .before .before .before .before .before .before .before .before .before .before .before .before .before .before .before .before .before .before .before .before .before .before .before .before .before .before .before .before .before .before .before .before .before .before .before .before .before .before .before .before .before .clear-heap) .last .1 .0) ((c .before .before .before .before .before .before .before .before .before .before .before .before .before .before .before .before .before .before .before .before .before .before .before .before .before .before .before .before .before .before .before .before .before .before .before .before .before .before .before .before .before .before .before .before .before .before .clear-heap) .ensures) _ _ _ _ _ (closed-deeper _ _ _ _ _ _ _ _ _ _ _ (same-slots _ _ ((c .before .before .before .before .before .before .before .before .before .before .before .before .before .before .before .before .before .before .before .before .before .before .before .before .before .before .before .before .before .before .before .before .before .before .before .before .before .before .before .before .before .before .before .before .before .before .before .before .before .before .before .before .before .before .before .before .before .before .before .before .before .before .args) .args .now) ((c .before .before .before .before .before .before .before .before .before .before .before .before .before .before .before .before .before .before .before .before .before .before .before .before .before .before .before .before .before .before .before .before .before .before .before .before .before .before .before .before .before .before .before .before .before .before .before .before .before .before .before .before .before .before .before .before .before .before .before .before .before .before .args) .kinds .now) ((c .before .before .before .before .before .before .before .before .before .before .before .before .before .before .before .before .before .before .before .before .before .before .before .before .before .before .before .before .before .before .before .before .before .before .before .before .before .before .before .before .before .before .before .before .before .before .before .before .before .before .before .before .before .before .before .before .before .before .before .before .before .before .args) .p .now) ((c .before .before .before .before .before .before .before .before .before .before .before .before .before .before .before .before .before .before .before .before .before .before .before .before .before .before .before .before .before .before .before .before .before .before .before .before .before .before .before .before .before .before .before .before .before .before .before .before .before .before .before .before .before .before .before .before .before .before .before .before .before .before .args) .t .now) ((c .before .before .before .before .before .before .before .before .before .before .before .before .before .before .before .before .before .before .before .before .before .before .before .before .before .before .before .before .before .before .before .before .before .before .before .before .before .before .before .before .before .before .before .before .before .before .before .before .before .before .before .before .before .before .before .before .before .before .before .before .before .before .args) .cells .now) ((c .before .before .before .before .before .before .before .before .before .before .before .before .before .before .before .before .before .before .before .before .before .before .before .before .before .before .before .before .before .before .before .before .before .before .before .before .before .before .before .before .before .before .before .before .before .before .before .before .before .before .before .before .before .before .before .before .before .before .before .before .before .before .args) .table .now) _ ((c .before .before .before .before .before .before .before .before .before .before .before .before .before .before .before .before .before .before .before .before .before .before .before .before .before .before .before .before .before .before .before .before .before .before .before .before .before .before .before .before .before .before .before .before .before .before .before .before .before .before .before .before .found) .given .0 .0) (rw ((c .before .before .before .before .before .before .before .before .before .before .before .before .before .before .before .before .before .before .before .before .before .before .before .before .before .before .before .before .before .before .before .before .before .before .before .before .before .before .before .before .before .before .before .before .before .before .before .before .before .before .before .before .found) .given .1) at ((c .before .before .before .before .before .before .before .before .before .before .before .before .before .before .before .before .before .before .before .before .before .before .before .before .before .before .before .before .before .before .before .before .before .before .before .before .before .before .before .before .before .before .before .before .before .before .before .before .before .before .before .before .before .before .find) .ensures)) _ ((c .before .before .before .before .before .before .before .before .before .before .before .before .before .before .before .before .before .before .before .before .before .before .before .before .before .before .before .before .before .before .before .before .before .before .before .before .before .before .before .before .before .before .before .before .before .before .before .before .before .before .admits) .ensures) (not-false _ ((c .before .before .before .before .before .before .before .before .before .before .before .before .before .before .before .before .before .before .before .before .before .before .before .before .before .before .before .before .before .before .before .before .before .before .before .before .before .before .before .before .before .before .before .before .before .before .before .before .before .if1) .left)) _ ((c .before .before .before .before .before .before .before .before .before .before .before .before .before .before .before .before .before .before .before .before .before .before .before .before .before .before .before .before .before .before .before .before .before .before .before .before .before .before .before .capacity) .ensures) ((c .before .before .before .before .before .before .before .before .before .before .before .before .before .before .before .before .before .before .before .before .before .before .before .before .before .before .before .before .before .before .before .before .before .before .before .before .before .before .if2) .left) _ _ _ _ _ ((c .before .before .before .before .before .before .before .before .before .before .before .before .before .before .before .before .before .before .before .before .before .before .before .before .before .before .before .before .before .before .before .before .before .before .before .copy-arguments) .ensures) refl ((c .before .before .before .before .before .before .before .before .before .before .before .before .before .before .before .before .before .before .before .before .before .before .before .before .before .before .before .before .before .first-frame) .ensures .0) ((c .before .before .before .before .before .before .before .before .before .before .before .before .before .before .before .before .before .before .before .before .before .before .before .before .before .before .before .before .before .first-frame) .ensures .1)) ((c .before .before .before .before .before .before .before .before .before .before .before .before .before .before .before .before .before .before .before .before .before .before .run-from) .ensures) ((c .before .before .before .before .before .before .before .before .before .before .before .before .before .before .before .before .before .before .before .before .before .before .before .before .before .before .before .before .before .before .before .before .before .before .before .before .before .before .before .before .before .before .before .before .before .before .clear-heap) .last .0) ((c .before .before .before .before .before .before .before .before .before .before .before .before .before .before .before .before .before .before .before .before .before .before .before .before .before .before .before .before .before .before .before .before .before .before .before .before .before .before .before .before .before .before .before .before .before .before .clear-heap) .last .1 .0) _ _ _ _ _ 0 _ (omega (arith, (c .before .before .before .before .before .before .before .before .before .before .before .before .before .before .before .before .before .before .before .before .before .before .run-from) .ensures .left)) (waits ((c .before .before .before .before .before .before .before .before .before .before .before .before .before .before .before .before .before .before .before .before .before .before .run-from) .result .number) _ ((c .before .before .before .before .before .before .before .before .before .before .before .before .before .before .before .before .is-over) .ensures) (not-true _ ((c .before .before .before .before .before .before .before .before .before .before .before .before .before .before .before .if4) .taken))) ((c .before .before .before .before .before .before .before .before .before .run-rest2) .ensures))
 
 sub-close : tie.Need-sub-close
 sub-close c = search needs
 
 close-requires-2 : tie.Need-close-requires-2
-close-requires-2 c κs =
-    let at-run-from = c .before .before .before .before .before .before .before .before .before .before in
-    let at-first-frame = at-run-from .before .before .before .before .before .before .before in
-    let at-copy-arguments = at-first-frame .before .before .before .before .before .before in
-    let at-if2 = at-copy-arguments .before .before .before in
-    let at-capacity = at-if2 .before in
-    let at-if1 = at-capacity .before .before .before in
-    let at-admits = at-if1 .before in
-    let at-found = at-admits .before .before in
-    let at-find = at-found .before .before in
-    (still _ _ _ _ _ _ _ _ _ _ _ (same-slots _ _ _ _ _ _ _ (at-found .found .given .0 .0) (rw (at-found .found .given .1) at (at-find .find .ensures)) _ (at-admits .admits .ensures) (not-false _ (at-if1 .if1 .left)) _ (at-capacity .capacity .ensures) (at-if2 .if2 .left) _ _ _ _ _ (at-copy-arguments .copy-arguments .ensures) refl (at-first-frame .first-frame .ensures .0) (at-first-frame .first-frame .ensures .1)) (at-run-from .run-from .ensures), at-run-from .run-from .ensures .high)
+close-requires-2 c κs = (still _ _ _ _ _ _ _ _ _ _ _ (same-slots _ _ ((c .before .before .before .before .before .before .before .before .before .before .before .before .before .before .before .before .before .before .before .before .before .before .before .before .before .before .before .before .before .before .before .before .before .before .before .before .before .before .before .before .before .before .before .before .before .before .before .before .before .before .args) .args .now) ((c .before .before .before .before .before .before .before .before .before .before .before .before .before .before .before .before .before .before .before .before .before .before .before .before .before .before .before .before .before .before .before .before .before .before .before .before .before .before .before .before .before .before .before .before .before .before .before .before .before .before .args) .kinds .now) ((c .before .before .before .before .before .before .before .before .before .before .before .before .before .before .before .before .before .before .before .before .before .before .before .before .before .before .before .before .before .before .before .before .before .before .before .before .before .before .before .before .before .before .before .before .before .before .before .before .before .before .args) .p .now) ((c .before .before .before .before .before .before .before .before .before .before .before .before .before .before .before .before .before .before .before .before .before .before .before .before .before .before .before .before .before .before .before .before .before .before .before .before .before .before .before .before .before .before .before .before .before .before .before .before .before .before .args) .t .now) ((c .before .before .before .before .before .before .before .before .before .before .before .before .before .before .before .before .before .before .before .before .before .before .before .before .before .before .before .before .before .before .before .before .before .before .before .before .before .before .before .before .before .before .before .before .before .before .before .before .before .before .args) .cells .now) ((c .before .before .before .before .before .before .before .before .before .before .before .before .before .before .before .before .before .before .before .before .before .before .before .before .before .before .before .before .before .before .before .before .before .before .before .before .before .before .before .before .before .before .before .before .before .before .before .before .before .before .args) .table .now) _ ((c .before .before .before .before .before .before .before .before .before .before .before .before .before .before .before .before .before .before .before .before .before .before .before .before .before .before .before .before .before .before .before .before .before .before .before .before .before .before .before .before .found) .given .0 .0) (rw ((c .before .before .before .before .before .before .before .before .before .before .before .before .before .before .before .before .before .before .before .before .before .before .before .before .before .before .before .before .before .before .before .before .before .before .before .before .before .before .before .before .found) .given .1) at ((c .before .before .before .before .before .before .before .before .before .before .before .before .before .before .before .before .before .before .before .before .before .before .before .before .before .before .before .before .before .before .before .before .before .before .before .before .before .before .before .before .before .before .find) .ensures)) _ ((c .before .before .before .before .before .before .before .before .before .before .before .before .before .before .before .before .before .before .before .before .before .before .before .before .before .before .before .before .before .before .before .before .before .before .before .before .before .before .admits) .ensures) (not-false _ ((c .before .before .before .before .before .before .before .before .before .before .before .before .before .before .before .before .before .before .before .before .before .before .before .before .before .before .before .before .before .before .before .before .before .before .before .before .before .if1) .left)) _ ((c .before .before .before .before .before .before .before .before .before .before .before .before .before .before .before .before .before .before .before .before .before .before .before .before .before .before .before .capacity) .ensures) ((c .before .before .before .before .before .before .before .before .before .before .before .before .before .before .before .before .before .before .before .before .before .before .before .before .before .before .if2) .left) _ _ _ _ _ ((c .before .before .before .before .before .before .before .before .before .before .before .before .before .before .before .before .before .before .before .before .before .before .before .copy-arguments) .ensures) refl ((c .before .before .before .before .before .before .before .before .before .before .before .before .before .before .before .before .before .first-frame) .ensures .0) ((c .before .before .before .before .before .before .before .before .before .before .before .before .before .before .before .before .before .first-frame) .ensures .1)) ((c .before .before .before .before .before .before .before .before .before .before .run-from) .ensures), (c .before .before .before .before .before .before .before .before .before .before .run-from) .ensures .high)
 
-same-length-7 : tie.Need-same-length-7
-same-length-7 c =
-    let at-close2 = c .before .before .before .before in
-    let at-run-from = at-close2 .before .before .before .before .before .before .before .before .before .before .before in
-    let at-copy-arguments = at-run-from .before .before .before .before .before .before .before .before .before .before .before .before .before in
-    at-close2 .close2 .kept .1 .1 .1 .1 .0 ∙ at-run-from .run-from .ensures .same-payloads ∙ at-copy-arguments .copy-arguments .ensures .same-payloads
+same-length-13 : tie.Need-same-length-13
+same-length-13 c = (c .before .before .before .before .close2) .kept .1 .1 .1 .1 .0 ∙ (c .before .before .before .before .before .before .before .before .before .before .before .before .before .before .before .run-from) .ensures .same-payloads ∙ (c .before .before .before .before .before .before .before .before .before .before .before .before .before .before .before .before .before .before .before .before .before .before .before .before .before .before .before .before .copy-arguments) .ensures .same-payloads
 
-same-length-8 : tie.Need-same-length-8
-same-length-8 c =
-    let at-close2 = c .before .before .before .before in
-    let at-run-from = at-close2 .before .before .before .before .before .before .before .before .before .before .before in
-    let at-copy-arguments = at-run-from .before .before .before .before .before .before .before .before .before .before .before .before .before in
-    at-close2 .close2 .kept .1 .1 .1 .1 .1 .0 ∙ at-run-from .run-from .ensures .same-types ∙ at-copy-arguments .copy-arguments .ensures .same-types
+same-length-14 : tie.Need-same-length-14
+same-length-14 c = (c .before .before .before .before .close2) .kept .1 .1 .1 .1 .1 .0 ∙ (c .before .before .before .before .before .before .before .before .before .before .before .before .before .before .before .run-from) .ensures .same-types ∙ (c .before .before .before .before .before .before .before .before .before .before .before .before .before .before .before .before .before .before .before .before .before .before .before .before .before .before .before .before .copy-arguments) .ensures .same-types
+
+same-length-15 : tie.Need-same-length-15
+same-length-15 c = (c .before .before .before .before .before .before .before .before .before .before .before .before .before .before .before .before .before .before .before .before .before .before .before .before .before .before .before .before .before .before .before .before .before .before .before .before .before .before .before .clear-heap) .ensures .same-cells
+
+same-length-16 : tie.Need-same-length-16
+same-length-16 c = (c .before .before .before .before .before .before .before .before .before .before .before .before .before .before .before .before .before .before .before .before .before .before .before .before .before .before .before .before .before .before .before .before .before .before .before .before .before .before .before .clear-heap) .ensures .same-table
 
 returns-6 : tie.Need-returns-6
-returns-6 c =
-    let at-close2 = c .before .before .before .before in
-    let at-if4 = at-close2 .before .before .before .before in
-    let at-run-from = at-if4 .before .before .before .before .before .before .before in
-    let at-first-frame = at-run-from .before .before .before .before .before .before .before in
-    let at-copy-arguments = at-first-frame .before .before .before .before .before .before in
-    let at-if2 = at-copy-arguments .before .before .before in
-    let at-capacity = at-if2 .before in
-    let at-if1 = at-capacity .before .before .before in
-    let at-admits = at-if1 .before in
-    let at-found = at-admits .before .before in
-    let at-find = at-found .before .before in
-    let start = at-find .before .before .before .before .before .before in
-    run-over _ _ _ _ _ _ _ (at-found .found .given .0 .0) (rw (at-found .found .given .1) at (at-find .find .ensures)) _ (at-admits .admits .ensures) (not-false _ (at-if1 .if1 .left)) _ (at-capacity .capacity .ensures) (at-if2 .if2 .left) _ _ _ _ _ (at-copy-arguments .copy-arguments .ensures) refl (at-first-frame .first-frame .ensures .0) (at-first-frame .first-frame .ensures .1) _ (start .pre .1) _ _ _ (closed-over _ _ _ _ _ _ _ _ _ _ _ (same-slots _ _ _ _ _ _ _ (at-found .found .given .0 .0) (rw (at-found .found .given .1) at (at-find .find .ensures)) _ (at-admits .admits .ensures) (not-false _ (at-if1 .if1 .left)) _ (at-capacity .capacity .ensures) (at-if2 .if2 .left) _ _ _ _ _ (at-copy-arguments .copy-arguments .ensures) refl (at-first-frame .first-frame .ensures .0) (at-first-frame .first-frame .ensures .1)) (at-run-from .run-from .ensures) _ _ _ 0 _ (omega arith) (λ q. absurd (at-if4 .if4 .left q)) (at-close2 .close2 .ensures))
+returns-6 c = run-over _ _ ((c .before .before .before .before .before .before .before .before .before .before .before .before .before .before .before .before .before .before .before .before .before .before .before .before .before .before .before .before .before .before .before .before .before .before .before .before .before .before .before .before .before .before .before .before .before .before .before .before .before .before .before .before .before .before .before .args) .args .now) ((c .before .before .before .before .before .before .before .before .before .before .before .before .before .before .before .before .before .before .before .before .before .before .before .before .before .before .before .before .before .before .before .before .before .before .before .before .before .before .before .before .before .before .before .before .before .before .before .before .before .before .before .before .before .before .before .args) .kinds .now) ((c .before .before .before .before .before .before .before .before .before .before .before .before .before .before .before .before .before .before .before .before .before .before .before .before .before .before .before .before .before .before .before .before .before .before .before .before .before .before .before .before .before .before .before .before .before .before .before .before .before .before .before .before .before .before .before .args) .p .now) ((c .before .before .before .before .before .before .before .before .before .before .before .before .before .before .before .before .before .before .before .before .before .before .before .before .before .before .before .before .before .before .before .before .before .before .before .before .before .before .before .before .before .before .before .before .before .before .before .before .before .before .before .before .before .before .before .args) .t .now) ((c .before .before .before .before .before .before .before .before .before .before .before .before .before .before .before .before .before .before .before .before .before .before .before .before .before .before .before .before .before .before .before .before .before .before .before .before .before .before .before .before .before .before .before .before .before .before .before .before .before .before .before .before .before .before .before .args) .cells .now) ((c .before .before .before .before .before .before .before .before .before .before .before .before .before .before .before .before .before .before .before .before .before .before .before .before .before .before .before .before .before .before .before .before .before .before .before .before .before .before .before .before .before .before .before .before .before .before .before .before .before .before .before .before .before .before .before .args) .table .now) _ ((c .before .before .before .before .before .before .before .before .before .before .before .before .before .before .before .before .before .before .before .before .before .before .before .before .before .before .before .before .before .before .before .before .before .before .before .before .before .before .before .before .before .before .before .before .before .found) .given .0 .0) (rw ((c .before .before .before .before .before .before .before .before .before .before .before .before .before .before .before .before .before .before .before .before .before .before .before .before .before .before .before .before .before .before .before .before .before .before .before .before .before .before .before .before .before .before .before .before .before .found) .given .1) at ((c .before .before .before .before .before .before .before .before .before .before .before .before .before .before .before .before .before .before .before .before .before .before .before .before .before .before .before .before .before .before .before .before .before .before .before .before .before .before .before .before .before .before .before .before .before .before .before .find) .ensures)) _ ((c .before .before .before .before .before .before .before .before .before .before .before .before .before .before .before .before .before .before .before .before .before .before .before .before .before .before .before .before .before .before .before .before .before .before .before .before .before .before .before .before .before .before .before .admits) .ensures) (not-false _ ((c .before .before .before .before .before .before .before .before .before .before .before .before .before .before .before .before .before .before .before .before .before .before .before .before .before .before .before .before .before .before .before .before .before .before .before .before .before .before .before .before .before .before .if1) .left)) _ ((c .before .before .before .before .before .before .before .before .before .before .before .before .before .before .before .before .before .before .before .before .before .before .before .before .before .before .before .before .before .before .before .before .capacity) .ensures) ((c .before .before .before .before .before .before .before .before .before .before .before .before .before .before .before .before .before .before .before .before .before .before .before .before .before .before .before .before .before .before .before .if2) .left) _ _ _ _ _ ((c .before .before .before .before .before .before .before .before .before .before .before .before .before .before .before .before .before .before .before .before .before .before .before .before .before .before .before .before .copy-arguments) .ensures) refl ((c .before .before .before .before .before .before .before .before .before .before .before .before .before .before .before .before .before .before .before .before .before .before .first-frame) .ensures .0) ((c .before .before .before .before .before .before .before .before .before .before .before .before .before .before .before .before .before .before .before .before .before .before .first-frame) .ensures .1) _ ((c .before .before .before .before .before .before .before .before .before .before .before .before .before .before .before .before .before .before .before .before .before .before .before .before .before .before .before .before .before .before .before .before .before .before .before .before .before .before .before .before .before .before .before .before .before .before .before .before .before .before .before .before .before .before .before .pre) .1) ((c .before .before .before .before .before .before .before .before .before .before .before .before .before .before .before .before .before .before .before .before .before .before .before .before .before .before .before .before .before .before .before .before .before .before .before .before .before .before .before .clear-heap) .last .0) ((c .before .before .before .before .before .before .before .before .before .before .before .before .before .before .before .before .before .before .before .before .before .before .before .before .before .before .before .before .before .before .before .before .before .before .before .before .before .before .before .clear-heap) .last .1 .0) ((c .before .before .before .before .before .before .before .before .before .before .before .before .before .before .before .before .before .before .before .before .before .before .before .before .before .before .before .before .before .before .before .before .before .before .before .before .before .before .before .clear-heap) .ensures) _ _ _ _ _ (closed-over _ _ _ _ _ _ _ _ _ _ _ (same-slots _ _ ((c .before .before .before .before .before .before .before .before .before .before .before .before .before .before .before .before .before .before .before .before .before .before .before .before .before .before .before .before .before .before .before .before .before .before .before .before .before .before .before .before .before .before .before .before .before .before .before .before .before .before .before .before .before .before .before .args) .args .now) ((c .before .before .before .before .before .before .before .before .before .before .before .before .before .before .before .before .before .before .before .before .before .before .before .before .before .before .before .before .before .before .before .before .before .before .before .before .before .before .before .before .before .before .before .before .before .before .before .before .before .before .before .before .before .before .before .args) .kinds .now) ((c .before .before .before .before .before .before .before .before .before .before .before .before .before .before .before .before .before .before .before .before .before .before .before .before .before .before .before .before .before .before .before .before .before .before .before .before .before .before .before .before .before .before .before .before .before .before .before .before .before .before .before .before .before .before .before .args) .p .now) ((c .before .before .before .before .before .before .before .before .before .before .before .before .before .before .before .before .before .before .before .before .before .before .before .before .before .before .before .before .before .before .before .before .before .before .before .before .before .before .before .before .before .before .before .before .before .before .before .before .before .before .before .before .before .before .before .args) .t .now) ((c .before .before .before .before .before .before .before .before .before .before .before .before .before .before .before .before .before .before .before .before .before .before .before .before .before .before .before .before .before .before .before .before .before .before .before .before .before .before .before .before .before .before .before .before .before .before .before .before .before .before .before .before .before .before .before .args) .cells .now) ((c .before .before .before .before .before .before .before .before .before .before .before .before .before .before .before .before .before .before .before .before .before .before .before .before .before .before .before .before .before .before .before .before .before .before .before .before .before .before .before .before .before .before .before .before .before .before .before .before .before .before .before .before .before .before .before .args) .table .now) _ ((c .before .before .before .before .before .before .before .before .before .before .before .before .before .before .before .before .before .before .before .before .before .before .before .before .before .before .before .before .before .before .before .before .before .before .before .before .before .before .before .before .before .before .before .before .before .found) .given .0 .0) (rw ((c .before .before .before .before .before .before .before .before .before .before .before .before .before .before .before .before .before .before .before .before .before .before .before .before .before .before .before .before .before .before .before .before .before .before .before .before .before .before .before .before .before .before .before .before .before .found) .given .1) at ((c .before .before .before .before .before .before .before .before .before .before .before .before .before .before .before .before .before .before .before .before .before .before .before .before .before .before .before .before .before .before .before .before .before .before .before .before .before .before .before .before .before .before .before .before .before .before .before .find) .ensures)) _ ((c .before .before .before .before .before .before .before .before .before .before .before .before .before .before .before .before .before .before .before .before .before .before .before .before .before .before .before .before .before .before .before .before .before .before .before .before .before .before .before .before .before .before .before .admits) .ensures) (not-false _ ((c .before .before .before .before .before .before .before .before .before .before .before .before .before .before .before .before .before .before .before .before .before .before .before .before .before .before .before .before .before .before .before .before .before .before .before .before .before .before .before .before .before .before .if1) .left)) _ ((c .before .before .before .before .before .before .before .before .before .before .before .before .before .before .before .before .before .before .before .before .before .before .before .before .before .before .before .before .before .before .before .before .capacity) .ensures) ((c .before .before .before .before .before .before .before .before .before .before .before .before .before .before .before .before .before .before .before .before .before .before .before .before .before .before .before .before .before .before .before .if2) .left) _ _ _ _ _ ((c .before .before .before .before .before .before .before .before .before .before .before .before .before .before .before .before .before .before .before .before .before .before .before .before .before .before .before .before .copy-arguments) .ensures) refl ((c .before .before .before .before .before .before .before .before .before .before .before .before .before .before .before .before .before .before .before .before .before .before .first-frame) .ensures .0) ((c .before .before .before .before .before .before .before .before .before .before .before .before .before .before .before .before .before .before .before .before .before .before .first-frame) .ensures .1)) ((c .before .before .before .before .before .before .before .before .before .before .before .before .before .before .before .run-from) .ensures) ((c .before .before .before .before .before .before .before .before .before .before .before .before .before .before .before .before .before .before .before .before .before .before .before .before .before .before .before .before .before .before .before .before .before .before .before .before .before .before .before .clear-heap) .last .0) ((c .before .before .before .before .before .before .before .before .before .before .before .before .before .before .before .before .before .before .before .before .before .before .before .before .before .before .before .before .before .before .before .before .before .before .before .before .before .before .before .clear-heap) .last .1 .0) _ _ _ (still-empty _ _ ((c .before .before .before .before .before .before .before .before .before .before .before .before .before .before .before .before .before .before .before .before .before .before .before .before .before .before .before .before .before .before .before .before .before .before .before .before .before .before .before .before .before .before .before .before .before .before .before .before .before .before .before .before .before .before .before .args) .args .now) ((c .before .before .before .before .before .before .before .before .before .before .before .before .before .before .before .before .before .before .before .before .before .before .before .before .before .before .before .before .before .before .before .before .before .before .before .before .before .before .before .before .before .before .before .before .before .before .before .before .before .before .before .before .before .before .before .args) .kinds .now) ((c .before .before .before .before .before .before .before .before .before .before .before .before .before .before .before .before .before .before .before .before .before .before .before .before .before .before .before .before .before .before .before .before .before .before .before .before .before .before .before .before .before .before .before .before .before .before .before .before .before .before .before .before .before .before .before .args) .p .now) ((c .before .before .before .before .before .before .before .before .before .before .before .before .before .before .before .before .before .before .before .before .before .before .before .before .before .before .before .before .before .before .before .before .before .before .before .before .before .before .before .before .before .before .before .before .before .before .before .before .before .before .before .before .before .before .before .args) .t .now) ((c .before .before .before .before .before .before .before .before .before .before .before .before .before .before .before .before .before .before .before .before .before .before .before .before .before .before .before .before .before .before .before .before .before .before .before .before .before .before .before .before .before .before .before .before .before .before .before .before .before .before .before .before .before .before .before .args) .cells .now) ((c .before .before .before .before .before .before .before .before .before .before .before .before .before .before .before .before .before .before .before .before .before .before .before .before .before .before .before .before .before .before .before .before .before .before .before .before .before .before .before .before .before .before .before .before .before .before .before .before .before .before .before .before .before .before .before .args) .table .now) _ ((c .before .before .before .before .before .before .before .before .before .before .before .before .before .before .before .before .before .before .before .before .before .before .before .before .before .before .before .before .before .before .before .before .before .before .before .before .before .before .before .before .before .before .before .before .before .found) .given .0 .0) (rw ((c .before .before .before .before .before .before .before .before .before .before .before .before .before .before .before .before .before .before .before .before .before .before .before .before .before .before .before .before .before .before .before .before .before .before .before .before .before .before .before .before .before .before .before .before .before .found) .given .1) at ((c .before .before .before .before .before .before .before .before .before .before .before .before .before .before .before .before .before .before .before .before .before .before .before .before .before .before .before .before .before .before .before .before .before .before .before .before .before .before .before .before .before .before .before .before .before .before .before .find) .ensures)) _ ((c .before .before .before .before .before .before .before .before .before .before .before .before .before .before .before .before .before .before .before .before .before .before .before .before .before .before .before .before .before .before .before .before .before .before .before .before .before .before .before .before .before .before .before .admits) .ensures) (not-false _ ((c .before .before .before .before .before .before .before .before .before .before .before .before .before .before .before .before .before .before .before .before .before .before .before .before .before .before .before .before .before .before .before .before .before .before .before .before .before .before .before .before .before .before .if1) .left)) _ ((c .before .before .before .before .before .before .before .before .before .before .before .before .before .before .before .before .before .before .before .before .before .before .before .before .before .before .before .before .before .before .before .before .capacity) .ensures) ((c .before .before .before .before .before .before .before .before .before .before .before .before .before .before .before .before .before .before .before .before .before .before .before .before .before .before .before .before .before .before .before .before .before .before .before .before .before .before .before .clear-heap) .last .0) ((c .before .before .before .before .before .before .before .before .before .before .before .before .before .before .before .before .before .before .before .before .before .before .before .before .before .before .before .before .before .before .before .before .before .before .before .before .before .before .before .clear-heap) .last .1 .0) ((c .before .before .before .before .before .before .before .before .before .before .before .before .before .before .before .before .before .before .before .before .before .before .before .before .before .before .before .before .before .before .before .before .before .before .before .before .before .before .before .clear-heap) .ensures)) (λ i. (c .before .before .before .before .before .before .before .before .before .before .before .before .before .before .before .before .before .before .before .before .before .before .before .before .before .before .before .before .before .before .before .before .before .before .before .before .before .slice-known5) .given i .fits) (λ i. (c .before .before .before .before .before .before .before .before .before .before .before .before .before .before .before .before .before .before .before .before .before .before .before .before .before .before .before .before .before .before .before .before .before .before .before .slice-known6) .given i .fits) 0 _ (omega (arith, (c .before .before .before .before .before .before .before .before .before .before .before .before .before .before .before .run-from) .ensures .left)) (λ q. absurd (no-overflow ((c .before .before .before .before .before .before .before .before .before .before .before .before .before .before .before .run-from) .result .number) _ ((c .before .before .before .before .before .before .before .before .before .is-over) .ensures) (not-false _ ((c .before .before .before .before .before .before .before .before .if4) .left)) q)) (not-left ((c .before .before .before .before .before .before .before .before .before .before .before .before .before .before .before .run-from) .result .number) _ ((c .before .before .before .before .before .before .before .before .before .is-over) .ensures) (not-false _ ((c .before .before .before .before .before .before .before .before .if4) .left))) ((c .before .before .before .before .close2) .ensures))
 
 pub run-opened-spec : {M : Type 1} → statement M
 run-opened-spec =
@@ -243,10 +159,13 @@ run-opened-spec =
     returns
     admits-requires
     returns-2
+    clear-heap-requires
     capacity-requires
     close-requires
     same-length
     same-length-2
+    same-length-3
+    same-length-4
     returns-3
     copy-arguments-requires
     slice-aggregate-first-frame
@@ -254,18 +173,25 @@ run-opened-spec =
     word-requires
     slice-aggregate-run-rest
     run-rest-requires
-    same-length-3
-    same-length-4
+    same-length-5
+    same-length-6
+    same-length-7
+    same-length-8
     returns-4
     slice-aggregate-run-from
     run-from-requires
+    is-over-requires
     slice-aggregate-run-rest-2
     run-rest-requires-2
-    same-length-5
-    same-length-6
+    same-length-9
+    same-length-10
+    same-length-11
+    same-length-12
     returns-5
     sub-close
     close-requires-2
-    same-length-7
-    same-length-8
+    same-length-13
+    same-length-14
+    same-length-15
+    same-length-16
     returns-6)

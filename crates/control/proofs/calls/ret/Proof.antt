@@ -1,13 +1,14 @@
 -- The proof of `control::calls::ret`.
 use native.Mathlib.Omega.{arith}
 use mathlib.Core.Path.{_≡_, sym, ap, _∙_}
+use mathlib.Core.Logic.{⊎-elim}
 use borrow.Author.Needs.{needs}
-use borrow.Author.Tests.{not-true, not-false}
 use Rattle.reader.specs.Answers.{functionIn}
 use Rattle.reader.specs.declared.entries.FoundFunction.the-variants.{Nothing}
 use Rattle.reader.specs.declared.entries.FoundFunction.{FoundFunction}
 use Rattle.reader.proofs.Records.{functions-length}
-use Rattle.control.proofs.ReturnLaws.{ret-30, ret-bare, ret-21, ret-22, ret-value}
+use Rattle.control.proofs.Files.{returned}
+use Rattle.control.proofs.ReturnLaws.{top-kind, ret-30, ret-bare, ret-21, ret-22, ret-value}
 use Rattle.control.proofs.calls.ret.Statement.{statement}
 use Rattle.control.proofs.calls.ret.Tie as tie
 
@@ -30,11 +31,8 @@ enum-told : tie.Need-enum-told
 enum-told c = search needs
 
 returns : tie.Need-returns
-returns c = let start = c .before .before .before .before .before .before .before .before .before in
-    let wide = c .before .before .before .wide in
-    let function = c .before .before .function in
-    λ cap k. let z : _≡_ {A = FoundFunction} (function .result) Nothing = cc in
-    ret-30 cap _ _ _ _ k _ (omega (arith, functions-length _ _ (start .pre .0), start .pre .0 .few-functions)) (rw (wide .ensures .0) at (sym (function .ensures) ∙ ap (functionIn _ _) z))
+returns c = λ cap k. let z : _≡_ {A = FoundFunction} ((c .before .before .function) .result) Nothing = cc in
+    ret-30 cap _ _ _ _ k _ (omega (arith, functions-length _ _ ((c .before .before .before .before .before .before .before .before .before .pre) .0 .0), (c .before .before .before .before .before .before .before .before .before .pre) .0 .0 .few-functions)) (rw ((c .before .before .before .wide) .ensures .0) at (sym ((c .before .before .function) .ensures) ∙ ap (functionIn _ _) z))
 
 add-wide : tie.Need-add-wide
 add-wide c = search needs
@@ -48,38 +46,26 @@ shared-slice-read-wide-2 c = search needs
 wide-requires-2 : tie.Need-wide-requires-2
 wide-requires-2 c κs = search needs
 
-has-value-requires : tie.Need-has-value-requires
-has-value-requires c κs = search needs
-
 leave-requires : tie.Need-leave-requires
 leave-requires c κs = search needs
 
 returns-2 : tie.Need-returns-2
-returns-2 c = let start = c .before .before .before .before .before .before .before .before .before .before .before .before .before .before .before in
-    let wide = c .before .before .before .before .before .before .before .before .before .wide in
-    let function = c .before .before .before .before .before .before .before .before .function in
-    let found = c .before .before .before .before .before .before .found in
-    let wide2 = c .before .before .before .wide2 in
-    let has-value = c .before .before .has-value in
-    λ cap k. rw (c .leave .ensures, wide2 .ensures .0) (ret-bare cap _ _ _ _ k _ (omega (arith, functions-length _ _ (start .pre .0), start .pre .0 .few-functions)) (found .given .0 .0) (rw (wide .ensures .0) at (sym (ap (functionIn _ _) (found .given .1)) ∙ function .ensures)) (sym (has-value .ensures) ∙ not-true _ (c .before .if1 .taken)))
+returns-2 c = λ cap k. rw ((c .leave) .ensures, (c .before .before .before .wide2) .ensures .0) (ret-bare cap _ _ _ _ k _ (omega (arith, functions-length _ _ ((c .before .before .before .before .before .before .before .before .before .before .before .before .before .before .before .pre) .0 .0), (c .before .before .before .before .before .before .before .before .before .before .before .before .before .before .before .pre) .0 .0 .few-functions)) ((c .before .before .before .before .before .before .found) .given .0 .0) (rw ((c .before .before .before .before .before .before .before .before .before .wide) .ensures .0) at (sym (ap (functionIn _ _) ((c .before .before .before .before .before .before .found) .given .1)) ∙ (c .before .before .before .before .before .before .before .before .function) .ensures)) ((c .before .if1) .taken))
 
 add-if2 : tie.Need-add-if2
 add-if2 c = search needs
 
 returns-3 : tie.Need-returns-3
-returns-3 c = let start = c .before .before .before .before .before .before .before .before .before .before .before .before .before .before .before .before in
-    let wide = c .before .before .before .before .before .before .before .before .before .before .wide in
-    let function = c .before .before .before .before .before .before .before .before .before .function in
-    let found = c .before .before .before .before .before .before .before .found in
-    let has-value = c .before .before .before .has-value in
-    let if1 = c .before .before .if1 in
-    λ cap k. ret-21 cap _ _ _ _ k _ (omega (arith, functions-length _ _ (start .pre .0), start .pre .0 .few-functions)) (found .given .0 .0) (rw (wide .ensures .0) at (sym (ap (functionIn _ _) (found .given .1)) ∙ function .ensures)) (sym (has-value .ensures) ∙ not-false _ (if1 .left)) (c .if2 .taken)
+returns-3 c = λ cap k. ret-21 cap _ _ _ _ k _ (omega (arith, functions-length _ _ ((c .before .before .before .before .before .before .before .before .before .before .before .before .before .before .before .before .pre) .0 .0), (c .before .before .before .before .before .before .before .before .before .before .before .before .before .before .before .before .pre) .0 .0 .few-functions)) ((c .before .before .before .before .before .before .before .found) .given .0 .0) (rw ((c .before .before .before .before .before .before .before .before .before .before .wide) .ensures .0) at (sym (ap (functionIn _ _) ((c .before .before .before .before .before .before .before .found) .given .1)) ∙ (c .before .before .before .before .before .before .before .before .before .function) .ensures)) ((c .before .before .if1) .left) ((c .if2) .taken)
 
 sub-slot-at : tie.Need-sub-slot-at
 sub-slot-at c = search needs
 
 slot-at-requires : tie.Need-slot-at-requires
 slot-at-requires c κs = search needs
+
+kind-of-requires : tie.Need-kind-of-requires
+kind-of-requires c κs = (returned _ ((c .before .before .before .before .before .before .before .before .before .before .before .before .before .before .before .before .before .before .before .before .before .before .pre) .0 .1) _ ((c .before .before .before .before .before .before .before .before .before .before .before .before .before .found) .given .0 .0) (sym (ap (functionIn _ _) ((c .before .before .before .before .before .before .before .before .before .before .before .before .before .found) .given .1)) ∙ (c .before .before .before .before .before .before .before .before .before .before .before .before .before .before .before .function) .ensures) ((c .before .before .before .before .before .before .before .before .if1) .left))
 
 same-length : tie.Need-same-length
 same-length c = search needs
@@ -88,28 +74,17 @@ same-length-2 : tie.Need-same-length-2
 same-length-2 c = search needs
 
 returns-4 : tie.Need-returns-4
-returns-4 c = let start = c .before .before .before .before .before .before .before .before .before .before .before .before .before .before .before .before .before .before .before .before .before .before in
-    let wide = c .before .before .before .before .before .before .before .before .before .before .before .before .before .before .before .before .wide in
-    let function = c .before .before .before .before .before .before .before .before .before .before .before .before .before .before .before .function in
-    let found = c .before .before .before .before .before .before .before .before .before .before .before .before .before .found in
-    let has-value = c .before .before .before .before .before .before .before .before .before .has-value in
-    let if1 = c .before .before .before .before .before .before .before .before .if1 in
-    let if2 = c .before .before .before .before .before .before .if2 in
-    let slot-at = c .before .before .before .slot-at in
-    λ cap k. ret-22 cap _ _ _ _ k _ (omega (arith, functions-length _ _ (start .pre .0), start .pre .0 .few-functions)) (found .given .0 .0) (rw (wide .ensures .0) at (sym (ap (functionIn _ _) (found .given .1)) ∙ function .ensures)) (sym (has-value .ensures) ∙ not-false _ (if1 .left)) _ (if2 .left) (slot-at .ensures) (c .if3 .taken)
+returns-4 c = λ cap k. ret-22 cap _ _ _ _ k _ (omega (arith, functions-length _ _ ((c .before .before .before .before .before .before .before .before .before .before .before .before .before .before .before .before .before .before .before .before .before .before .before .before .before .pre) .0 .0), (c .before .before .before .before .before .before .before .before .before .before .before .before .before .before .before .before .before .before .before .before .before .before .before .before .before .pre) .0 .0 .few-functions)) ((c .before .before .before .before .before .before .before .before .before .before .before .before .before .before .before .before .found) .given .0 .0) (rw ((c .before .before .before .before .before .before .before .before .before .before .before .before .before .before .before .before .before .before .before .wide) .ensures .0) at (sym (ap (functionIn _ _) ((c .before .before .before .before .before .before .before .before .before .before .before .before .before .before .before .before .found) .given .1)) ∙ (c .before .before .before .before .before .before .before .before .before .before .before .before .before .before .before .before .before .before .function) .ensures)) ((c .before .before .before .before .before .before .before .before .before .before .before .if1) .left) _ ((c .before .before .before .before .before .before .before .before .before .if2) .left) ((c .before .before .before .before .before .before .slot-at) .ensures) (λ e. (c .if4) .taken (e ∙ sym ((c .before .before .kind-of) .ensures)))
 
 put-slot-requires : tie.Need-put-slot-requires
-put-slot-requires c κs = let start = c .before .before .before .before .before .before .before .before .before .before .before .before .before .before .before .before .before .before .before .before .before .before .before .before in
-    let wide2 = c .before .before .before .before .before .before .before .before .before .before .before .before .wide2 in
-    let if2 = c .before .before .before .before .before .before .before .before .if2 in
-    (omega (arith, wide2 .ensures .0, start .pre .1 .1 .low, start .pre .1 .1 .high, start .pre .1 .1 .payloads, if2 .left), omega (arith, wide2 .ensures .0, start .pre .1 .1 .low, start .pre .1 .1 .high, start .pre .1 .1 .types, if2 .left))
+put-slot-requires c κs = let k = (c .before .before .before .before .before .before .before .before .before .before .before .before .before .before .before .before .before .before .before .before .before .before .before .before .pre) .1 .0 .1 in
+    (omega (arith, (c .before .before .before .before .before .before .before .before .before .before .before .before .wide2) .ensures .0, k .low, k .high, k .payloads, (c .before .before .before .before .before .before .before .before .if2) .left), omega (arith, (c .before .before .before .before .before .before .before .before .before .before .before .before .wide2) .ensures .0, k .low, k .high, k .types, (c .before .before .before .before .before .before .before .before .if2) .left))
 
 add-leave : tie.Need-add-leave
 add-leave c = search needs
 
 leave-requires-2 : tie.Need-leave-requires-2
-leave-requires-2 c κs = let start = c .before .before .before .before .before .before .before .before .before .before .before .before .before .before .before .before .before .before .before .before .before .before .before .before .before .before .before .before .before in
-    (omega (arith, start .pre .1 .1 .words), start .pre .1 .1 .whole)
+leave-requires-2 c κs = (omega (arith, (c .before .before .before .before .before .before .before .before .before .before .before .before .before .before .before .before .before .before .before .before .before .before .before .before .before .before .before .before .before .pre) .1 .0 .1 .words), (c .before .before .before .before .before .before .before .before .before .before .before .before .before .before .before .before .before .before .before .before .before .before .before .before .before .before .before .before .before .pre) .1 .0 .1 .whole)
 
 same-length-3 : tie.Need-same-length-3
 same-length-3 c = search needs
@@ -118,19 +93,10 @@ same-length-4 : tie.Need-same-length-4
 same-length-4 c = search needs
 
 returns-5 : tie.Need-returns-5
-returns-5 c = let start = c .before .before .before .before .before .before .before .before .before .before .before .before .before .before .before .before .before .before .before .before .before .before .before .before .before .before .before .before .before .before in
-    let wide = c .before .before .before .before .before .before .before .before .before .before .before .before .before .before .before .before .before .before .before .before .before .before .before .before .wide in
-    let function = c .before .before .before .before .before .before .before .before .before .before .before .before .before .before .before .before .before .before .before .before .before .before .before .function in
-    let found = c .before .before .before .before .before .before .before .before .before .before .before .before .before .before .before .before .before .before .before .before .before .found in
-    let wide2 = c .before .before .before .before .before .before .before .before .before .before .before .before .before .before .before .before .before .before .wide2 in
-    let has-value = c .before .before .before .before .before .before .before .before .before .before .before .before .before .before .before .before .before .has-value in
-    let if1 = c .before .before .before .before .before .before .before .before .before .before .before .before .before .before .before .before .if1 in
-    let if2 = c .before .before .before .before .before .before .before .before .before .before .before .before .before .before .if2 in
-    let slot-at = c .before .before .before .before .before .before .before .before .before .before .before .slot-at in
-    let if3 = c .before .before .before .before .before .before .before .before .if3 in
-    let put-slot = c .before .before .before .before .before .put-slot in
-    λ cap k. rw (c .leave2 .ensures, wide2 .ensures .0)
-    (ret-value cap _ _ _ _ k _ (omega (arith, functions-length _ _ (start .pre .0), start .pre .0 .few-functions)) (found .given .0 .0) (rw (wide .ensures .0) at (sym (ap (functionIn _ _) (found .given .1)) ∙ function .ensures)) (sym (has-value .ensures) ∙ not-false _ (if1 .left)) _ (if2 .left) (slot-at .ensures) _ _ (if3 .left) (rw (wide2 .ensures .0) at (put-slot .ensures .0)) (rw (wide2 .ensures .0) at (put-slot .ensures .1)) (omega (arith, slot-at .ok)))
+returns-5 c = λ cap k. rw ((c .leave2) .ensures, (c .before .before .before .before .before .before .before .before .before .before .before .before .before .before .before .before .before .before .wide2) .ensures .0)
+    (ret-value cap _ _ _ _ k _ (omega (arith, functions-length _ _ ((c .before .before .before .before .before .before .before .before .before .before .before .before .before .before .before .before .before .before .before .before .before .before .before .before .before .before .before .before .before .before .pre) .0 .0), (c .before .before .before .before .before .before .before .before .before .before .before .before .before .before .before .before .before .before .before .before .before .before .before .before .before .before .before .before .before .before .pre) .0 .0 .few-functions)) ((c .before .before .before .before .before .before .before .before .before .before .before .before .before .before .before .before .before .before .before .before .before .found) .given .0 .0) (rw ((c .before .before .before .before .before .before .before .before .before .before .before .before .before .before .before .before .before .before .before .before .before .before .before .before .wide) .ensures .0) at (sym (ap (functionIn _ _) ((c .before .before .before .before .before .before .before .before .before .before .before .before .before .before .before .before .before .before .before .before .before .found) .given .1)) ∙ (c .before .before .before .before .before .before .before .before .before .before .before .before .before .before .before .before .before .before .before .before .before .before .before .function) .ensures)) ((c .before .before .before .before .before .before .before .before .before .before .before .before .before .before .before .before .if1) .left) _ ((c .before .before .before .before .before .before .before .before .before .before .before .before .before .before .if2) .left) ((c .before .before .before .before .before .before .before .before .before .before .before .slot-at) .ensures) _ _
+    (⊎-elim (λ x. x .3 .left ∙ x .1 .ensures) (λ x. top-kind _ _ _ _ _ _ ((c .before .before .before .before .before .before .before .before .before .before .before .before .before .before .if2) .left) ((c .before .before .before .before .before .before .before .before .before .before .before .slot-at) .ensures) ((c .before .before .before .before .before .before .before .before .before .before .before .before .before .before .before .before .before .before .before .before .before .before .before .before .before .before .before .before .before .before .pre) .1 .1) (returned _ ((c .before .before .before .before .before .before .before .before .before .before .before .before .before .before .before .before .before .before .before .before .before .before .before .before .before .before .before .before .before .before .pre) .0 .1) _ ((c .before .before .before .before .before .before .before .before .before .before .before .before .before .before .before .before .before .before .before .before .before .found) .given .0 .0) (sym (ap (functionIn _ _) ((c .before .before .before .before .before .before .before .before .before .before .before .before .before .before .before .before .before .before .before .before .before .found) .given .1)) ∙ (c .before .before .before .before .before .before .before .before .before .before .before .before .before .before .before .before .before .before .before .before .before .before .before .function) .ensures) ((c .before .before .before .before .before .before .before .before .before .before .before .before .before .before .before .before .if1) .left)) (x .left)) ((c .before .before .before .before .before .before .before .before .if3) .came))
+    (rw ((c .before .before .before .before .before .before .before .before .before .before .before .before .before .before .before .before .before .before .wide2) .ensures .0) at ((c .before .before .before .before .before .put-slot) .ensures .0)) (rw ((c .before .before .before .before .before .before .before .before .before .before .before .before .before .before .before .before .before .before .wide2) .ensures .0) at ((c .before .before .before .before .before .put-slot) .ensures .1)) (omega (arith, (c .before .before .before .before .before .before .before .before .before .before .before .slot-at) .ok)))
 
 pub ret-spec : {M : Type 1} → statement M
 ret-spec =
@@ -147,13 +113,13 @@ ret-spec =
     mul-wide-2
     shared-slice-read-wide-2
     wide-requires-2
-    has-value-requires
     leave-requires
     returns-2
     add-if2
     returns-3
     sub-slot-at
     slot-at-requires
+    kind-of-requires
     same-length
     same-length-2
     returns-4

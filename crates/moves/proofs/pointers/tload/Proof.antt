@@ -1,7 +1,9 @@
 -- The proof of `moves::pointers::tload`.
 use native.Mathlib.Omega.{arith}
+use mathlib.Core.Logic.{inl, inr}
 use borrow.Author.Needs.{needs}
-use Rattle.moves.proofs.PointerLaws.{tload-21, tload-31, tload-33, tload-is}
+use Rattle.state.proofs.Outcomes.{deferring}
+use Rattle.moves.proofs.PointerLaws.{tload-21, tload-31, tload-is}
 use Rattle.moves.proofs.pointers.tload.Statement.{statement}
 use Rattle.moves.proofs.pointers.tload.Tie as tie
 
@@ -9,7 +11,7 @@ add-if1 : tie.Need-add-if1
 add-if1 c = search needs
 
 returns : tie.Need-returns
-returns c = λ m f k. tload-21 _ _ _ _ f k m (c .if1 .taken)
+returns c = λ m f k. inl (tload-21 _ _ _ _ f k m (c .if1 .taken))
 
 sub-slot-at : tie.Need-sub-slot-at
 sub-slot-at c = search needs
@@ -27,7 +29,7 @@ returns-2 : tie.Need-returns-2
 returns-2 c =
     let at-slot-at = c .before .before in
     let at-if1 = at-slot-at .before .before .before in
-    λ m f k. tload-31 _ _ _ _ f k m (at-if1 .if1 .left) _ (at-slot-at .slot-at .ensures) (c .if2 .taken)
+    λ m f k. inl (tload-31 _ _ _ _ f k m (at-if1 .if1 .left) _ (at-slot-at .slot-at .ensures) (c .if2 .taken))
 
 sub-if3 : tie.Need-sub-if3
 sub-if3 c = search needs
@@ -39,11 +41,7 @@ same-length-4 : tie.Need-same-length-4
 same-length-4 c = search needs
 
 returns-3 : tie.Need-returns-3
-returns-3 c =
-    let at-if2 = c .before .before in
-    let at-slot-at = at-if2 .before .before in
-    let at-if1 = at-slot-at .before .before .before in
-    λ m f k. tload-33 _ _ _ _ f k m (at-if1 .if1 .left) _ (at-slot-at .slot-at .ensures) (at-if2 .if2 .left) (omega (arith, c .if3 .taken))
+returns-3 c = λ m f k. inr (deferring _ _)
 
 slot-at-requires-2 : tie.Need-slot-at-requires-2
 slot-at-requires-2 c κs = search needs
@@ -74,9 +72,9 @@ returns-4 c =
     let at-if2 = at-if3 .before .before in
     let at-slot-at = at-if2 .before .before in
     let at-if1 = at-slot-at .before .before .before in
-    λ m f k. rw (c .moved .ensures) (tload-is _ _ _ _ f k m (at-if1 .if1 .left) _ (at-slot-at .slot-at .ensures) _ _ _ (at-if2 .if2 .left)
+    λ m f k. inl (rw (c .moved .ensures) (tload-is _ _ _ _ f k m (at-if1 .if1 .left) _ (at-slot-at .slot-at .ensures) _ _ _ (at-if2 .if2 .left)
     (omega (arith, at-if3 .if3 .left)) (at-slot-at2 .slot-at2 .ensures) (at-put-slot .put-slot .ensures .0) (at-put-slot .put-slot .ensures .1) (omega
-    (arith, at-slot-at2 .slot-at2 .ok)))
+    (arith, at-slot-at2 .slot-at2 .ok))))
 
 pub tload-spec : {M : Type 1} → statement M
 tload-spec =

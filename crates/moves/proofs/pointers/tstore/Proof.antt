@@ -1,6 +1,8 @@
-use Rattle.moves.proofs.PointerLaws.{tstore-21, tstore-31, tstore-33, tstore-22, tstore-is}
+use Rattle.moves.proofs.PointerLaws.{tstore-21, tstore-31, tstore-22, tstore-is}
 use Rattle.state.proofs.Families.{payloads-are}
+use Rattle.state.proofs.Outcomes.{deferring}
 use mathlib.Core.Path.{_∙_}
+use mathlib.Core.Logic.{inl, inr}
 use native.Mathlib.Omega.{arith}
 use borrow.Author.Needs.{needs}
 use Rattle.moves.proofs.pointers.tstore.Statement.{statement}
@@ -15,7 +17,7 @@ add-if1 : tie.Need-add-if1
 add-if1 c = search needs
 
 returns : tie.Need-returns
-returns c = λ m f k. tstore-21 _ _ _ _ f k m (c .if1 .taken)
+returns c = λ m f k. inl (tstore-21 _ _ _ _ f k m (c .if1 .taken))
 
 sub-slot-at : tie.Need-sub-slot-at
 sub-slot-at c = search needs
@@ -27,7 +29,7 @@ same-length : tie.Need-same-length
 same-length c = search needs
 
 returns-2 : tie.Need-returns-2
-returns-2 c = λ m f k. tstore-31 _ _ _ _ f k m ((c .before .before .before .before .if1) .left) _ ((c .before .before .slot-at) .ensures) (c .if2 .taken)
+returns-2 c = λ m f k. inl (tstore-31 _ _ _ _ f k m ((c .before .before .before .before .if1) .left) _ ((c .before .before .slot-at) .ensures) (c .if2 .taken))
 
 sub-if3 : tie.Need-sub-if3
 sub-if3 c = search needs
@@ -36,7 +38,7 @@ same-length-2 : tie.Need-same-length-2
 same-length-2 c = search needs
 
 returns-3 : tie.Need-returns-3
-returns-3 c = λ m f k. tstore-33 _ _ _ _ f k m ((c .before .before .before .before .before .before .if1) .left) _ ((c .before .before .before .before .slot-at) .ensures) ((c .before .before .if2) .left) (omega (arith, c .if3 .taken))
+returns-3 c = λ m f k. inr (deferring _ _)
 
 sub-slot-at-2 : tie.Need-sub-slot-at-2
 sub-slot-at-2 c = search needs
@@ -51,7 +53,7 @@ same-length-3 : tie.Need-same-length-3
 same-length-3 c = search needs
 
 returns-4 : tie.Need-returns-4
-returns-4 c = λ m f k. tstore-22 _ _ _ _ f k m ((c .before .before .before .before .before .before .before .before .before .before .before .before .before .if1) .left) _ ((c .before .before .before .before .before .before .before .before .before .before .before .slot-at) .ensures) ((c .before .before .before .before .before .before .before .before .before .if2) .left) (omega (arith, (c .before .before .before .before .before .before .before .if3) .left)) _ _ ((c .before .before .before .before .before .slot-at2) .ensures) ((c .before .before .before .slot-at3) .ensures) (c .if4 .taken)
+returns-4 c = λ m f k. inl (tstore-22 _ _ _ _ f k m ((c .before .before .before .before .before .before .before .before .before .before .before .before .before .if1) .left) _ ((c .before .before .before .before .before .before .before .before .before .before .before .slot-at) .ensures) ((c .before .before .before .before .before .before .before .before .before .if2) .left) (omega (arith, (c .before .before .before .before .before .before .before .if3) .left)) _ _ ((c .before .before .before .before .before .slot-at2) .ensures) ((c .before .before .before .slot-at3) .ensures) (c .if4 .taken))
 
 mul-store64 : tie.Need-mul-store64
 mul-store64 c = omega (arith, (c .before .before .before .before .before .before .before .before .if3) .left, (c .before .before .before .before .before .before .before .before .before .before .before .before .before .before .before .before .before .before .pre) .0 .1 .high, (c .before .before .before .before .before .before .before .before .before .before .before .before .before .before .before .before .before .before .pre) .0 .1 .small)
@@ -72,8 +74,8 @@ same-length-4 : tie.Need-same-length-4
 same-length-4 c = search needs
 
 returns-5 : tie.Need-returns-5
-returns-5 c = λ m f k. rw (c .moved .ensures) (tstore-is _ _ _ _ f k m ((c .before .before .before .before .before .before .before .before .before .before .before .before .before .before .before .before .before .before .before .if1) .left) _ ((c .before .before .before .before .before .before .before .before .before .before .before .before .before .before .before .before .before .slot-at) .ensures) ((c .before .before .before .before .before .before .before .before .before .before .before .before .before .before .before .if2) .left) (omega (arith, (c .before .before .before .before .before .before .before .before .before .before .before .before .before .if3) .left)) _ _ ((c .before .before .before .before .before .before .before .before .before .before .before .slot-at2) .ensures) ((c .before .before .before .before .before .before .before .before .before .slot-at3) .ensures) _ ((c .before .before .before .before .before .before .if4) .left)
-    ((c .before .before .before .before .store64) .ensures ∙ payloads-are _ _ ((c .before .before .before .before .before .before .before .before .before .before .before .slot-at2) .result)) (omega (arith, (c .before .before .before .before .before .before .before .before .before .before .before .slot-at2) .ok)))
+returns-5 c = λ m f k. inl (rw (c .moved .ensures) (tstore-is _ _ _ _ f k m ((c .before .before .before .before .before .before .before .before .before .before .before .before .before .before .before .before .before .before .before .if1) .left) _ ((c .before .before .before .before .before .before .before .before .before .before .before .before .before .before .before .before .before .slot-at) .ensures) ((c .before .before .before .before .before .before .before .before .before .before .before .before .before .before .before .if2) .left) (omega (arith, (c .before .before .before .before .before .before .before .before .before .before .before .before .before .if3) .left)) _ _ ((c .before .before .before .before .before .before .before .before .before .before .before .slot-at2) .ensures) ((c .before .before .before .before .before .before .before .before .before .slot-at3) .ensures) _ ((c .before .before .before .before .before .before .if4) .left)
+    ((c .before .before .before .before .store64) .ensures ∙ payloads-are _ _ ((c .before .before .before .before .before .before .before .before .before .before .before .slot-at2) .result)) (omega (arith, (c .before .before .before .before .before .before .before .before .before .before .before .slot-at2) .ok))))
 
 pub tstore-spec : {M : Type 1} → statement M
 tstore-spec =

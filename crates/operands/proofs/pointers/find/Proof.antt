@@ -1,6 +1,5 @@
 -- `operands::pointers::find` meets its contract. Assumes nothing.
-use mathlib.Core.Path.{ap, _∙_, subst}
-use Prim.Native.Nat.{ℕ, _-_, _≤_}
+use mathlib.Core.Path.{ap, _∙_}
 use borrow.Author.Needs.{needs}
 use Rattle.values.specs.Values.{valueOf}
 use Rattle.operands.proofs.OperandLaws.{top-pointer, top-other}
@@ -37,14 +36,7 @@ sub-if2 : tie.Need-sub-if2
 sub-if2 c = search needs
 
 returns-3 : tie.Need-returns-3
-returns-3 c =
-    let at-value-of = c .before .before .before .before in
-    let at-slot-at = at-value-of .before in
-    let at-if1 = at-slot-at .before in
-    let start = at-if1 .before .before .before .before in
-    let w = top-pointer (start .pre) (at-if1 .if1 .left) (at-value-of .value-of .ensures ∙ ap valueOf (at-slot-at .slot-at .ensures))
-    (c .before .before .s .given .1) in
-    λ u. bump-33 u (at-if1 .if1 .left) (w .0) (subst (λ (n : ℕ). start .args .r .height - 1 ≤ n) (w .1) (c .if2 .taken))
+returns-3 c = λ u. bump-33 u
 
 slot-at-requires-2 : tie.Need-slot-at-requires-2
 slot-at-requires-2 c κs = search needs
