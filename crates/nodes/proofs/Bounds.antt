@@ -26,7 +26,7 @@ record-inside s c p k h =
     let a : c .records ≡ functionsAt s = p .records-is in
     let b : c .targets ≡ functionsAt s + 20 * functions s = p .targets-is in
     let d : c .code ≡ labelsAt s + 8 * labels s = p .code-is in
-    let e : c .code + c .extent ≡ length s = p .whole in omega arith
+    let e : c .code + c .extent + 12 * c .structures ≡ length s = p .whole in omega arith
 
 module _ (s : List ℕ) (c : Sections) (p : Packed s c) (owner : ℕ) where
   pub entry-end : owner ≡ 0xffffffff → c .entry ≡ bodyEnd (bodiesIn s) (bodyOf owner)

@@ -1,8 +1,9 @@
 -- The answer of a family of instructions, and what its parts ensure.
 use mathlib.Core.Path.{_≡_}
 use Prim.Native.Nat.{ℕ, suc}
-use mathlib.Core.Bool.{Bool}
+use mathlib.Core.Bool.{Bool, _&&_, _||_}
 use mathlib.Core.List.{List, [], _∷_}
+use lib.Dec.{eqb, leb}
 use Rattle.rules.specs.declared.Num.{Num}
 use Rattle.rules.specs.declared.Operator.{Operator}
 use Rattle.rules.specs.declared.Unary.{Unary}
@@ -42,18 +43,26 @@ pub record Bound (r : List ℕ) (t : ℕ) (r′ : List ℕ) : Type 0 where
   pub holds : Holds r′
   pub shows : listsOf r′ ≡ lists (tyOf t ∷ listsOf r .locals) []
 
--- The type bytes are in the order of the classes: 3 and 4 are whole, then the number 6, then the pointers. So the greatest
--- byte says which a class takes.
-abbrev pub greatest : Class → ℕ
-greatest any = 134
-greatest number = 6
-greatest whole = 4
+-- The type bytes are in the order of the classes: 3 and 4 are whole, then the number 6, then the pointers. So where a class
+-- does not take every type, the greatest byte g says which it takes.
+abbrev pub Greatest : Class → ℕ → Type 0
+Greatest any g = ⊥
+Greatest number g = g ≡ 6
+Greatest whole g = g ≡ 4
+
+-- t is the byte of a pointer to a number
+abbrev pub cellType : ℕ → Bool
+cellType t = eqb t 131 || eqb t 132 || eqb t 134
+
+-- `cmp` and `icmp` take operands of the type bytes t and u; every is whether they take any two pointers
+abbrev pub comparable : Bool → ℕ → ℕ → Bool
+comparable every t u = eqb t u || (every && (leb 128 t && leb 128 u))
 
 -- ---- by what the instructions of one function differ in
 
 -- the answer of every instruction that keeps the type of its operand and takes type bytes up to g
 abbrev pub Keeps : ℕ → ℕ → List ℕ → Transfer → List ℕ → Type 0
-Keeps g q r a r′ = (o : Unary) → g ≡ greatest (class1 o) → ((t : Ty) → gives1 o t ≡ t ∷ []) → Answers (One o) q r a r′
+Keeps g q r a r′ = (o : Unary) → Greatest (class1 o) g → ((t : Ty) → gives1 o t ≡ t ∷ []) → Answers (One o) q r a r′
 
 -- of the conversion to the type of byte t
 abbrev pub Converts : ℕ → ℕ → List ℕ → Transfer → List ℕ → Type 0
@@ -61,8 +70,9 @@ Converts t q r a r′ = (τ : Num) → t ≡ numKind τ → Answers (One (Conver
 
 -- of every operator that takes type bytes up to g
 abbrev pub Reduces : ℕ → ℕ → List ℕ → Transfer → List ℕ → Type 0
-Reduces g q r a r′ = (o : Operator) → g ≡ greatest (classOf o) → Answers (Two (Arith o)) q r a r′
+Reduces g q r a r′ = (o : Operator) → Greatest (classOf o) g → Answers (Two (Arith o)) q r a r′
 
--- of both comparisons
-abbrev pub Compares : ℕ → List ℕ → Transfer → List ℕ → Type 0
-Compares q r a r′ = (signed : Bool) → Answers (Two (Cmp signed)) q r a r′
+-- of both comparisons, in a module of edition 4 or of another
+abbrev pub Compares : Bool → ℕ → List ℕ → Transfer → List ℕ → Type 0
+Compares every q r a r′ =
+    (signed : Bool) (m : Module) (b : Body) → eqb (m .edition) 4 ≡ every → Judged m b q (judged m b (Two (Cmp signed)) q r) a r′

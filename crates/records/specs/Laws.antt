@@ -7,22 +7,26 @@ use mathlib.Core.Bool.{Bool, true, false, _&&_, cond}
 use mathlib.Core.Option.{none, some}
 use mathlib.Core.List.{List, [], _∷_}
 use lib.ListN.{length}
-use lib.Dec.{leb, eqb}
-use borrow.Author.Tests.{eq-eqb, ne-eqb, eqb-true, eqb-false, le-leb}
+use lib.Dec.{leb, ltb, eqb}
+use borrow.Author.Tests.{ne-eqb, eqb-true, eqb-false, le-leb}
 use Rattle.rules.specs.Bytes.{byte}
 use Rattle.rules.specs.declared.Num.{Num}
 use Rattle.rules.specs.declared.Num.the-variants.{Int as int, Long as long, Double as double}
-use Rattle.rules.specs.Instructions.{numKind, Ty, num, ptr, kindOf, tyOf, typeByte, eqNum, eqTy}
+use Rattle.rules.specs.Instructions.{numKind, Pointee, void, cell, struct, pointeeNumber, pointeeOf, Ty, num, ptr, kindOf, tyOf, typeByte, eqTy}
 use Rattle.rules.specs.Tables.{Body, Module, paramsFrom}
 use Rattle.rules.specs.Stack.{at}
 use Rattle.rules.specs.Typing.{Lists, lists, Flow, to}
 use Rattle.rules.specs.Check.{small}
+use Rattle.soundness.specs.Tests.{decide, eqb-is, ltb-is, ltb-isnt}
+use Rattle.soundness.specs.Invariant.{eqTy-is}
+use Rattle.soundness.specs.Exact.{eqTy-same}
+use Rattle.soundness.specs.Readable.{params-length}
 use Rattle.records.specs.Record.{listsOf, IsType, Holds, bounded, Judged}
 use Rattle.records.specs.declared.Transfer.the-variants.{Breaks, Falls}
 
 -- ---- type bytes
 
-kind-low : (τ : Num) → (3 ≤ numKind τ) × (numKind τ ≤ 6)
+pub kind-low : (τ : Num) → (3 ≤ numKind τ) × (numKind τ ≤ 6)
 kind-low int = omega arith
 kind-low long = omega arith
 kind-low double = omega arith
@@ -32,7 +36,7 @@ number-type int = refl
 number-type long = refl
 number-type double = refl
 
-pub pointer-type : (τ : Num) → tyOf (128 + numKind τ) ≡ ptr τ
+pub pointer-type : (τ : Num) → tyOf (128 + numKind τ) ≡ ptr (cell τ)
 pointer-type int = refl
 pointer-type long = refl
 pointer-type double = refl
@@ -40,22 +44,19 @@ pointer-type double = refl
 pub number-is-type : (τ : Num) → IsType (numKind τ)
 number-is-type τ = ap typeByte (number-type τ)
 
-pub pointer-is-type : (τ : Num) → IsType (128 + numKind τ)
-pointer-is-type τ = ap typeByte (pointer-type τ)
-
 -- the byte of a number's type, and of a pointer's
 abbrev pub OfNumber : ℕ → Type 0
 OfNumber a = (τ : Num) × (tyOf a ≡ num τ) × (a ≡ numKind τ)
 
 abbrev pub OfPointer : ℕ → Type 0
-OfPointer a = (τ : Num) × (tyOf a ≡ ptr τ) × (a ≡ 128 + numKind τ)
+OfPointer a = (w : Pointee) × (tyOf a ≡ ptr w) × (a ≡ 128 + pointeeNumber w)
 
 pub split-type : (a : ℕ) → IsType a → OfNumber a ⊎ OfPointer a
 split-type a is = go (tyOf a) refl
   where
     go : (x : Ty) → tyOf a ≡ x → OfNumber a ⊎ OfPointer a
     go (num τ) e = inl (τ, e, sym is ∙ ap typeByte e)
-    go (ptr τ) e = inr (τ, e, sym is ∙ ap typeByte e)
+    go (ptr w) e = inr (w, e, sym is ∙ ap typeByte e)
 
 pub number-byte : (a : ℕ) → IsType a → a < 128 → OfNumber a
 number-byte a is low = go (split-type a is)
@@ -71,13 +72,37 @@ pointer-byte a is high = go (split-type a is)
     go (inl x) = absurd (let k = kind-low (x .0) in let e = x .2 in omega arith)
     go (inr x) = x
 
--- no type byte is greater than that of the pointer to a double
-pub type-most : (a : ℕ) → IsType a → a ≤ 134
-type-most a is = go (split-type a is)
+-- what a number is to a pointer's type, and back
+pointee-number : (n : ℕ) → pointeeNumber (pointeeOf n) ≡ n
+pointee-number n = go (eqb n 0) (eqb n 3) (eqb n 4) (eqb n 6) refl refl refl refl
   where
-    go : OfNumber a ⊎ OfPointer a → a ≤ 134
-    go (inl x) = let k = kind-low (x .0) in let e = x .2 in omega arith
-    go (inr x) = let k = kind-low (x .0) in let e = x .2 in omega arith
+    go : (a b c d : Bool) → eqb n 0 ≡ a → eqb n 3 ≡ b → eqb n 4 ≡ c → eqb n 6 ≡ d
+        → pointeeNumber (cond a void (cond b (cell int) (cond c (cell long) (cond d (cell double) (struct n))))) ≡ n
+    go true b c d u v w x = sym (eqb-true n 0 u)
+    go false true c d u v w x = sym (eqb-true n 3 v)
+    go false false true d u v w x = sym (eqb-true n 4 w)
+    go false false false true u v w x = sym (eqb-true n 6 x)
+    go false false false false u v w x = refl
+
+-- from 128 on every byte is a pointer's
+pub pointer-is : (n : ℕ) → tyOf (128 + n) ≡ ptr (pointeeOf n)
+pointer-is n =
+    let z : 128 + n - 128 ≡ n = omega arith in
+    rw (ne-eqb (128 + n) 3 (λ e. omega arith), ne-eqb (128 + n) 4 (λ e. omega arith), ne-eqb (128 + n) 6 (λ e. omega arith), z) refl
+
+pub pointer-is-type : (n : ℕ) → IsType (128 + n)
+pointer-is-type n = ap typeByte (pointer-is n) ∙ ap (λ (k : ℕ). 128 + k) (pointee-number n)
+
+-- no other number gives a type but that of `null`
+pub type-back : (a : ℕ) → (tyOf a ≡ ptr void → ⊥) → IsType a
+type-back a other = decide (ltb a 128) (λ l. below (ltb-is a 128 l)) (λ l. let k = ltb-isnt a 128 l in let e : 128 + (a - 128) ≡ a = omega arith in subst IsType e (pointer-is-type (a - 128)))
+  where
+    below : a < 128 → IsType a
+    below l =
+        decide (eqb a 3) (λ e. rw (eqb-is a 3 e) refl) (λ u.
+        decide (eqb a 4) (λ e. rw (eqb-is a 4 e) refl) (λ v.
+        decide (eqb a 6) (λ e. rw (eqb-is a 6 e) refl) (λ w.
+        let z : a - 128 ≡ 0 = omega arith in absurd (other (rw (u, v, w, z) refl)))))
 
 -- the type number of a type byte
 pub number-kind : (a : ℕ) → IsType a → a < 128 → kindOf (tyOf a) ≡ a
@@ -87,39 +112,18 @@ pub pointer-kind : (a : ℕ) → IsType a → 128 ≤ a → kindOf (tyOf a) ≡ 
 pointer-kind a is high = ap kindOf (pointer-byte a is high .1)
 
 -- types are the same where their bytes are
-same-kind : (σ τ : Num) → eqNum σ τ ≡ eqb (numKind σ) (numKind τ)
-same-kind int int = refl
-same-kind int long = refl
-same-kind int double = refl
-same-kind long int = refl
-same-kind long long = refl
-same-kind long double = refl
-same-kind double int = refl
-same-kind double long = refl
-same-kind double double = refl
-
-same-past : (a b : ℕ) → eqb a b ≡ eqb (128 + a) (128 + b)
-same-past a b = go (eqb a b) refl
-  where
-    go : (x : Bool) → eqb a b ≡ x → x ≡ eqb (128 + a) (128 + b)
-    go true e = sym (eq-eqb (128 + a) (128 + b) (ap (λ (n : ℕ). 128 + n) (eqb-true a b e)))
-    go false e = sym (ne-eqb (128 + a) (128 + b) (λ h. eqb-false a b e (omega arith)))
-
-same-bytes : (x y : Ty) → eqTy x y ≡ eqb (typeByte x) (typeByte y)
-same-bytes (num σ) (num τ) = same-kind σ τ
-same-bytes (num σ) (ptr τ) = let k = kind-low σ in sym (ne-eqb (numKind σ) (128 + numKind τ) (λ h. omega arith))
-same-bytes (ptr σ) (num τ) = let k = kind-low τ in sym (ne-eqb (128 + numKind σ) (numKind τ) (λ h. omega arith))
-same-bytes (ptr σ) (ptr τ) = same-kind σ τ ∙ same-past (numKind σ) (numKind τ)
-
 pub same-type : (a b : ℕ) → IsType a → IsType b → eqTy (tyOf a) (tyOf b) ≡ eqb a b
-same-type a b p q =
-    same-bytes (tyOf a) (tyOf b) ∙ ap (λ (n : ℕ). eqb n (typeByte (tyOf b))) p ∙ ap (λ (n : ℕ). eqb a n) q
+same-type a b p q = go (eqb a b) (eqTy (tyOf a) (tyOf b)) refl refl
+  where
+    go : (x y : Bool) → eqb a b ≡ x → eqTy (tyOf a) (tyOf b) ≡ y → y ≡ x
+    go true true u v = refl
+    go true false u v =
+        let e : tyOf b ≡ tyOf a = ap tyOf (sym (eqb-true a b u)) in
+        sym v ∙ ap (eqTy (tyOf a)) e ∙ eqTy-same (tyOf a)
+    go false true u v = absurd (eqb-false a b u (sym p ∙ ap typeByte (eqTy-is (tyOf a) (tyOf b) v) ∙ q))
+    go false false u v = refl
 
 -- ---- the lists of a record
-
-pub operand-count : (r : List ℕ) (a n : ℕ) → length (paramsFrom r a n) ≡ n
-operand-count r a zero = refl
-operand-count r a (suc n) = ap suc (operand-count r a n)
 
 -- lists that are read from the same bytes
 pub same-types : (r s : List ℕ) (a n : ℕ) → ((i : ℕ) → i < n → byte r (a + i) ≡ byte s (a + i)) → paramsFrom r a n ≡ paramsFrom s a n
@@ -129,19 +133,30 @@ same-types r s a (suc n) h =
     let t : paramsFrom r a n ≡ paramsFrom s a n = same-types r s a n (λ i l. h i (omega arith)) in
     cc
 
--- element i of a list read from byte a on
+-- a list that is read element by element, the last one first: f gives element i, xs the first n
+module _ {A : Type 0} (f : ℕ → A) (xs : ℕ → List A) (empty : xs 0 ≡ []) (next : (n : ℕ) → xs (suc n) ≡ f n ∷ xs n) where
+  read-length : (n : ℕ) → length (xs n) ≡ n
+  read-length zero = ap length empty
+  read-length (suc n) = ap length (next n) ∙ ap suc (read-length n)
+
+  pub read-in : (n i : ℕ) → i < n → at (xs n) i ≡ some (f i)
+  read-in zero i h = absurd (omega arith)
+  read-in (suc n) i h = rw (next n, read-length n) (go (eqb i n) refl (λ l. read-in n i l))
+    where
+      go : (x : Bool) → eqb i n ≡ x → (i < n → at (xs n) i ≡ some (f i)) → cond x (some (f n)) (at (xs n) i) ≡ some (f i)
+      go true e lower = ap (λ (k : ℕ). some (f k)) (sym (eqb-true i n e))
+      go false e lower = let ne = eqb-false i n e in lower (omega arith)
+
+  pub read-past : (n i : ℕ) → n ≤ i → at (xs n) i ≡ none
+  read-past zero i h = ap (λ (l : List A). at l i) empty
+  read-past (suc n) i h = rw (next n, read-length n, ne-eqb i n (λ e. omega arith)) (read-past n i (omega arith))
+
+-- element i of a list of types
 pub type-in : (r : List ℕ) (a n i : ℕ) → i < n → at (paramsFrom r a n) i ≡ some (tyOf (byte r (a + i)))
-type-in r a zero i h = absurd (omega arith)
-type-in r a (suc n) i h = rw (operand-count r a n) (go (eqb i n) refl (λ l. type-in r a n i l))
-  where
-    go : (x : Bool) → eqb i n ≡ x → (i < n → at (paramsFrom r a n) i ≡ some (tyOf (byte r (a + i))))
-        → cond x (some (tyOf (byte r (a + n)))) (at (paramsFrom r a n) i) ≡ some (tyOf (byte r (a + i)))
-    go true e lower = ap (λ (k : ℕ). some (tyOf (byte r (a + k)))) (sym (eqb-true i n e))
-    go false e lower = let ne = eqb-false i n e in lower (omega arith)
+type-in r a = read-in (λ (i : ℕ). tyOf (byte r (a + i))) (paramsFrom r a) refl (λ n. refl)
 
 pub type-past : (r : List ℕ) (a n i : ℕ) → n ≤ i → at (paramsFrom r a n) i ≡ none
-type-past r a zero i h = refl
-type-past r a (suc n) i h = rw (operand-count r a n, ne-eqb i n (λ e. omega arith)) (type-past r a n i (omega arith))
+type-past r a = read-past (λ (i : ℕ). tyOf (byte r (a + i))) (paramsFrom r a) refl (λ n. refl)
 
 -- the top operands, where n is their count
 module _ (r : List ℕ) (n : ℕ) (count : n ≡ byte r 2) where
@@ -174,7 +189,7 @@ module _ (r : List ℕ) (n : ℕ) (count : n ≡ byte r 2) where
 
 pub holds-small : (r : List ℕ) → Holds r → small (listsOf r) ≡ true
 holds-small r h =
-    rw (operand-count r 16 (byte r 1), operand-count r 32 (byte r 2), le-leb (byte r 1) 16 (h .few-locals), le-leb (byte r 2) 32 (h .few-operands)) refl
+    rw (params-length r 16 (byte r 1), params-length r 32 (byte r 2), le-leb (byte r 1) 16 (h .few-locals), le-leb (byte r 2) 32 (h .few-operands)) refl
 
 -- ---- flows that leave them
 
@@ -207,7 +222,7 @@ module _ (m : Module) (b : Body) (q : ℕ) (w : Flow) (r : List ℕ) (h : Holds 
   -- one that would leave 33 operands
   pub overflows : (t : Ty) → w ≡ to q (listsOf r .locals) (t ∷ listsOf r .operands) → byte r 2 ≡ 32 → Judged m b q w Breaks r
   overflows t e full =
-      let k : length (t ∷ listsOf r .operands) ≡ 33 = ap suc (operand-count r 32 (byte r 2) ∙ full) in
+      let k : length (t ∷ listsOf r .operands) ≡ 33 = ap suc (params-length r 32 (byte r 2) ∙ full) in
       record {
         flow = ap bounded e ∙ bounded-large q _ (full-large (listsOf r .locals) (t ∷ listsOf r .operands) k);
         leads = tt;

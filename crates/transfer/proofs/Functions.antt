@@ -1,5 +1,6 @@
 -- What `call` and `ret` do, way by way, and the function that a module has by number.
 use mathlib.Core.Path.{_≡_, refl, sym, ap, _∙_, subst}
+use mathlib.Core.Logic.{_⊎_, inl, inr}
 use Prim.Native.Nat.{ℕ, _+_, _≤_, _<_}
 use native.Mathlib.Omega.{arith}
 use mathlib.Core.Bool.{Bool, true, false, cond}
@@ -9,11 +10,10 @@ use lib.ListN.{length}
 use lib.Dec.{ltb, eqb}
 use borrow.Author.Tests.{lt-ltb, le-ltb, ltb-true, eq-eqb, ne-eqb, eqb-true}
 use Rattle.rules.specs.Bytes.{byte, maybe}
-use Rattle.rules.specs.declared.Num.{Num}
 use Rattle.rules.specs.declared.Instruction.the-variants.{Call, Ret}
-use Rattle.rules.specs.Instructions.{Ty, num, tyOf, numKind, numOf, eqTy}
-use Rattle.rules.specs.Tables.{functionCount, Body, entry, fn, bodyOf, Function, numberType, functionAt, functionOf, paramsFrom, moduleOf}
-use Rattle.rules.specs.ModuleFile.{read, refusal, bodiesIn, tablesIn, functionsIn}
+use Rattle.rules.specs.Instructions.{void, Ty, ptr, tyOf, typeByte, eqTy}
+use Rattle.rules.specs.Tables.{functionCount, structureCount, Body, entry, fn, bodyOf, Function, functionAt, functionOf, paramsFrom, resultOf, moduleOf}
+use Rattle.rules.specs.ModuleFile.{read, refusal, bodiesIn, tablesIn, functionsIn, structuresIn}
 use Rattle.rules.specs.Machine.{own}
 use Rattle.rules.specs.Typing.{Flow, judge, to, withResult}
 use Rattle.format.specs.declared.Sections.{Sections}
@@ -22,16 +22,16 @@ use Rattle.reader.specs.declared.entries.FunctionRecord.{FunctionRecord}
 use Rattle.reader.specs.declared.entries.FoundFunction.the-variants.{Record}
 use Rattle.reader.specs.Answers.{functionIn}
 use Rattle.reader.proofs.Records.{functions-length}
-use Rattle.soundness.specs.Readable.{orderly, parameter-type}
+use Rattle.soundness.specs.Readable.{orderly, params-length, parameter-type, ResultByte, result-type, byte-back}
 use Rattle.soundness.specs.Cutting.{good-file, functions-good}
-use Rattle.soundness.specs.Tests.{decide, none-some}
+use Rattle.soundness.specs.Tests.{decide, none-some, some-inj}
 use Rattle.records.specs.Record.{listsOf, IsType, Holds, Judged}
-use Rattle.records.specs.Laws.{number-type, same-type, operand-count, breaks, falls}
+use Rattle.records.specs.Laws.{kind-low, type-back, same-type, breaks, falls}
 use Rattle.records.specs.declared.Transfer.{Transfer}
 use Rattle.records.specs.declared.Transfer.the-variants.{Breaks, Stops, Falls}
 use Rattle.transfer.specs.Transfers.{Judges, Pushes, Stripped}
 use Rattle.transfer.proofs.Flows.{stops}
-use Rattle.transfer.proofs.Constants.{number-of, number-byte, no-number}
+use Rattle.transfer.proofs.Constants.{number-byte, number-kind}
 use Rattle.transfer.proofs.Operands.{no-operand, top-type, top-operand}
 
 -- ---- the function of a record
@@ -40,7 +40,7 @@ module _ (s : List ℕ) (e : refusal s ≡ 0) (k : ℕ) (g : FunctionRecord) (is
   pub function-few : g .params ≤ 8
   function-few =
       let f : length (paramsFrom (functionsIn s) (functionAt k + 10) (g .params)) ≤ 8 = orderly (tablesIn s) (good-file s e) .few-params k _ (sym is) in
-      omega (arith, operand-count (functionsIn s) (functionAt k + 10) (g .params))
+      omega (arith, params-length (functionsIn s) (functionAt k + 10) (g .params))
 
   function-there : k < functionCount (functionsIn s)
   unfolding moduleOf
@@ -49,18 +49,45 @@ module _ (s : List ℕ) (e : refusal s ≡ 0) (k : ℕ) (g : FunctionRecord) (is
   pub function-number : (c : Sections) → Packed s c → k < c .functions
   function-number c packed = omega (arith, function-there, functions-length s c packed)
 
+  function-same : functionIn (functionsIn s) (functionAt k) (Record g) ≡ some (functionOf (functionsIn s) (functionAt k))
+  unfolding moduleOf
+  function-same = rw (lt-ltb k (functionCount (functionsIn s)) function-there) at is
+
   count : g .params ≡ byte (functionsIn s) (functionAt k + 8)
-  unfolding moduleOf functionOf
+  unfolding functionOf
   count =
       let a : ℕ = functionAt k in
       let fs : List ℕ = functionsIn s in
-      let q : functionIn fs a (Record g) ≡ some (functionOf fs a) = rw (lt-ltb k (functionCount fs) function-there) at is in
       let u : length (paramsFrom fs (a + 10) (g .params)) ≡ length (paramsFrom fs (a + 10) (byte fs (a + 8))) =
-      ap (λ (o : Option Function). maybe o 0 (λ F. length (F .params))) q in
-      omega (arith, operand-count fs (a + 10) (g .params), operand-count fs (a + 10) (byte fs (a + 8)))
+      ap (λ (o : Option Function). maybe o 0 (λ F. length (F .params))) function-same in
+      omega (arith, params-length fs (a + 10) (g .params), params-length fs (a + 10) (byte fs (a + 8)))
 
   pub param-type : (j : ℕ) → j < g .params → IsType (byte (functionsIn s) (functionAt k + 10 + j))
   param-type j l = parameter-type (bodiesIn s) (functions-good s e) k j function-there (omega (arith, count))
+
+  -- the result's type, where there is one: no function returns `null`'s
+  pub return-type : (g .result ≡ 0 → ⊥) → IsType (g .result)
+  unfolding functionOf
+  return-type valued = type-back (g .result) (λ v. go v (result-type (bodiesIn s) (functions-good s e) k function-there))
+    where
+      b : ℕ
+      b = byte (functionsIn s) (functionAt k + 9)
+
+      same : some (tyOf (g .result)) ≡ resultOf b
+      same =
+          ap (λ (x : Bool). cond x none (some (tyOf (g .result)))) (sym (ne-eqb (g .result) 0 valued))
+          ∙ ap (λ (o : Option Function). maybe o none (λ F. F .result)) function-same
+
+      back : tyOf (g .result) ≡ ptr void → (b ≡ 0 → ⊥) → IsType b → b ≡ 128
+      back v ne is =
+          let x : tyOf (g .result) ≡ tyOf b = some-inj (tyOf (g .result)) (tyOf b) (same ∙ ap (λ (y : Bool). cond y none (some (tyOf b))) (ne-eqb b 0 ne)) in
+          sym is ∙ ap typeByte (sym x ∙ v)
+
+      go : tyOf (g .result) ≡ ptr void → (b ≡ 0) ⊎ ResultByte (structureCount (structuresIn s)) b → ⊥
+      go v (inl z) = none-some (sym (same ∙ ap resultOf z))
+      go v (inr (inl y)) = let x = number-kind b y in let l = kind-low (x .0) in let q = x .1 in
+          let h = back v (λ z. omega arith) (number-byte b (x .0) q) in omega arith
+      go v (inr (inr y)) = let h = back v (λ z. omega arith) (byte-back (structureCount (structuresIn s)) b (inl (inr y))) in omega arith
 
 -- ---- call
 
@@ -76,22 +103,18 @@ module _ (s : List ℕ) (b : Body) (k q : ℕ) (r : List ℕ) where
     call-other ok t e = breaks (read s) b q _ r′ (t .holds) (rw (← is) (t .strips _ ∙ rw e refl))
 
     module _ (ok : Bool) (t : Stripped params r ok r′) (alike : ok ≡ true) where
-      flow : judge (read s) b (Call k) q (listsOf r .locals) (listsOf r .operands) ≡ to q (listsOf r′ .locals) (withResult (numOf (g .result)) (listsOf r′ .operands))
-      flow =
-          rw (← is) (t .strips _ ∙ rw alike refl
-          ∙ ap (λ (L : List Ty). to q L (withResult (numOf (g .result)) (listsOf r′ .operands))) (sym (t .locals-kept)))
+      flow : (o : Option Ty) → resultOf (g .result) ≡ o
+          → judge (read s) b (Call k) q (listsOf r .locals) (listsOf r .operands) ≡ to q (listsOf r′ .locals) (withResult o (listsOf r′ .operands))
+      flow o e =
+          rw (← is) (t .strips _ ∙ rw (alike, e) refl ∙ ap (λ (L : List Ty). to q L (withResult o (listsOf r′ .operands))) (sym (t .locals-kept)))
 
-      pub call-bare : numberType (g .result) ≡ false → Judges (read s) b (Call k) q r (Falls q) r′
-      call-bare bare =
-          falls (read s) b q _ r′ (t .holds)
-          (flow ∙ ap (λ (o : Option Num). to q (listsOf r′ .locals) (withResult o (listsOf r′ .operands))) (no-number (g .result) bare))
+      pub call-bare : g .result ≡ 0 → Judges (read s) b (Call k) q r (Falls q) r′
+      call-bare z = falls (read s) b q _ r′ (t .holds) (flow none (ap resultOf z))
 
-      pub call-valued : (τ : Num) → g .result ≡ numKind τ → (a : Transfer) (r″ : List ℕ) → Pushes (g .result) q r′ a r″
+      pub call-valued : (g .result ≡ 0 → ⊥) → (a : Transfer) (r″ : List ℕ) → Pushes (g .result) q r′ a r″
           → Judges (read s) b (Call k) q r a r″
-      call-valued τ kind a r″ p =
-          let w : judge (read s) b (Call k) q (listsOf r .locals) (listsOf r .operands) ≡ to q (listsOf r′ .locals) (tyOf (g .result) ∷ listsOf r′ .operands) =
-          flow ∙ rw (number-of (g .result) τ kind, ap tyOf kind ∙ number-type τ) refl in
-          subst (λ (x : Flow). Judged (read s) b q x a r″) (sym w) (p (read s) b)
+      call-valued ne a r″ p =
+          subst (λ (x : Flow). Judged (read s) b q x a r″) (sym (flow (some (tyOf (g .result))) (rw (ne-eqb (g .result) 0 ne) refl))) (p (read s) b)
 
 -- ---- ret
 
@@ -109,26 +132,27 @@ module _ (s : List ℕ) (c : Sections) (packed : Packed s c) (o q : ℕ) (r : Li
   ret-nowhere e = breaks (read s) (bodyOf o) q _ r h (rw (own-is s c packed o, e) refl)
 
   module _ (g : FunctionRecord) (is : functionIn (functionsIn s) (functionAt o) (Record g) ≡ read s .function o) where
-    pub ret-bare : numberType (g .result) ≡ false → Judges (read s) (bodyOf o) Ret q r Stops r
-    ret-bare bare = stops (read s) (bodyOf o) q _ r h (rw (own-is s c packed o, ← is, no-number (g .result) bare) refl)
+    pub ret-bare : g .result ≡ 0 → Judges (read s) (bodyOf o) Ret q r Stops r
+    ret-bare z = stops (read s) (bodyOf o) q _ r h (rw (own-is s c packed o, ← is, z) refl)
 
-    -- n operands
-    module _ (τ : Num) (kind : g .result ≡ numKind τ) (n : ℕ) (many : n ≡ byte r 2) where
+    -- a result, and n operands
+    module _ (valued : g .result ≡ 0 → ⊥) (type : IsType (g .result)) (n : ℕ) (many : n ≡ byte r 2) where
+      some-result : eqb (g .result) 0 ≡ false
+      some-result = ne-eqb (g .result) 0 valued
+
       pub ret-empty : n ≡ 0 → Judges (read s) (bodyOf o) Ret q r Breaks r
-      ret-empty z = breaks (read s) (bodyOf o) q _ r h (rw (own-is s c packed o, ← is, number-of (g .result) τ kind, no-operand r n many z) refl)
+      ret-empty z = breaks (read s) (bodyOf o) q _ r h (rw (own-is s c packed o, ← is, some-result, no-operand r n many z) refl)
 
       module _ (has : n ≡ 0 → ⊥) where
-        same : eqTy (tyOf (byte r (31 + n))) (num τ) ≡ eqb (byte r (31 + n)) (g .result)
-        same =
-            ap (eqTy (tyOf (byte r (31 + n)))) (sym (ap tyOf kind ∙ number-type τ))
-            ∙ same-type (byte r (31 + n)) (g .result) (top-type r n many has h) (number-byte (g .result) τ kind)
+        same : eqTy (tyOf (byte r (31 + n))) (tyOf (g .result)) ≡ eqb (byte r (31 + n)) (g .result)
+        same = same-type (byte r (31 + n)) (g .result) (top-type r n many has h) type
 
         pub ret-other : (byte r (31 + n) ≡ g .result → ⊥) → Judges (read s) (bodyOf o) Ret q r Breaks r
         ret-other ne =
             breaks (read s) (bodyOf o) q _ r h
-            (rw (own-is s c packed o, ← is, number-of (g .result) τ kind, top-operand r n many has .1, same, ne-eqb (byte r (31 + n)) (g .result) ne) refl)
+            (rw (own-is s c packed o, ← is, some-result, top-operand r n many has .1, same, ne-eqb (byte r (31 + n)) (g .result) ne) refl)
 
         pub ret-stops : byte r (31 + n) ≡ g .result → Judges (read s) (bodyOf o) Ret q r Stops r
         ret-stops e =
             stops (read s) (bodyOf o) q _ r h
-            (rw (own-is s c packed o, ← is, number-of (g .result) τ kind, top-operand r n many has .1, same, eq-eqb (byte r (31 + n)) (g .result) e) refl)
+            (rw (own-is s c packed o, ← is, some-result, top-operand r n many has .1, same, eq-eqb (byte r (31 + n)) (g .result) e) refl)

@@ -15,7 +15,7 @@ use Rattle.keys.specs.Keys.{Known, Outside, each}
 use Rattle.keys.proofs.Places.{known-low}
 use Rattle.keys.proofs.Chain.{none-left, outside-both}
 use Rattle.records.specs.declared.Transfer.{Transfer}
-use Rattle.transfer.specs.Transfers.{Judges, KeyAt, Moves, singles}
+use Rattle.transfer.specs.Transfers.{Judges, KeyAt, Moves, seconds}
 
 -- the key b is k, and the instruction of k with the word x is j
 pub moves : (m : Module) (d : Body) (w p : ℕ) (r : List ℕ) (a : Transfer) (r′ : List ℕ) (b k : ℕ) → b ≡ k → (x : ℕ) → x ≡ w
@@ -32,13 +32,13 @@ fits code p b k f e j is = f .whole j (ap (λ (n : ℕ). instructionOf (opcodeOf
 
 -- keys that are no instruction's
 abbrev pub evens : List ℕ
-evens = 0 ∷ 6 ∷ 41 ∷ 45 ∷ 50 ∷ 52 ∷ 54 ∷ 56 ∷ 58 ∷ 60 ∷ 62 ∷ []
+evens = 0 ∷ 45 ∷ 52 ∷ 54 ∷ 56 ∷ 58 ∷ 60 ∷ 62 ∷ []
 
 abbrev pub odds : List ℕ
-odds = 42 ∷ 47 ∷ 51 ∷ 53 ∷ 55 ∷ 57 ∷ 59 ∷ 61 ∷ 63 ∷ []
+odds = 47 ∷ 51 ∷ 53 ∷ 55 ∷ 57 ∷ 59 ∷ 61 ∷ 63 ∷ []
 
 abbrev pub lasts : List (List ℕ)
-lasts = odds ∷ evens ∷ each (49 ∷ 48 ∷ 46 ∷ 44 ∷ 43 ∷ 31 ∷ 30 ∷ 29 ∷ 28 ∷ 27 ∷ 26 ∷ 25 ∷ 24 ∷ 23 ∷ 22 ∷ 21 ∷ 20 ∷ 19 ∷ [])
+lasts = odds ∷ evens ∷ each (50 ∷ 48 ∷ 46 ∷ 44 ∷ 43 ∷ 42 ∷ 41 ∷ 29 ∷ 28 ∷ 27 ∷ 26 ∷ 25 ∷ 24 ∷ 23 ∷ 22 ∷ 21 ∷ 20 ∷ 19 ∷ [])
 
-pub nothing-left : {P : Type 0} (b : ℕ) → Known b → Outside b lasts → Outside b singles → P
-nothing-left b k h g = none-left 64 (lasts ++ singles) refl b (let l : b < 50 = known-low b k in omega arith) (outside-both b lasts singles h g)
+pub nothing-left : {P : Type 0} (b : ℕ) → Known b → Outside b lasts → Outside b seconds → P
+nothing-left b k h g = none-left 64 (lasts ++ seconds) refl b (known-low b k) (outside-both b lasts seconds h g)

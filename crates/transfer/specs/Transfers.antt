@@ -1,14 +1,16 @@
 -- Where an instruction leads from the lists of a record, and its key.
 use mathlib.Core.Path.{_≡_}
 use Prim.Native.Nat.{ℕ, _+_, _^_, _≤_, _<_}
-use mathlib.Core.Bool.{Bool}
+use mathlib.Core.Bool.{Bool, true, false, _&&_, _||_}
 use mathlib.Core.Option.{Option, none, some}
 use mathlib.Core.List.{List, [], _∷_, _++_}
 use lib.ListN.{length}
+use lib.Dec.{leb, ltb}
 use Rattle.rules.specs.declared.Instruction.{Instruction}
-use Rattle.rules.specs.Bytes.{word}
-use Rattle.rules.specs.Instructions.{Ty, tyOf, opcodeOf, instructionOf, size}
-use Rattle.rules.specs.Tables.{Body, Module}
+use Rattle.rules.specs.Bytes.{word, maybe}
+use Rattle.rules.specs.Instructions.{Ty, numKind, tyOf, opcodeOf, instructionOf, size}
+use Rattle.rules.specs.Tables.{Body, Module, numberType}
+use Rattle.rules.specs.Stack.{at}
 use Rattle.rules.specs.Typing.{Flow, to, only, strip, judge}
 use Rattle.soundness.specs.Numbering.{keyTable}
 use Rattle.keys.specs.Keys.{Known, each}
@@ -37,14 +39,28 @@ pub record Stripped (ps : List Ty) (r : List ℕ) (ok : Bool) (r′ : List ℕ) 
   pub locals-kept : listsOf r′ .locals ≡ listsOf r .locals
   pub strips : (k : List Ty → Flow) → strip ps (listsOf r .operands) k ≡ only ok (k (listsOf r′ .operands))
 
+-- ---- structures
+
+-- `new` takes the type number k, where z structures are declared
+abbrev pub made : ℕ → ℕ → Bool
+made z k = numberType k || (leb 10 k && ltb k (10 + z))
+
+-- m has z structures, and these are their type numbers
+abbrev pub Numbered : Module → ℕ → Type 0
+Numbered m z = (k : ℕ) → maybe (m .structure k) false (λ fs. true) ≡ (leb 10 k && ltb k (10 + z))
+
+-- the type number of field n of the structure of type number k; 0 where there is none
+abbrev pub fieldType : Module → ℕ → ℕ → ℕ
+fieldType m k n = maybe (m .structure k) 0 (λ fs. maybe (at fs n) 0 numKind)
+
 -- ---- keys
 
--- the keys of each match, the last first
-abbrev pub wides : List (List ℕ)
-wides = each (40 ∷ 39 ∷ 38 ∷ 37 ∷ 36 ∷ 35 ∷ 34 ∷ 33 ∷ 32 ∷ 5 ∷ 4 ∷ 3 ∷ 1 ∷ [])
+-- the keys of the first two matches, the last first
+abbrev pub firsts : List (List ℕ)
+firsts = each (49 ∷ 40 ∷ 39 ∷ 38 ∷ 37 ∷ 36 ∷ 35 ∷ 34 ∷ 33 ∷ 32 ∷ 31 ∷ 30 ∷ 6 ∷ 5 ∷ 4 ∷ 3 ∷ 1 ∷ [])
 
-abbrev pub singles : List (List ℕ)
-singles = each (18 ∷ 17 ∷ 16 ∷ 15 ∷ 14 ∷ 13 ∷ 12 ∷ 11 ∷ 10 ∷ 9 ∷ 8 ∷ 7 ∷ 2 ∷ []) ++ wides
+abbrev pub seconds : List (List ℕ)
+seconds = each (18 ∷ 17 ∷ 16 ∷ 15 ∷ 14 ∷ 13 ∷ 12 ∷ 11 ∷ 10 ∷ 9 ∷ 8 ∷ 7 ∷ 2 ∷ []) ++ firsts
 
 -- b is the key of an instruction whose bytes are all in the code, from the place p on
 pub record KeyAt (code : List ℕ) (p b : ℕ) : Type 0 where

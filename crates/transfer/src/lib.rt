@@ -2,16 +2,17 @@
 ghost use mathlib.Core.Path.{_≡_};
 ghost use mathlib.Core.List.{List};
 ghost use Prim.Native.Nat.{ℕ, _+_, _^_, _<_, _≤_};
+ghost use lib.Dec.{eqb};
 ghost use Rattle.rules.specs.declared.Condition.{Condition};
-ghost use Rattle.rules.specs.declared.Instruction.the-variants.{Push, Jmp, Branch, Call, Ret};
+ghost use Rattle.rules.specs.declared.Instruction.the-variants.{Push, Jmp, Branch, Call, Ret, New, Flea};
 ghost use Rattle.rules.specs.Bytes.{byte, word};
-ghost use Rattle.rules.specs.Tables.{Body, Module, bodyOf, functionAt, numberType, paramsFrom};
-ghost use Rattle.rules.specs.ModuleFile.{read, refusal, functionsIn};
+ghost use Rattle.rules.specs.Tables.{Body, Module, bodyOf, functionAt, paramsFrom};
+ghost use Rattle.rules.specs.ModuleFile.{edition, structures, read, refusal, functionsIn};
 ghost use Rattle.rules.specs.Machine.{owned};
 ghost use Rattle.format.specs.Layout.{Packed};
 ghost use Rattle.records.specs.Record.{Holds, IsType};
 ghost use Rattle.keys.specs.Keys.{Known, Outside};
-ghost use Rattle.transfer.specs.Transfers.{Judges, Pushes, placeOf, Stripped, KeyAt, Moves, wides, singles};
+ghost use Rattle.transfer.specs.Transfers.{Judges, Pushes, placeOf, Stripped, KeyAt, Moves, made, Numbered, fieldType, firsts, seconds};
 use format::Sections;
 use reader::entries::FoundConstant;
 use reader::entries::FoundFunction;
@@ -132,13 +133,6 @@ fn take_arguments(file: &[u8], c: Sections, k: usize, n: usize, st: &mut [u8]) -
     true
 }
 
-// Whether it is the type byte of a number. A function without result has 0.
-fn is_number(t: u8) -> bool
-    ensures { λ r. ⌜ r ≡ numberType t ⌝ }
-{
-    (t == 3) | (t == 4) | (t == 6)
-}
-
 // `call`. It goes past itself, the result in place of the arguments.
 fn call(file: &[u8], c: Sections, k: u32, q: usize, st: &mut [u8]) -> Transfer
     requires { ⌜ Packed (now file) c × (refusal (now file) ≡ 0) ⌝ }
@@ -154,8 +148,7 @@ fn call(file: &[u8], c: Sections, k: u32, q: usize, st: &mut [u8]) -> Transfer
     if !alike {
         return Transfer::Breaks;
     }
-    let valued = is_number(f.result);
-    if !valued {
+    if f.result == 0 {
         return Transfer::Falls(q);
     }
     push_type(f.result, q, st)
@@ -163,7 +156,7 @@ fn call(file: &[u8], c: Sections, k: u32, q: usize, st: &mut [u8]) -> Transfer
 
 // `ret`. The entry's number is no function's.
 fn ret(file: &[u8], c: Sections, owner: usize, st: &[u8]) -> Transfer
-    requires { ⌜ Packed (now file) c ⌝ }
+    requires { ⌜ Packed (now file) c × (refusal (now file) ≡ 0) ⌝ }
     requires { ⌜ Holds (now st) ⌝ }
     ensures { λ a. ⌜ ((q : ℕ) → Judges (read (now (file .entry))) (bodyOf owner) Ret q (now (st .entry)) a (now (st .entry))) ⌝ }
 {
@@ -171,8 +164,7 @@ fn ret(file: &[u8], c: Sections, owner: usize, st: &[u8]) -> Transfer
     let FoundFunction::Record(f) = found else {
         return Transfer::Breaks;
     };
-    let valued = is_number(f.result);
-    if !valued {
+    if f.result == 0 {
         return Transfer::Stops;
     }
     let n = wide(st[2]);
@@ -185,13 +177,95 @@ fn ret(file: &[u8], c: Sections, owner: usize, st: &[u8]) -> Transfer
     Transfer::Stops
 }
 
+// ---- structures
+
+// Whether the module is of edition 4. What edition 4 alone has is read from the header where it is met: a walk keeps its
+// registers for what it always needs.
+fn fourth(file: &[u8]) -> bool
+    requires { ⌜ refusal (now file) ≡ 0 ⌝ }
+    ensures { λ r. ⌜ r ≡ eqb (edition (now (file .entry))) 4 ⌝ }
+{
+    format::word(file, 0) == 4
+}
+
+// How many structures are declared.
+fn declared(file: &[u8]) -> usize
+    requires { ⌜ refusal (now file) ≡ 0 ⌝ }
+    ensures { λ r. ⌜ r ≡ structures (now (file .entry)) ⌝ }
+{
+    let some = fourth(file);
+    if !some {
+        return 0;
+    }
+    format::word(file, 48)
+}
+
+// Whether `new` takes the type number k where there are so many structures, which are numbered from 10 on.
+fn makes(structures: usize, k: usize) -> bool
+    requires { ⌜ structures ≤ 16 ⌝ }
+    ensures { λ r. ⌜ r ≡ made structures k ⌝ }
+{
+    (k == 3) | (k == 4) | (k == 6) | ((10 <= k) & (k < 10 + structures))
+}
+
+// `new`, of the type number n.
+fn new(structures: usize, n: u32, q: usize, st: &mut [u8]) -> Transfer
+    requires { ⌜ Holds (now st) × (structures ≤ 16) ⌝ }
+    ensures { λ a. ⌜ ((m : Module) (b : Body) → Numbered m structures → Judges m b (New n) q (now (st .entry)) a (now (st .exit))) ⌝ }
+{
+    let k = n as usize;
+    let there = makes(structures, k);
+    if !there {
+        return Transfer::Breaks;
+    }
+    push_type(128 + (k as u8), q, st)
+}
+
+// The type of field n of structure i, counted from 0; 0 where there is none.
+fn field(file: &[u8], i: usize, n: usize) -> u8
+    requires { ⌜ refusal (now file) ≡ 0 ⌝ }
+    ensures { λ r. ⌜ r ≡ fieldType (read (now (file .entry))) (10 + i) n ⌝ }
+{
+    let count = declared(file);
+    if count <= i {
+        return 0;
+    }
+    let at = format::word(file, 52) + 12 * i;
+    if wide(file[at]) <= n {
+        return 0;
+    }
+    file[at + 1 + n]
+}
+
+// `flea`. A pointer to structure i, counted from 0, has the type byte 138 + i.
+fn flea(file: &[u8], n: u32, q: usize, st: &mut [u8]) -> Transfer
+    requires { ⌜ refusal (now file) ≡ 0 ⌝ }
+    requires { ⌜ Holds (now st) ⌝ }
+    ensures { λ a. ⌜ ((b : Body) → Judges (read (now (file .entry))) b (Flea n) q (now (st .entry)) a (now (st .exit))) ⌝ }
+{
+    let h = wide(st[2]);
+    if h < 1 {
+        return Transfer::Breaks;
+    }
+    let t = st[31 + h];
+    if t < 138 {
+        return Transfer::Breaks;
+    }
+    let to = field(file, wide(t - 138), n as usize);
+    if to == 0 {
+        return Transfer::Breaks;
+    }
+    records::retype(st, 128 + to);
+    Transfer::Falls(q)
+}
+
 // ---- by the key of an instruction, in three matches that the compiler makes one. Every number below 64 is a key of theirs, so
 // that the jump has no default. Those of the last two arms are no instruction's, and are never met; as no two neighbours stand
 // in one arm, they stay in the jump's table.
 
-// The last instructions that have no word.
+// The last of those that need neither word nor file.
 fn other(b: u8, p: usize, st: &mut [u8]) -> Transfer
-    requires { ⌜ Known b × Outside b singles × (p < 2 ^ 32) ⌝ }
+    requires { ⌜ Known b × Outside b seconds × (p < 2 ^ 32) ⌝ }
     requires { ⌜ Holds (now st) ⌝ }
     ensures { λ a. ⌜ ((m : Module) (d : Body) (w : ℕ) → Moves m d b w p (now (st .entry)) a (now (st .exit))) ⌝ }
 {
@@ -207,23 +281,22 @@ fn other(b: u8, p: usize, st: &mut [u8]) -> Transfer
         0x1b => records::operands::arith(4, p + 1, st),
         0x1c => records::operands::arith(4, p + 1, st),
         0x1d => records::operands::arith(4, p + 1, st),
-        0x1e => records::operands::compare(p + 1, st),
-        0x1f => records::operands::compare(p + 1, st),
+        0x29 => records::operands::keep(6, p + 1, st),
+        0x2a => records::operands::keep(6, p + 1, st),
         0x2b => records::operands::convert(3, p + 1, st),
         0x2c => records::operands::convert(4, p + 1, st),
         0x2e => records::operands::convert(6, p + 1, st),
-        0x30 => records::operands::keep(6, p + 1, st),
-        0x31 => records::operands::keep(6, p + 1, st),
-        0x00 | 0x06 | 0x29 | 0x2d | 0x32 | 0x34 | 0x36 | 0x38 | 0x3a | 0x3c | 0x3e =>
-            Transfer::Breaks,
-        0x2a | 0x2f | 0x33 | 0x35 | 0x37 | 0x39 | 0x3b | 0x3d | 0x3f => Transfer::Stops,
+        0x30 => push_type(128, p + 1, st),
+        0x32 => records::pointers::delete(p + 1, st),
+        0x00 | 0x2d | 0x34 | 0x36 | 0x38 | 0x3a | 0x3c | 0x3e => Transfer::Breaks,
+        0x2f | 0x33 | 0x35 | 0x37 | 0x39 | 0x3b | 0x3d | 0x3f => Transfer::Stops,
         _ => Transfer::Jumps(0),
     }
 }
 
-// Instructions that have no word.
+// Those that need neither word nor file.
 fn single(b: u8, p: usize, st: &mut [u8]) -> Transfer
-    requires { ⌜ Known b × Outside b wides × (p < 2 ^ 32) ⌝ }
+    requires { ⌜ Known b × Outside b firsts × (p < 2 ^ 32) ⌝ }
     requires { ⌜ Holds (now st) ⌝ }
     ensures { λ a. ⌜ ((m : Module) (d : Body) (w : ℕ) → Moves m d b w p (now (st .entry)) a (now (st .exit))) ⌝ }
 {
@@ -264,6 +337,9 @@ pub fn transfer(
         0x03 => records::locals::load(keys::operand(code, p), p + 5, st),
         0x04 => records::locals::store(keys::operand(code, p), p + 5, st),
         0x05 => records::locals::lea(keys::operand(code, p), p + 5, st),
+        0x06 => flea(file, keys::operand(code, p), p + 5, st),
+        0x1e => records::operands::compare(fourth(file), p + 1, st),
+        0x1f => records::operands::compare(fourth(file), p + 1, st),
         0x20 => jmp(file, c, owner, keys::operand(code, p)),
         0x21 => branch(file, c, owner, keys::operand(code, p), p + 5, st),
         0x22 => branch(file, c, owner, keys::operand(code, p), p + 5, st),
@@ -273,6 +349,7 @@ pub fn transfer(
         0x26 => branch(file, c, owner, keys::operand(code, p), p + 5, st),
         0x27 => call(file, c, keys::operand(code, p), p + 5, st),
         0x28 => ret(file, c, owner, st),
+        0x31 => new(declared(file), keys::operand(code, p), p + 5, st),
         _ => single(b, p, st),
     }
 }

@@ -1,6 +1,7 @@
 use native.Mathlib.Omega.{arith}
 use mathlib.Core.Path.{sym, _∙_}
-use Rattle.checker.proofs.Lent.{lent-third}
+use Rattle.transfer.proofs.Structures.{header-long}
+use Rattle.checker.proofs.Lent.{lent-file}
 use Rattle.checker.proofs.Verdicts.{short-check}
 use borrow.Author.Needs.{needs}
 use Rattle.checker.proofs.check_opened.Statement.{statement}
@@ -13,7 +14,7 @@ returns : tie.Need-returns
 returns c = short-check _ ((c .before .before .before .before .pre) .1) _ (omega (arith, (c .if1) .taken, (c .before .before .before .before .pre) .0 .labels-is))
 
 word-requires : tie.Need-word-requires
-word-requires c κs = omega (arith, (c .before .before .before .before .pre) .0 .whole, (c .before .before .before .before .pre) .0 .code-is)
+word-requires c κs = omega (arith, header-long _ ((c .before .before .before .before .pre) .1))
 
 old-with-small-table-requires : tie.Need-old-with-small-table-requires
 old-with-small-table-requires c κs = (((c .before .before .before .before .before .before .before .before .before .pre) .0, (c .before .before .before .before .before .before .before .before .before .pre) .1, (c .before .before .before .before .before .if1) .left, (c .before .if3) .taken), sym ((c .before .before .before .before .word) .ensures .0) ∙ (c .before .before .before .if2) .taken)
@@ -43,7 +44,7 @@ part-code-end : tie.Need-part-code-end
 part-code-end c = omega (arith, (c .before .before .before .before .before .before .pre) .0 .whole)
 
 with-small-table-requires : tie.Need-with-small-table-requires
-with-small-table-requires c κs = (((c .before .before .before .before .before .before .before .before .before .before .pre) .0, (c .before .before .before .before .before .before .before .before .before .before .pre) .1, (c .before .before .before .before .before .before .if1) .left, (c .before .if4) .taken), lent-third _ _ ((c .before .before .before .before .before .before .before .before .before .before .pre) .0) ((c .before .before .before .before .before .before .before .before .before .before .pre) .1) (λ e. (c .before .before .before .before .if2) .left ((c .before .before .before .before .before .word) .ensures .0 ∙ e)))
+with-small-table-requires c κs = (((c .before .before .before .before .before .before .before .before .before .before .pre) .0, (c .before .before .before .before .before .before .before .before .before .before .pre) .1, (c .before .before .before .before .before .before .if1) .left, (c .before .if4) .taken), lent-file _ _ ((c .before .before .before .before .before .before .before .before .before .before .pre) .0) ((c .before .before .before .before .before .before .before .before .before .before .pre) .1) (λ e. (c .before .before .before .before .if2) .left ((c .before .before .before .before .before .word) .ensures .0 ∙ e)))
 
 same-length-3 : tie.Need-same-length-3
 same-length-3 c = search needs
@@ -52,7 +53,7 @@ returns-4 : tie.Need-returns-4
 returns-4 c = search needs
 
 with-middle-table-requires : tie.Need-with-middle-table-requires
-with-middle-table-requires c κs = (((c .before .before .before .before .before .before .before .before .before .before .before .before .pre) .0, (c .before .before .before .before .before .before .before .before .before .before .before .before .pre) .1, (c .before .before .before .before .before .before .before .before .if1) .left, (c .before .if5) .taken), lent-third _ _ ((c .before .before .before .before .before .before .before .before .before .before .before .before .pre) .0) ((c .before .before .before .before .before .before .before .before .before .before .before .before .pre) .1) (λ e. (c .before .before .before .before .before .before .if2) .left ((c .before .before .before .before .before .before .before .word) .ensures .0 ∙ e)))
+with-middle-table-requires c κs = (((c .before .before .before .before .before .before .before .before .before .before .before .before .pre) .0, (c .before .before .before .before .before .before .before .before .before .before .before .before .pre) .1, (c .before .before .before .before .before .before .before .before .if1) .left, (c .before .if5) .taken), lent-file _ _ ((c .before .before .before .before .before .before .before .before .before .before .before .before .pre) .0) ((c .before .before .before .before .before .before .before .before .before .before .before .before .pre) .1) (λ e. (c .before .before .before .before .before .before .if2) .left ((c .before .before .before .before .before .before .before .word) .ensures .0 ∙ e)))
 
 same-length-4 : tie.Need-same-length-4
 same-length-4 c = search needs
@@ -61,7 +62,7 @@ returns-5 : tie.Need-returns-5
 returns-5 c = search needs
 
 with-large-table-requires : tie.Need-with-large-table-requires
-with-large-table-requires c κs = (((c .before .before .before .before .before .before .before .before .before .before .before .before .pre) .0, (c .before .before .before .before .before .before .before .before .before .before .before .before .pre) .1, (c .before .before .before .before .before .before .before .before .if1) .left), lent-third _ _ ((c .before .before .before .before .before .before .before .before .before .before .before .before .pre) .0) ((c .before .before .before .before .before .before .before .before .before .before .before .before .pre) .1) (λ e. (c .before .before .before .before .before .before .if2) .left ((c .before .before .before .before .before .before .before .word) .ensures .0 ∙ e)))
+with-large-table-requires c κs = (((c .before .before .before .before .before .before .before .before .before .before .before .before .pre) .0, (c .before .before .before .before .before .before .before .before .before .before .before .before .pre) .1, (c .before .before .before .before .before .before .before .before .if1) .left), lent-file _ _ ((c .before .before .before .before .before .before .before .before .before .before .before .before .pre) .0) ((c .before .before .before .before .before .before .before .before .before .before .before .before .pre) .1) (λ e. (c .before .before .before .before .before .before .if2) .left ((c .before .before .before .before .before .before .before .word) .ensures .0 ∙ e)))
 
 same-length-5 : tie.Need-same-length-5
 same-length-5 c = search needs

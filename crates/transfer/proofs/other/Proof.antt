@@ -1,12 +1,13 @@
-use Rattle.rules.specs.declared.Instruction.the-variants.{One, Two, Bump}
-use Rattle.rules.specs.declared.Binary.the-variants.{Arith, Cmp}
-use Rattle.rules.specs.declared.Operator.the-variants.{And, Or, Xor, Shl, Sal, Shr, Sar}
-use Rattle.rules.specs.declared.Unary.the-variants.{Neg, Not, Convert, Count}
-use Rattle.rules.specs.declared.Num.the-variants.{Int, Long, Double}
-use mathlib.Core.Bool.{true, false}
-use mathlib.Core.Path.{refl}
-use Rattle.keys.proofs.Chain.{unknown}
+-- The proof of `transfer::other`.
 use Rattle.transfer.proofs.Matches.{moves, evens, odds, nothing-left}
+use Rattle.keys.proofs.Chain.{unknown}
+use mathlib.Core.Path.{refl}
+use mathlib.Core.Bool.{true, false}
+use Rattle.rules.specs.declared.Num.the-variants.{Int, Long, Double}
+use Rattle.rules.specs.declared.Unary.the-variants.{Neg, Not, Convert, Count}
+use Rattle.rules.specs.declared.Operator.the-variants.{And, Or, Xor, Shl, Sal, Shr, Sar}
+use Rattle.rules.specs.declared.Binary.the-variants.{Arith}
+use Rattle.rules.specs.declared.Instruction.the-variants.{One, Two, Bump, Null, Delete}
 use borrow.Author.Needs.{needs}
 use Rattle.transfer.proofs.other.Statement.{statement}
 use Rattle.transfer.proofs.other.Tie as tie
@@ -77,17 +78,17 @@ add-arith-7 c = search needs
 arith-requires-7 : tie.Need-arith-requires-7
 arith-requires-7 c κs = search needs
 
-add-compare : tie.Need-add-compare
-add-compare c = search needs
+add-keep-3 : tie.Need-add-keep-3
+add-keep-3 c = search needs
 
-compare-requires : tie.Need-compare-requires
-compare-requires c κs = search needs
+keep-requires-3 : tie.Need-keep-requires-3
+keep-requires-3 c κs = search needs
 
-add-compare-2 : tie.Need-add-compare-2
-add-compare-2 c = search needs
+add-keep-4 : tie.Need-add-keep-4
+add-keep-4 c = search needs
 
-compare-requires-2 : tie.Need-compare-requires-2
-compare-requires-2 c κs = search needs
+keep-requires-4 : tie.Need-keep-requires-4
+keep-requires-4 c κs = search needs
 
 add-convert : tie.Need-add-convert
 add-convert c = search needs
@@ -107,125 +108,125 @@ add-convert-3 c = search needs
 convert-requires-3 : tie.Need-convert-requires-3
 convert-requires-3 c κs = search needs
 
-add-keep-3 : tie.Need-add-keep-3
-add-keep-3 c = search needs
+add-push-type : tie.Need-add-push-type
+add-push-type c = search needs
 
-keep-requires-3 : tie.Need-keep-requires-3
-keep-requires-3 c κs = search needs
+push-type-requires : tie.Need-push-type-requires
+push-type-requires c κs = search needs
 
-add-keep-4 : tie.Need-add-keep-4
-add-keep-4 c = search needs
+add-delete : tie.Need-add-delete
+add-delete c = search needs
 
-keep-requires-4 : tie.Need-keep-requires-4
-keep-requires-4 c κs = search needs
+delete-requires : tie.Need-delete-requires
+delete-requires c κs = search needs
 
 same-length : tie.Need-same-length
 same-length c = search needs
 
 returns : tie.Need-returns
-returns c = λ m d w. moves m d w _ (c .before .before .before .before .before .before .args .st .now) _ _ _ 19 ((c .before .before .before .before .match) .keys1) w refl (One Neg) refl ((c .before .before .keep) .ensures Neg refl (λ t. refl) m d)
+returns c = λ m d w. moves m d w _ ((c .before .before .before .before .before .before .args) .st .now) _ _ _ 19 ((c .before .before .before .before .match) .keys1) w refl (One Neg) refl ((c .before .before .keep) .ensures Neg refl (λ t. refl) m d)
 
 same-length-2 : tie.Need-same-length-2
 same-length-2 c = search needs
 
 returns-2 : tie.Need-returns-2
-returns-2 c = λ m d w. moves m d w _ (c .before .before .before .before .before .before .args .st .now) _ _ _ 20 ((c .before .before .before .before .match) .keys2) w refl (Bump true) refl ((c .before .before .bump) .ensures true m d)
+returns-2 c = λ m d w. moves m d w _ ((c .before .before .before .before .before .before .args) .st .now) _ _ _ 20 ((c .before .before .before .before .match) .keys2) w refl (Bump true) refl ((c .before .before .bump) .ensures true m d)
 
 same-length-3 : tie.Need-same-length-3
 same-length-3 c = search needs
 
 returns-3 : tie.Need-returns-3
-returns-3 c = λ m d w. moves m d w _ (c .before .before .before .before .before .before .args .st .now) _ _ _ 21 ((c .before .before .before .before .match) .keys3) w refl (Bump false) refl ((c .before .before .bump2) .ensures false m d)
+returns-3 c = λ m d w. moves m d w _ ((c .before .before .before .before .before .before .args) .st .now) _ _ _ 21 ((c .before .before .before .before .match) .keys3) w refl (Bump false) refl ((c .before .before .bump2) .ensures false m d)
 
 same-length-4 : tie.Need-same-length-4
 same-length-4 c = search needs
 
 returns-4 : tie.Need-returns-4
-returns-4 c = λ m d w. moves m d w _ (c .before .before .before .before .before .before .args .st .now) _ _ _ 22 ((c .before .before .before .before .match) .keys4) w refl (Two (Arith And)) refl ((c .before .before .arith) .ensures And refl m d)
+returns-4 c = λ m d w. moves m d w _ ((c .before .before .before .before .before .before .args) .st .now) _ _ _ 22 ((c .before .before .before .before .match) .keys4) w refl (Two (Arith And)) refl ((c .before .before .arith) .ensures And refl m d)
 
 same-length-5 : tie.Need-same-length-5
 same-length-5 c = search needs
 
 returns-5 : tie.Need-returns-5
-returns-5 c = λ m d w. moves m d w _ (c .before .before .before .before .before .before .args .st .now) _ _ _ 23 ((c .before .before .before .before .match) .keys5) w refl (Two (Arith Or)) refl ((c .before .before .arith2) .ensures Or refl m d)
+returns-5 c = λ m d w. moves m d w _ ((c .before .before .before .before .before .before .args) .st .now) _ _ _ 23 ((c .before .before .before .before .match) .keys5) w refl (Two (Arith Or)) refl ((c .before .before .arith2) .ensures Or refl m d)
 
 same-length-6 : tie.Need-same-length-6
 same-length-6 c = search needs
 
 returns-6 : tie.Need-returns-6
-returns-6 c = λ m d w. moves m d w _ (c .before .before .before .before .before .before .args .st .now) _ _ _ 24 ((c .before .before .before .before .match) .keys6) w refl (Two (Arith Xor)) refl ((c .before .before .arith3) .ensures Xor refl m d)
+returns-6 c = λ m d w. moves m d w _ ((c .before .before .before .before .before .before .args) .st .now) _ _ _ 24 ((c .before .before .before .before .match) .keys6) w refl (Two (Arith Xor)) refl ((c .before .before .arith3) .ensures Xor refl m d)
 
 same-length-7 : tie.Need-same-length-7
 same-length-7 c = search needs
 
 returns-7 : tie.Need-returns-7
-returns-7 c = λ m d w. moves m d w _ (c .before .before .before .before .before .before .args .st .now) _ _ _ 25 ((c .before .before .before .before .match) .keys7) w refl (One Not) refl ((c .before .before .keep2) .ensures Not refl (λ t. refl) m d)
+returns-7 c = λ m d w. moves m d w _ ((c .before .before .before .before .before .before .args) .st .now) _ _ _ 25 ((c .before .before .before .before .match) .keys7) w refl (One Not) refl ((c .before .before .keep2) .ensures Not refl (λ t. refl) m d)
 
 same-length-8 : tie.Need-same-length-8
 same-length-8 c = search needs
 
 returns-8 : tie.Need-returns-8
-returns-8 c = λ m d w. moves m d w _ (c .before .before .before .before .before .before .args .st .now) _ _ _ 26 ((c .before .before .before .before .match) .keys8) w refl (Two (Arith Shl)) refl ((c .before .before .arith4) .ensures Shl refl m d)
+returns-8 c = λ m d w. moves m d w _ ((c .before .before .before .before .before .before .args) .st .now) _ _ _ 26 ((c .before .before .before .before .match) .keys8) w refl (Two (Arith Shl)) refl ((c .before .before .arith4) .ensures Shl refl m d)
 
 same-length-9 : tie.Need-same-length-9
 same-length-9 c = search needs
 
 returns-9 : tie.Need-returns-9
-returns-9 c = λ m d w. moves m d w _ (c .before .before .before .before .before .before .args .st .now) _ _ _ 27 ((c .before .before .before .before .match) .keys9) w refl (Two (Arith Sal)) refl ((c .before .before .arith5) .ensures Sal refl m d)
+returns-9 c = λ m d w. moves m d w _ ((c .before .before .before .before .before .before .args) .st .now) _ _ _ 27 ((c .before .before .before .before .match) .keys9) w refl (Two (Arith Sal)) refl ((c .before .before .arith5) .ensures Sal refl m d)
 
 same-length-10 : tie.Need-same-length-10
 same-length-10 c = search needs
 
 returns-10 : tie.Need-returns-10
-returns-10 c = λ m d w. moves m d w _ (c .before .before .before .before .before .before .args .st .now) _ _ _ 28 ((c .before .before .before .before .match) .keys10) w refl (Two (Arith Shr)) refl ((c .before .before .arith6) .ensures Shr refl m d)
+returns-10 c = λ m d w. moves m d w _ ((c .before .before .before .before .before .before .args) .st .now) _ _ _ 28 ((c .before .before .before .before .match) .keys10) w refl (Two (Arith Shr)) refl ((c .before .before .arith6) .ensures Shr refl m d)
 
 same-length-11 : tie.Need-same-length-11
 same-length-11 c = search needs
 
 returns-11 : tie.Need-returns-11
-returns-11 c = λ m d w. moves m d w _ (c .before .before .before .before .before .before .args .st .now) _ _ _ 29 ((c .before .before .before .before .match) .keys11) w refl (Two (Arith Sar)) refl ((c .before .before .arith7) .ensures Sar refl m d)
+returns-11 c = λ m d w. moves m d w _ ((c .before .before .before .before .before .before .args) .st .now) _ _ _ 29 ((c .before .before .before .before .match) .keys11) w refl (Two (Arith Sar)) refl ((c .before .before .arith7) .ensures Sar refl m d)
 
 same-length-12 : tie.Need-same-length-12
 same-length-12 c = search needs
 
 returns-12 : tie.Need-returns-12
-returns-12 c = λ m d w. moves m d w _ (c .before .before .before .before .before .before .args .st .now) _ _ _ 30 ((c .before .before .before .before .match) .keys12) w refl (Two (Cmp false)) refl ((c .before .before .compare) .ensures false m d)
+returns-12 c = λ m d w. moves m d w _ ((c .before .before .before .before .before .before .args) .st .now) _ _ _ 41 ((c .before .before .before .before .match) .keys12) w refl (One (Count true)) refl ((c .before .before .keep3) .ensures (Count true) refl (λ t. refl) m d)
 
 same-length-13 : tie.Need-same-length-13
 same-length-13 c = search needs
 
 returns-13 : tie.Need-returns-13
-returns-13 c = λ m d w. moves m d w _ (c .before .before .before .before .before .before .args .st .now) _ _ _ 31 ((c .before .before .before .before .match) .keys13) w refl (Two (Cmp true)) refl ((c .before .before .compare2) .ensures true m d)
+returns-13 c = λ m d w. moves m d w _ ((c .before .before .before .before .before .before .args) .st .now) _ _ _ 42 ((c .before .before .before .before .match) .keys13) w refl (One (Count false)) refl ((c .before .before .keep4) .ensures (Count false) refl (λ t. refl) m d)
 
 same-length-14 : tie.Need-same-length-14
 same-length-14 c = search needs
 
 returns-14 : tie.Need-returns-14
-returns-14 c = λ m d w. moves m d w _ (c .before .before .before .before .before .before .args .st .now) _ _ _ 43 ((c .before .before .before .before .match) .keys14) w refl (One (Convert Int)) refl ((c .before .before .convert) .ensures Int refl m d)
+returns-14 c = λ m d w. moves m d w _ ((c .before .before .before .before .before .before .args) .st .now) _ _ _ 43 ((c .before .before .before .before .match) .keys14) w refl (One (Convert Int)) refl ((c .before .before .convert) .ensures Int refl m d)
 
 same-length-15 : tie.Need-same-length-15
 same-length-15 c = search needs
 
 returns-15 : tie.Need-returns-15
-returns-15 c = λ m d w. moves m d w _ (c .before .before .before .before .before .before .args .st .now) _ _ _ 44 ((c .before .before .before .before .match) .keys15) w refl (One (Convert Long)) refl ((c .before .before .convert2) .ensures Long refl m d)
+returns-15 c = λ m d w. moves m d w _ ((c .before .before .before .before .before .before .args) .st .now) _ _ _ 44 ((c .before .before .before .before .match) .keys15) w refl (One (Convert Long)) refl ((c .before .before .convert2) .ensures Long refl m d)
 
 same-length-16 : tie.Need-same-length-16
 same-length-16 c = search needs
 
 returns-16 : tie.Need-returns-16
-returns-16 c = λ m d w. moves m d w _ (c .before .before .before .before .before .before .args .st .now) _ _ _ 46 ((c .before .before .before .before .match) .keys16) w refl (One (Convert Double)) refl ((c .before .before .convert3) .ensures Double refl m d)
+returns-16 c = λ m d w. moves m d w _ ((c .before .before .before .before .before .before .args) .st .now) _ _ _ 46 ((c .before .before .before .before .match) .keys16) w refl (One (Convert Double)) refl ((c .before .before .convert3) .ensures Double refl m d)
 
 same-length-17 : tie.Need-same-length-17
 same-length-17 c = search needs
 
 returns-17 : tie.Need-returns-17
-returns-17 c = λ m d w. moves m d w _ (c .before .before .before .before .before .before .args .st .now) _ _ _ 48 ((c .before .before .before .before .match) .keys17) w refl (One (Count true)) refl ((c .before .before .keep3) .ensures (Count true) refl (λ t. refl) m d)
+returns-17 c = λ m d w. moves m d w _ ((c .before .before .before .before .before .before .args) .st .now) _ _ _ 48 ((c .before .before .before .before .match) .keys17) w refl Null refl ((c .before .before .push-type) .ensures m d)
 
 same-length-18 : tie.Need-same-length-18
 same-length-18 c = search needs
 
 returns-18 : tie.Need-returns-18
-returns-18 c = λ m d w. moves m d w _ (c .before .before .before .before .before .before .args .st .now) _ _ _ 49 ((c .before .before .before .before .match) .keys18) w refl (One (Count false)) refl ((c .before .before .keep4) .ensures (Count false) refl (λ t. refl) m d)
+returns-18 c = λ m d w. moves m d w _ ((c .before .before .before .before .before .before .args) .st .now) _ _ _ 50 ((c .before .before .before .before .match) .keys18) w refl Delete refl ((c .before .before .delete) .ensures m d)
 
 returns-19 : tie.Need-returns-19
 returns-19 c = λ m d w. unknown _ ((c .before .before .pre) .0 .0) evens refl ((c .match) .keys19)
@@ -262,20 +263,20 @@ other-spec =
     arith-requires-6
     add-arith-7
     arith-requires-7
-    add-compare
-    compare-requires
-    add-compare-2
-    compare-requires-2
+    add-keep-3
+    keep-requires-3
+    add-keep-4
+    keep-requires-4
     add-convert
     convert-requires
     add-convert-2
     convert-requires-2
     add-convert-3
     convert-requires-3
-    add-keep-3
-    keep-requires-3
-    add-keep-4
-    keep-requires-4
+    add-push-type
+    push-type-requires
+    add-delete
+    delete-requires
     same-length
     returns
     same-length-2

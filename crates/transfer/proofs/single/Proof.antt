@@ -1,3 +1,4 @@
+-- The proof of `transfer::single`.
 use Rattle.rules.specs.declared.Instruction.the-variants.{One, Two, Tload, Tstore}
 use Rattle.rules.specs.declared.Binary.the-variants.{Swap, Arith}
 use Rattle.rules.specs.declared.Operator.the-variants.{Add, Sub, Mul, Imul, Div, Idiv, Mod, Imod}
@@ -6,7 +7,7 @@ use mathlib.Core.List.{[], _∷_}
 use mathlib.Core.Path.{refl}
 use Rattle.keys.proofs.Chain.{outside-both}
 use Rattle.keys.specs.Keys.{each}
-use Rattle.transfer.specs.Transfers.{wides}
+use Rattle.transfer.specs.Transfers.{firsts}
 use Rattle.transfer.proofs.Matches.{moves}
 use borrow.Author.Needs.{needs}
 use Rattle.transfer.proofs.single.Statement.{statement}
@@ -91,7 +92,7 @@ arith-requires-8 : tie.Need-arith-requires-8
 arith-requires-8 c κs = search needs
 
 other-requires : tie.Need-other-requires
-other-requires c κs = ((((c .before .before .before .pre) .0 .0), outside-both _ (each (18 ∷ 17 ∷ 16 ∷ 15 ∷ 14 ∷ 13 ∷ 12 ∷ 11 ∷ 10 ∷ 9 ∷ 8 ∷ 7 ∷ 2 ∷ [])) wides ((c .before .match) .rest) ((c .before .before .before .pre) .0 .1), (c .before .before .before .pre) .0 .2), (c .before .before .before .pre) .1)
+other-requires c κs = ((((c .before .before .before .pre) .0 .0), outside-both _ (each (18 ∷ 17 ∷ 16 ∷ 15 ∷ 14 ∷ 13 ∷ 12 ∷ 11 ∷ 10 ∷ 9 ∷ 8 ∷ 7 ∷ 2 ∷ [])) firsts ((c .before .match) .rest) ((c .before .before .before .pre) .0 .1), (c .before .before .before .pre) .0 .2), (c .before .before .before .pre) .1)
 
 same-length : tie.Need-same-length
 same-length c = search needs

@@ -1,8 +1,8 @@
-use native.Mathlib.Omega.{arith}
+-- The proof of `records::operands::compare`.
+use Rattle.records.proofs.OperandLaws.{two-few, cmp-apart, cmp-falls}
 use Rattle.rules.specs.declared.Binary.the-variants.{Cmp}
-use mathlib.Core.Path.{refl}
-use Rattle.records.specs.Laws.{top-type, type-most}
-use Rattle.records.proofs.OperandLaws.{two-few, two-differ, two-cmp}
+use borrow.Author.Tests.{not-true, not-false}
+use mathlib.Core.Path.{refl, sym, _∙_}
 use borrow.Author.Needs.{needs}
 use Rattle.records.proofs.operands.compare.Statement.{statement}
 use Rattle.records.proofs.operands.compare.Tie as tie
@@ -14,22 +14,25 @@ wide-requires : tie.Need-wide-requires
 wide-requires c κs = search needs
 
 returns : tie.Need-returns
-returns c = λ s. two-few _ _ ((c .before .before .before .before .pre)) ((c .before .wide) .ensures .0) (Cmp s) _ ((c .if1) .taken)
+returns c = λ s m b e. two-few _ _ ((c .before .before .before .before .pre)) ((c .before .wide) .ensures .0) (Cmp s) _ ((c .if1) .taken) m b
 
-add-if2 : tie.Need-add-if2
-add-if2 c = search needs
+add-alike : tie.Need-add-alike
+add-alike c = search needs
 
-slice-read-if2 : tie.Need-slice-read-if2
-slice-read-if2 c = search needs
+slice-read-alike : tie.Need-slice-read-alike
+slice-read-alike c = search needs
 
-add-if2-2 : tie.Need-add-if2-2
-add-if2-2 c = search needs
+add-alike-2 : tie.Need-add-alike-2
+add-alike-2 c = search needs
 
-slice-read-if2-2 : tie.Need-slice-read-if2-2
-slice-read-if2-2 c = search needs
+slice-read-alike-2 : tie.Need-slice-read-alike-2
+slice-read-alike-2 c = search needs
+
+alike-requires : tie.Need-alike-requires
+alike-requires c κs = search needs
 
 returns-2 : tie.Need-returns-2
-returns-2 c = λ s. two-differ _ _ ((c .before .before .before .before .before .before .before .pre)) ((c .before .before .before .before .wide) .ensures .0) (Cmp s) _ ((c .before .before .before .if1) .left) ((c .if2) .taken)
+returns-2 c = λ s. cmp-apart _ _ ((c .before .before .before .before .before .before .before .before .pre)) ((c .before .before .before .before .before .wide) .ensures .0) (Cmp s) _ ((c .before .before .before .before .if1) .left) _ s refl (sym ((c .before .alike) .ensures) ∙ not-true _ ((c .if2) .taken))
 
 pop-requires : tie.Need-pop-requires
 pop-requires c κs = search needs
@@ -41,7 +44,7 @@ same-length : tie.Need-same-length
 same-length c = search needs
 
 returns-3 : tie.Need-returns-3
-returns-3 c = λ s. two-cmp _ _ ((c .before .before .before .before .before .before .before .before .before .before .before .before .before .before .before .pre)) ((c .before .before .before .before .before .before .before .before .before .before .before .before .wide) .ensures .0) (Cmp s) _ ((c .before .before .before .before .before .before .before .before .before .before .before .if1) .left) ((c .before .before .before .before .before .before .before .before .if2) .left) 134 refl (type-most _ (top-type _ _ ((c .before .before .before .before .before .before .before .before .before .before .before .before .wide) .ensures .0) ((c .before .before .before .before .before .before .before .before .before .before .before .before .before .before .before .pre)) (omega (arith, (c .before .before .before .before .before .before .before .before .before .before .before .if1) .left)))) s refl _ _ ((c .before .before .before .before .before .before .pop) .ensures) ((c .before .before .retype) .ensures)
+returns-3 c = λ s. cmp-falls _ _ ((c .before .before .before .before .before .before .before .before .before .before .before .before .before .before .before .before .pre)) ((c .before .before .before .before .before .before .before .before .before .before .before .before .before .wide) .ensures .0) (Cmp s) _ ((c .before .before .before .before .before .before .before .before .before .before .before .before .if1) .left) _ s refl (sym ((c .before .before .before .before .before .before .before .before .before .alike) .ensures) ∙ not-false _ ((c .before .before .before .before .before .before .before .before .if2) .left)) _ _ ((c .before .before .before .before .before .before .pop) .ensures) ((c .before .before .retype) .ensures)
 
 pub compare-spec : {M : Type 1} → statement M
 compare-spec =
@@ -50,10 +53,11 @@ compare-spec =
     slice-read-wide
     wide-requires
     returns
-    add-if2
-    slice-read-if2
-    add-if2-2
-    slice-read-if2-2
+    add-alike
+    slice-read-alike
+    add-alike-2
+    slice-read-alike-2
+    alike-requires
     returns-2
     pop-requires
     retype-requires

@@ -1,3 +1,4 @@
+-- The proof of `records::operands::convert`.
 use mathlib.Core.Path.{refl}
 use Rattle.rules.specs.declared.Unary.the-variants.{Convert}
 use Rattle.records.proofs.OperandLaws.{one-empty, one-refused, one-convert}
@@ -30,7 +31,7 @@ same-length : tie.Need-same-length
 same-length c = search needs
 
 returns-3 : tie.Need-returns-3
-returns-3 c = λ τ e. one-convert _ _ ((c .before .before .before .before .before .before .before .before .before .before .pre) .0) ((c .before .before .before .before .before .before .before .wide) .ensures .0) (Convert τ) _ ((c .before .before .before .before .before .before .if1) .left) _ refl ((c .before .before .before .before .if2) .left) τ _ refl e _ ((c .before .before .retype) .ensures)
+returns-3 c = λ τ e. one-convert _ _ ((c .before .before .before .before .before .before .before .before .before .before .pre) .0) ((c .before .before .before .before .before .before .before .wide) .ensures .0) (Convert τ) _ ((c .before .before .before .before .before .before .if1) .left) ((c .before .before .before .before .if2) .left) τ _ refl e _ ((c .before .before .retype) .ensures)
 
 pub convert-spec : {M : Type 1} → statement M
 convert-spec =

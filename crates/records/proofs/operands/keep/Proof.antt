@@ -1,4 +1,6 @@
-use Rattle.records.proofs.OperandLaws.{one-empty, one-refused, one-keeps}
+-- The proof of `records::operands::keep`.
+use Rattle.rules.specs.Operations.{class1}
+use Rattle.records.proofs.OperandLaws.{greatest-takes, one-empty, one-refused, one-keeps}
 use borrow.Author.Needs.{needs}
 use Rattle.records.proofs.operands.keep.Statement.{statement}
 use Rattle.records.proofs.operands.keep.Tie as tie
@@ -22,7 +24,7 @@ returns-2 : tie.Need-returns-2
 returns-2 c = λ o e k. one-refused _ _ ((c .before .before .before .before .before .before .pre)) ((c .before .before .before .wide) .ensures .0) o _ ((c .before .before .if1) .left) _ e ((c .if2) .taken)
 
 returns-3 : tie.Need-returns-3
-returns-3 c = λ o e k. one-keeps _ _ ((c .before .before .before .before .before .before .pre)) ((c .before .before .before .wide) .ensures .0) o _ ((c .before .before .if1) .left) _ e ((c .if2) .left) k
+returns-3 c = λ o e k. one-keeps _ _ ((c .before .before .before .before .before .before .pre)) ((c .before .before .before .wide) .ensures .0) o _ ((c .before .before .if1) .left) (greatest-takes (class1 o) _ _ e ((c .if2) .left)) k
 
 pub keep-spec : {M : Type 1} → statement M
 keep-spec =

@@ -1,6 +1,6 @@
+-- The proof of `records::operands::pop`.
 use Rattle.rules.specs.declared.Unary.the-variants.{Pop}
 use mathlib.Core.Path.{refl}
-use Rattle.records.specs.Laws.{top-type, type-most}
 use Rattle.records.proofs.OperandLaws.{one-empty, one-pop}
 use borrow.Author.Needs.{needs}
 use Rattle.records.proofs.operands.pop.Statement.{statement}
@@ -19,7 +19,7 @@ same-length : tie.Need-same-length
 same-length c = search needs
 
 returns-2 : tie.Need-returns-2
-returns-2 c = one-pop _ _ ((c .before .before .before .before .before .before .before .pre)) refl Pop _ ((c .before .before .before .before .if1) .left) 134 refl (type-most _ (top-type _ _ refl ((c .before .before .before .before .before .before .before .pre)) ((c .before .before .before .before .if1) .left))) refl _ ((c .before .before .pop) .ensures)
+returns-2 c = one-pop _ _ ((c .before .before .before .before .before .before .before .pre)) refl Pop _ ((c .before .before .before .before .if1) .left) tt refl _ ((c .before .before .pop) .ensures)
 
 pub pop-spec : {M : Type 1} → statement M
 pop-spec = tie.close (tie.spec slice-read-if1 returns pop-requires same-length returns-2)

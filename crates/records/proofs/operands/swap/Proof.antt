@@ -1,7 +1,6 @@
-use native.Mathlib.Omega.{arith}
+-- The proof of `records::operands::swap`.
 use Rattle.rules.specs.declared.Binary.the-variants.{Swap}
 use mathlib.Core.Path.{refl}
-use Rattle.records.specs.Laws.{top-type, type-most}
 use Rattle.records.proofs.OperandLaws.{two-few, two-differ, two-swap}
 use borrow.Author.Needs.{needs}
 use Rattle.records.proofs.operands.swap.Statement.{statement}
@@ -29,10 +28,10 @@ slice-read-if2-2 : tie.Need-slice-read-if2-2
 slice-read-if2-2 c = search needs
 
 returns-2 : tie.Need-returns-2
-returns-2 c = two-differ _ _ ((c .before .before .before .before .before .before .before .pre)) ((c .before .before .before .before .wide) .ensures .0) Swap _ ((c .before .before .before .if1) .left) ((c .if2) .taken)
+returns-2 c = two-differ _ _ ((c .before .before .before .before .before .before .before .pre)) ((c .before .before .before .before .wide) .ensures .0) Swap _ ((c .before .before .before .if1) .left) (λ e t u. refl) ((c .if2) .taken)
 
 returns-3 : tie.Need-returns-3
-returns-3 c = two-swap _ _ ((c .before .before .before .before .before .before .before .pre)) ((c .before .before .before .before .wide) .ensures .0) Swap _ ((c .before .before .before .if1) .left) ((c .if2) .left) 134 refl (type-most _ (top-type _ _ ((c .before .before .before .before .wide) .ensures .0) ((c .before .before .before .before .before .before .before .pre)) (omega (arith, (c .before .before .before .if1) .left)))) refl
+returns-3 c = two-swap _ _ ((c .before .before .before .before .before .before .before .pre)) ((c .before .before .before .before .wide) .ensures .0) Swap _ ((c .before .before .before .if1) .left) (λ e t u. refl) ((c .if2) .left) tt refl
 
 pub swap-spec : {M : Type 1} → statement M
 swap-spec =
