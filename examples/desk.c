@@ -49,7 +49,7 @@ static int keep(const char *name, size_t length)
 /* Puts a value into an int constant of a module that was checked. */
 static int change(uint32_t constant, uint32_t value)
 {
-    size_t at = LIMPETSKEIN_HEADER + LIMPETSKEIN_CONSTANT * (size_t)constant;
+    size_t at = word(12) + LIMPETSKEIN_CONSTANT * (size_t)constant;
     if (constant >= word(8) || word(at) != LIMPETSKEIN_INT)
         return 0;
     for (int i = 0; i < 4; i++)
@@ -57,15 +57,16 @@ static int change(uint32_t constant, uint32_t value)
     return 1;
 }
 
-/* Writes the module, in its own edition, from its four sections, which the header counts. */
+/* Writes the module, in its own edition, from its sections, which the header counts; only edition 4 has structures. */
 static uint32_t write_module(uint64_t *length)
 {
     size_t constants = LIMPETSKEIN_CONSTANT * word(8);
     size_t functions = LIMPETSKEIN_FUNCTION * word(16);
     size_t labels = LIMPETSKEIN_LABEL * word(24);
-    const uint8_t *at = module + LIMPETSKEIN_HEADER;
+    size_t structures = word(0) == 4 ? LIMPETSKEIN_STRUCTURE * word(48) : 0;
+    const uint8_t *at = module + word(12), *code = at + constants + functions + labels;
     return limpetskein_write(word(0), at, constants, at + constants, functions, at + constants + functions, labels,
-                             at + constants + functions + labels, word(32), word(40), saved, sizeof saved, length);
+                             code + word(32), structures, code, word(32), word(40), saved, sizeof saved, length);
 }
 
 int main(int argc, char **argv)

@@ -49,15 +49,25 @@ static uint32_t run_pixel(size_t length, const uint32_t channels[CHANNELS], uint
 {
     static const uint8_t arg_types[CHANNELS] = {LIMPETSKEIN_INT, LIMPETSKEIN_INT, LIMPETSKEIN_INT};
     uint8_t arg_payloads[8 * CHANNELS];
-    uint64_t steps = 0, height = 0;
     for (int i = 0; i < CHANNELS; i++)
         put_int(arg_payloads + 8 * i, channels[i]);
-    uint32_t answer = limpetskein_run(module, length, 0, arg_types, sizeof arg_types, arg_payloads, sizeof arg_payloads,
-                                      LIMPETSKEIN_FORMULA_ALLOWANCE, payloads, sizeof payloads, types, sizeof types,
-                                      &steps, &height);
+    struct limpetskein_call call = {
+        .module = module,
+        .module_len = length,
+        .arg_types = arg_types,
+        .arg_types_len = sizeof arg_types,
+        .arg_payloads = arg_payloads,
+        .arg_payloads_len = sizeof arg_payloads,
+        .allowance = LIMPETSKEIN_FORMULA_ALLOWANCE,
+        .payloads = payloads,
+        .payloads_len = sizeof payloads,
+        .types = types,
+        .types_len = sizeof types,
+    };
+    uint32_t answer = limpetskein_call_run(&call);
     if (answer != LIMPETSKEIN_DONE)
         return answer;
-    if (height != 1 || types[0] != LIMPETSKEIN_INT)
+    if (call.height != 1 || types[0] != LIMPETSKEIN_INT)
         return FAILED;
     *value = get_int(payloads);
     return LIMPETSKEIN_DONE;

@@ -4,19 +4,21 @@
  *     host MODULE PIXEL...
  *
  * Function 0 takes three ints, a pixel, a black point and a gain, and returns an int, as samples/parameters.lsk
- * does. The host prints the row that comes out; or it stops with the number, which is also its exit status.
+ * does. A recipe of edition 4 finds a heap of 64 cells, for a curve as a structure say. The host prints the row that comes out; or it stops with the number, which is also its exit status.
  */
 #include <stdio.h>
 #include <stdlib.h>
 
 #include "limpetskein.h"
 
-enum { PARAMETERS = 3, SLOTS = 64, ALLOWANCE = 10000, BLACK = 16, GAIN = 2, FAILED = 1000 };
+enum { PARAMETERS = 3, SLOTS = 64, CELLS = 64, ALLOWANCE = 10000, BLACK = 16, GAIN = 2, FAILED = 1000 };
 
 static uint8_t module[LIMPETSKEIN_LONGEST_MODULE + 1];
 static uint8_t room[LIMPETSKEIN_MOST_LABELS * LIMPETSKEIN_ROOM_PER_LABEL];
 static uint8_t payloads[8 * SLOTS];
 static uint8_t types[SLOTS];
+static uint8_t heap[LIMPETSKEIN_CELL * CELLS];
+static uint8_t blocks[LIMPETSKEIN_BLOCK * CELLS];
 
 static void put_int(uint8_t *payload, uint32_t value)
 {
@@ -49,15 +51,31 @@ static uint32_t run_pixel(size_t length, uint32_t pixel, uint32_t *value)
 {
     static const uint8_t arg_types[PARAMETERS] = {LIMPETSKEIN_INT, LIMPETSKEIN_INT, LIMPETSKEIN_INT};
     uint8_t arg_payloads[8 * PARAMETERS];
-    uint64_t steps = 0, height = 0;
     put_int(arg_payloads, pixel);
     put_int(arg_payloads + 8, BLACK);
     put_int(arg_payloads + 16, GAIN);
-    uint32_t answer = limpetskein_run(module, length, 0, arg_types, sizeof arg_types, arg_payloads, sizeof arg_payloads,
-                                      ALLOWANCE, payloads, sizeof payloads, types, sizeof types, &steps, &height);
+    struct limpetskein_call call = {
+        .module = module,
+        .module_len = length,
+        .function = 0,
+        .arg_types = arg_types,
+        .arg_types_len = sizeof arg_types,
+        .arg_payloads = arg_payloads,
+        .arg_payloads_len = sizeof arg_payloads,
+        .allowance = ALLOWANCE,
+        .payloads = payloads,
+        .payloads_len = sizeof payloads,
+        .types = types,
+        .types_len = sizeof types,
+        .heap = heap,
+        .heap_len = sizeof heap,
+        .blocks = blocks,
+        .blocks_len = sizeof blocks,
+    };
+    uint32_t answer = limpetskein_call_run(&call);
     if (answer != LIMPETSKEIN_DONE)
         return answer;
-    if (height != 1 || types[0] != LIMPETSKEIN_INT)
+    if (call.height != 1 || types[0] != LIMPETSKEIN_INT)
         return FAILED;
     *value = get_int(payloads);
     return LIMPETSKEIN_DONE;

@@ -32,19 +32,30 @@ extern "C" {
 #define LIMPETSKEIN_ENTRY 0xFFFFFFFFu
 
 /* Limits of the format. */
-#define LIMPETSKEIN_LONGEST_MODULE 33328 /* bytes */
+#define LIMPETSKEIN_LONGEST_MODULE 33528 /* bytes */
 #define LIMPETSKEIN_MOST_CONSTANTS 1024
 #define LIMPETSKEIN_MOST_FUNCTIONS 128
 #define LIMPETSKEIN_MOST_LABELS 256
+#define LIMPETSKEIN_MOST_STRUCTURES 16 /* of edition 4; the others have none */
 #define LIMPETSKEIN_MOST_CODE 16384 /* bytes */
 #define LIMPETSKEIN_ROOM_PER_LABEL 64 /* bytes of checking room */
 #define LIMPETSKEIN_MOST_SLOTS 4096   /* a larger lent stack is used up to here */
+#define LIMPETSKEIN_MOST_CELLS 4096   /* and a larger lent heap */
 
-/* Bytes of a module's header, and of a record of its tables. */
+/* Bytes of a module's header, in editions 1 and 3 and in edition 4, and of a record of its tables. */
 #define LIMPETSKEIN_HEADER 48
+#define LIMPETSKEIN_HEADER_4 56
 #define LIMPETSKEIN_CONSTANT 12
 #define LIMPETSKEIN_FUNCTION 20
 #define LIMPETSKEIN_LABEL 8
+#define LIMPETSKEIN_STRUCTURE 12
+
+/* Bytes of a heap's cell, and of the entry of a block. */
+#define LIMPETSKEIN_CELL 8
+#define LIMPETSKEIN_BLOCK 24
+
+/* The first structure's type number; the next ones follow. */
+#define LIMPETSKEIN_FIRST_STRUCTURE 10
 
 /* Limits of formula lines, and what serves every run of what they compile to. */
 #define LIMPETSKEIN_LONGEST_LINE 256     /* bytes */
@@ -56,21 +67,29 @@ extern "C" {
 #define LIMPETSKEIN_INT 3     /* 32 bits; the payload's upper four bytes are zero */
 #define LIMPETSKEIN_LONG 4    /* 64 bits */
 #define LIMPETSKEIN_DOUBLE 6  /* the bits of an IEEE 754 double */
-#define LIMPETSKEIN_POINTER 7 /* the number of a slot, from 0, the deepest */
+#define LIMPETSKEIN_POINTER 7 /* an address: see below */
+
+/*
+ * Addresses, the payloads of pointers. Below 65,536: the number of a slot, from 0, the deepest. LIMPETSKEIN_NULL: null.
+ * Else a block of the heap, by its serial times 65,536, plus 0 for the whole block or 1 + field for a structure's field.
+ */
+#define LIMPETSKEIN_NULL 0xFFFFFFFFFFFFFFFFull
 
 /* Answers. A call gives the first in number order that holds; of a formula line 16 comes last. */
 enum {
     LIMPETSKEIN_DONE = 0, /* check: accepted. run: finished. write and formula: written */
 
     /* The module can't be read: check and run. 2 and 4 to 9 also: these tables are no module: write. */
-    LIMPETSKEIN_TOO_SHORT = 1,     /* under 48 bytes */
-    LIMPETSKEIN_OTHER_EDITION = 2, /* the edition is neither 1 nor 3 */
+    LIMPETSKEIN_TOO_SHORT = 1,     /* under 48 bytes; under 56 in edition 4 */
+    LIMPETSKEIN_OTHER_EDITION = 2, /* the edition is none of 1, 3 and 4 */
     LIMPETSKEIN_OTHER_LENGTH = 3,  /* the total length word differs from the lent length */
-    LIMPETSKEIN_OVER_LIMIT = 4,    /* a count or the code length is over its limit, or word 44 is not zero */
+    LIMPETSKEIN_OVER_LIMIT = 4,    /* a count or the code length is over its limit, or word 44 is not zero; write: a
+                                      structure for edition 1 or 3 */
     LIMPETSKEIN_NOT_PACKED = 5,    /* an offset, the sections' sum, or an entry longer than the code; write: part
                                       of a record at a table's end */
-    LIMPETSKEIN_BAD_CONSTANT = 6,  /* a constant of another type, or an int with upper bytes set */
-    LIMPETSKEIN_BAD_FUNCTION = 7,  /* a bad function record, or bodies that don't fill the code */
+    LIMPETSKEIN_BAD_CONSTANT = 6,  /* a constant of another type, an int with upper bytes set, or a bad structure */
+    LIMPETSKEIN_BAD_FUNCTION = 7,  /* a bad function record, an undeclared structure in one, or bodies that don't
+                                      fill the code */
     LIMPETSKEIN_BAD_CODE = 8,      /* an unknown opcode, or an instruction crossing its body's end */
     LIMPETSKEIN_BAD_LABEL = 9,     /* a label with no such owner, or not on an instruction start of it */
 
@@ -86,7 +105,8 @@ enum {
     /* Write and formula. */
     LIMPETSKEIN_OUTPUT_TOO_SHORT = 16, /* tables or line are a module's, and the output is shorter than it */
 
-    /* Run only: it stopped. Of an accepted module only 0, 15, 20, 24 and 35 come from a run that started. */
+    /* Run only: it stopped. Of an accepted module only 0, 15, 20, 24 and 35, and in edition 4 also 33 and 36, come from
+       a run that started. */
     LIMPETSKEIN_ALLOWANCE_USED_UP = 15,
     LIMPETSKEIN_STACK_OVERFLOW = 20, /* no free slot, a 65th frame, or arguments that don't fit */
     LIMPETSKEIN_STACK_EMPTY = 21,
@@ -101,9 +121,14 @@ enum {
     LIMPETSKEIN_FUNCTION_TOPOFCALLSTACK = 30,
     LIMPETSKEIN_POINTER_NOTPOINTER = 31,
     LIMPETSKEIN_POINTER_INVALIDFORPOINTER = 32,
-    LIMPETSKEIN_POINTER_UNKNOWNADDRESS = 33,
+    LIMPETSKEIN_POINTER_UNKNOWNADDRESS = 33, /* no slot in use, no live block, no field of it; delete: not what new gave */
     LIMPETSKEIN_DOUBLE_INVALIDFORDOUBLE = 34,
     LIMPETSKEIN_DOUBLE_UNORDERED = 35, /* cmp or icmp of two doubles, one of them a NaN */
+    LIMPETSKEIN_POINTER_NULLPOINTER = 36,
+    LIMPETSKEIN_TYPE_OUTOFRANGE = 37,         /* new of a type that there is not */
+    LIMPETSKEIN_FIELD_OUTOFRANGE = 38,        /* flea of a field that the structure does not have */
+    LIMPETSKEIN_POINTER_NOTSTRUCTURE = 39,    /* flea of what is no structure */
+    LIMPETSKEIN_POINTER_WHOLESTRUCTURE = 50,  /* tload, tstore, inc or dec of a whole structure */
 
     /* Formula only. */
     LIMPETSKEIN_LINE_TOO_LONG = 40,    /* over 256 bytes, whatever they are */
@@ -122,14 +147,14 @@ enum {
  *   1 to 10  unchanged.
  *   11       the first 64 bytes per label are zero, the rest is unchanged.
  *   0        for label i, at 64 i: byte 0 is 1 if the label is reached, byte 1 the count of locals, byte 2 of
- *            operands; bytes 16 to 31 the local types, 32 to 63 the operand types, deepest first (3, 4, 6, or
- *            83, 84, 86 hex for a pointer to one); zeros elsewhere, and all zero if not reached. The rest is
- *            unchanged.
+ *            operands; bytes 16 to 31 the local types, 32 to 63 the operand types, deepest first (3, 4, 6; hex 83,
+ *            84, 86 for a pointer to one, 8A to 99 for one to structure 10 to 25, 80 for null); zeros elsewhere, and
+ *            all zero if not reached. The rest is unchanged.
  */
 uint32_t limpetskein_check(const uint8_t *module, size_t module_len, uint8_t *room, size_t room_len, uint32_t *body);
 
 /*
- * Runs a body of a module, checked or not: 0 to 9, 12, 13, 15, 20 to 35.
+ * Runs a body of a module, checked or not: 0 to 9, 12, 13, 15, 20 to 39, 50.
  *
  *   function      its number, or LIMPETSKEIN_ENTRY.
  *   arg_types     a type byte for each argument, parameter 0 first.
@@ -137,36 +162,88 @@ uint32_t limpetskein_check(const uint8_t *module, size_t module_len, uint8_t *ro
  *   allowance     the most steps that it may count.
  *   payloads      8 bytes a slot. types: a byte a slot. The capacity is the smaller number of whole slots,
  *                 at most LIMPETSKEIN_MOST_SLOTS.
- *   *steps        the instructions counted; *height: the slots in use at the end. Both are written with 0, 15
- *                 and 20 to 35 only.
+ *   heap          8 bytes a cell. blocks: 24 bytes an entry. The heap's capacity is the smaller number of whole cells
+ *                 and entries, at most LIMPETSKEIN_MOST_CELLS. Where none is lent, new gives null.
+ *   *steps        the instructions counted; *height: the slots in use at the end. Both are written with 0, 15,
+ *                 20 to 39 and 50 only.
  *
  * The slots after the call:
- *   1 to 9, 12, 13   unchanged.
- *   0, 15, 20 to 35  slots 0 to the height, deepest first, as the run left them; from the height to the capacity
- *                    zero; payload and type bytes past the capacity unchanged. What the slots held before does
- *                    not matter: a run starts empty, or with its arguments.
+ *   1 to 9, 12, 13       unchanged.
+ *   0, 15, 20 to 39, 50  slots 0 to the height, deepest first, as the run left them; from the height to the capacity
+ *                        zero; payload and type bytes past the capacity unchanged. What the slots held before does
+ *                        not matter: a run starts empty, or with its arguments.
+ *
+ * The heap after the call:
+ *   1 to 9, 12, 13       unchanged.
+ *   0, 15, 20 to 39, 50  the entries list the live blocks by serial (serial, first cell, type number, 8 bytes each) and
+ *                        are zero after these; the cells of a live block hold its fields' payloads, an int's upper four
+ *                        bytes zero, and all other cells are zero; what lies past the capacity is unchanged. So it is in
+ *                        every edition. What the heap held before does not matter: a run starts without blocks, and what
+ *                        it leaves is for the host to read. A later run frees it.
  *
  * A function that finished leaves the returned value alone in slot 0, height 1, or nothing, height 0.
  */
 uint32_t limpetskein_run(const uint8_t *module, size_t module_len, uint32_t function, const uint8_t *arg_types,
                          size_t arg_types_len, const uint8_t *arg_payloads, size_t arg_payloads_len,
                          uint64_t allowance, uint8_t *payloads, size_t payloads_len, uint8_t *types,
-                         size_t types_len, uint64_t *steps, uint64_t *height);
+                         size_t types_len, uint8_t *heap, size_t heap_len, uint8_t *blocks, size_t blocks_len,
+                         uint64_t *steps, uint64_t *height);
+
+/*
+ * The same call with named members, for a host that would rather not count twenty arguments:
+ *
+ *     struct limpetskein_call call = {.module = file, .module_len = length, .function = LIMPETSKEIN_ENTRY,
+ *                                     .allowance = 1000000, .payloads = payloads, .payloads_len = sizeof payloads,
+ *                                     .types = types, .types_len = sizeof types};
+ *     uint32_t number = limpetskein_call_run(&call);
+ *
+ * Members that are not named are 0: no arguments, no heap, function 0. steps and height are written as *steps and *height
+ * are; a refusal leaves them as they were.
+ */
+struct limpetskein_call {
+    const uint8_t *module;
+    size_t module_len;
+    uint32_t function;
+    const uint8_t *arg_types;
+    size_t arg_types_len;
+    const uint8_t *arg_payloads;
+    size_t arg_payloads_len;
+    uint64_t allowance;
+    uint8_t *payloads;
+    size_t payloads_len;
+    uint8_t *types;
+    size_t types_len;
+    uint8_t *heap;
+    size_t heap_len;
+    uint8_t *blocks;
+    size_t blocks_len;
+    uint64_t steps;
+    uint64_t height;
+};
+
+static inline uint32_t limpetskein_call_run(struct limpetskein_call *c) {
+    return limpetskein_run(c->module, c->module_len, c->function, c->arg_types, c->arg_types_len, c->arg_payloads,
+                           c->arg_payloads_len, c->allowance, c->payloads, c->payloads_len, c->types, c->types_len,
+                           c->heap, c->heap_len, c->blocks, c->blocks_len, &c->steps, &c->height);
+}
 
 /*
  * Writes the module of these tables: 0, 2, 4 to 9, 16.
  *
- *   edition       1 or 3: whose opcode numbers the code has. In edition 1 no parameter is a pointer.
+ *   edition       1, 3 or 4: whose opcode numbers the code has. In edition 1 no parameter is a pointer; only edition 4
+ *                 has structures.
  *   constants     12 bytes each: type word (3, 4, 6), 8-byte payload.
  *   functions     20 bytes each: start, length, parameter count, return type, eight parameter types, two zeros.
  *   labels        8 bytes each: owner's function number, or LIMPETSKEIN_ENTRY; place in the code.
+ *   structures    12 bytes each: field count (1 to 8), eight field types (3, 4, 6, unused 0), three zeros.
  *   code          the entry's body, then the functions' in order, without gaps.
  *   entry_length  the bytes of the entry's body.
- *   *written      written with 0 only: the module's length, which is 48 and the lengths of the four tables.
+ *   *written      written with 0 only: the module's length, which is 48, or 56 in edition 4, and the lengths of the
+ *                 tables and the code.
  *
  * The tables are those of the module file. 2 and 4 to 9 are given exactly where a check or a run would refuse the
- * module of these tables with this number, and 5 where a table ends in part of a record; a table's count is that of
- * its whole records. No typing is asked: what the check refuses with 11 is written.
+ * module of these tables with this number, 5 where a table ends in part of a record, and 4 for a structure in another
+ * edition than 4; a table's count is that of its whole records. No typing is asked: what the check refuses with 11 is written.
  *
  * The output after the call:
  *   2, 4 to 9, 16  unchanged.
@@ -175,8 +252,8 @@ uint32_t limpetskein_run(const uint8_t *module, size_t module_len, uint32_t func
  */
 uint32_t limpetskein_write(uint32_t edition, const uint8_t *constants, size_t constants_len,
                            const uint8_t *functions, size_t functions_len, const uint8_t *labels, size_t labels_len,
-                           const uint8_t *code, size_t code_len, uint32_t entry_length, uint8_t *out, size_t out_len,
-                           uint64_t *written);
+                           const uint8_t *structures, size_t structures_len, const uint8_t *code, size_t code_len,
+                           uint32_t entry_length, uint8_t *out, size_t out_len, uint64_t *written);
 
 /*
  * Compiles a formula line, such as (r*3+g)/4, to a module: 0, 16, 40 to 43.

@@ -14,9 +14,10 @@ use Rattle.rules.specs.Tables.{bodyOf}
 use Rattle.rules.specs.ModuleFile.{read}
 use Rattle.rules.specs.Stack.{Lent, capacity, typeBytes, typesAfter}
 use Rattle.rules.specs.Machine.{Outcome}
+use Rattle.rules.specs.Heap.{LentHeap, heapCapacity}
 use Rattle.rules.specs.Answers.{check, runRefusal, arguments, answered, outcomeOf, Ran, ran, runModule, runWith}
 use Rattle.rules.specs.Host.{heightAfter}
-use Rattle.rules.specs.Program.{inputLimit, line3, slotLines, runLines, ranLines, checkedLines, programStack, printedRun, printed}
+use Rattle.rules.specs.Program.{inputLimit, line3, slotLines, runLines, ranLines, checkedLines, programStack, programHeap, printedRun, printed}
 use Rattle.limpet.specs.Text.{Adds, Fills, lentOf, tallyLines, acceptedLines}
 
 pub tally-fills : (out out₁ out₂ : List ℕ) (e r n : ℕ) (a : Tally) (p t : List ℕ) → Adds 63 out 0 (line3 n (a .steps) (a .height)) out₁ e
@@ -47,24 +48,24 @@ module _ (x : Lent) (enough : capacity x ≡ length (x .types)) where
       length-append (typeBytes st) (zeros (capacity x - length st) ++ drop (capacity x) (x .types)) in
       let b : length (typeBytes st) ≡ length st = length-types st in omega arith
 
-  pub height-fits : (s : List ℕ) (f : ℕ) (args : Lent) (n : ℕ) (a : RunAnswer) (x′ : Lent) → _≡_ {A = Ran} (record { answer = a; stack = x′ }) (runModule s f args n x)
+  pub height-fits : (s : List ℕ) (f : ℕ) (args : Lent) (n : ℕ) (y : LentHeap) (a : RunAnswer) (x′ : Lent) (y′ : LentHeap) → _≡_ {A = Ran} (record { answer = a; stack = x′; heap = y′ }) (runModule s f args n x y)
       → length (x′ .types) ≡ length (x .types) → heightAfter a 0 ≤ length (x .types)
   unfolding runModule
-  height-fits s f args n a x′ q l = go (runRefusal s f args) q
+  height-fits s f args n y a x′ y′ q l = go (runRefusal s f args) q
     where
       of : (k : ℕ) (t : Tally) → heightAfter (answered k t) 0 ≡ t .height
       of zero t = refl
       of (suc k) t = refl
 
-      go : (e : ℕ) → _≡_ {A = Ran} (record { answer = a; stack = x′ }) (runWith s f args n x e) → heightAfter a 0 ≤ length (x .types)
+      go : (e : ℕ) → _≡_ {A = Ran} (record { answer = a; stack = x′; heap = y′ }) (runWith s f args n x y e) → heightAfter a 0 ≤ length (x .types)
       go (suc e) w = let z : heightAfter a 0 ≡ 0 = ap (λ (r : Ran). heightAfter (r .answer) 0) w in omega arith
-      go zero w = ran-fits (outcomeOf (read s) (bodyOf f) (arguments args) n (capacity x)) w
+      go zero w = ran-fits (outcomeOf (read s) (bodyOf f) (arguments args) n (capacity x) (heapCapacity y)) w
         where
-          ran-fits : (o : Outcome) → _≡_ {A = Ran} (record { answer = a; stack = x′ }) (ran o x) → heightAfter a 0 ≤ length (x .types)
+          ran-fits : (o : Outcome) → _≡_ {A = Ran} (record { answer = a; stack = x′; heap = y′ }) (ran o x y) → heightAfter a 0 ≤ length (x .types)
           ran-fits o v =
               let z : heightAfter a 0 ≡ length (o .memory .stack) = ap (λ (r : Ran). heightAfter (r .answer) 0) v ∙ of (o .number) (record { steps = o .steps; height = length (o .memory .stack) }) in
-              let y : length (typesAfter (capacity x) (o .memory .stack) (x .types)) ≡ length (x .types) = sym (ap (λ (r : Ran). length (r .stack .types)) v) ∙ l in
-              let u : length (o .memory .stack) ≤ length (x .types) = fits-in (o .memory .stack) y in omega arith
+              let z′ : length (typesAfter (capacity x) (o .memory .stack) (x .types)) ≡ length (x .types) = sym (ap (λ (r : Ran). length (r .stack .types)) v) ∙ l in
+              let u : length (o .memory .stack) ≤ length (x .types) = fits-in (o .memory .stack) z′ in omega arith
 
 -- an array of n zeros is still n long when it comes back
 pub as-long : (n : ℕ) (l : List ℕ) → length l ≡ length (zeros n) → n ≤ length l
@@ -78,18 +79,19 @@ all-used : (p t : List ℕ) → length p ≡ 32768 → length t ≡ 4096 → cap
 all-used p t lp lt = rw (lp, lt) refl
 
 -- the program's own slots
-pub height-low : (s : List ℕ) (f : ℕ) (args : Lent) (n : ℕ) (a : RunAnswer) (p t : List ℕ)
-    → _≡_ {A = Ran} (record { answer = a; stack = lentOf p t }) (runModule s f args n programStack) → length t ≡ length (zeros 4096) → heightAfter a 0 ≤ 4096
-height-low s f args n a p t q l =
+pub height-low : (s : List ℕ) (f : ℕ) (args : Lent) (n : ℕ) (a : RunAnswer) (p t : List ℕ) (y′ : LentHeap)
+    → _≡_ {A = Ran} (record { answer = a; stack = lentOf p t; heap = y′ }) (runModule s f args n programStack programHeap) → length t ≡ length (zeros 4096) → heightAfter a 0 ≤ 4096
+height-low s f args n a p t y′ q l =
     let lp : length (zeros 32768) ≡ 32768 = length-replicate {A = ℕ} 32768 0 in
     let lt : length (zeros 4096) ≡ 4096 = length-replicate {A = ℕ} 4096 0 in
-    let h : heightAfter a 0 ≤ length (zeros 4096) = height-fits programStack (all-used (zeros 32768) (zeros 4096) lp lt) s f args n a (lentOf p t) q l in omega arith
+    let h : heightAfter a 0 ≤ length (zeros 4096) = height-fits programStack (all-used (zeros 32768) (zeros 4096) lp lt) s f args n programHeap a (lentOf p t) y′ q l in omega arith
 
 -- ---- the whole
 
-pub accepted-fills : (s : List ℕ) (f : ℕ) (args : Lent) (p t out : List ℕ) (r : ℕ) (a : RunAnswer) → _≡_ {A = Ran} (record { answer = a; stack = lentOf p t }) (runModule s f args 1000000 programStack)
+pub accepted-fills : (s : List ℕ) (f : ℕ) (args : Lent) (p t out : List ℕ) (r : ℕ) (a : RunAnswer) (y′ : LentHeap)
+    → _≡_ {A = Ran} (record { answer = a; stack = lentOf p t; heap = y′ }) (runModule s f args 1000000 programStack programHeap)
     → Fills (runLines a (lentOf p t)) out r → Fills (acceptedLines s f args) out r
-accepted-fills s f args p t out r a q x = subst (λ (z : Ran). Fills (ranLines z) out r) q x
+accepted-fills s f args p t out r a y′ q x = subst (λ (z : Ran). Fills (ranLines z) out r) q x
 
 -- the lines of an answer of the check whose case is known
 pub checked-fills : (s : List ℕ) (f : ℕ) (args : Lent) (out : List ℕ) (r : ℕ) (a b : CheckAnswer) → a ≡ check s (zeros 16384) .answer → a ≡ b

@@ -6,7 +6,7 @@ use lib.ListN.{length, take}
 use Rattle.rules.specs.declared.Tally.{Tally}
 use Rattle.rules.specs.Stack.{Lent}
 use Rattle.rules.specs.Answers.{runModule}
-use Rattle.rules.specs.Program.{line3, slotLines, programStack, ranLines}
+use Rattle.rules.specs.Program.{line3, slotLines, programStack, programHeap, ranLines}
 
 -- the buffer, up to r, is what it was up to `from`, and then the text, of at most `most` bytes
 pub record Adds (most : ℕ) (out : List ℕ) (from : ℕ) (text out′ : List ℕ) (r : ℕ) : Type 0 where
@@ -27,4 +27,4 @@ tallyLines n a p t = line3 n (a .steps) (a .height) ++ slotLines p t (a .height)
 
 -- the lines of the run of a body of an accepted module
 abbrev pub acceptedLines : List ℕ → ℕ → Lent → List ℕ
-acceptedLines s f args = ranLines (runModule s f args 1000000 programStack)
+acceptedLines s f args = ranLines (runModule s f args 1000000 programStack programHeap)

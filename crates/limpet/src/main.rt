@@ -25,7 +25,7 @@ fn put_out(bytes: &[u8]) {
 
 // Document 01's program.
 fn print_entry() {
-    let mut input = [0u8; 33329];
+    let mut input = [0u8; 33529];
     let n = io::read_full(libc::STDIN_FILENO, &mut input);
     let mut out = [0u8; 172095];
     let m = reports::report(&input[..n], &mut out);
@@ -57,7 +57,7 @@ fn lend_ints(count: usize, payloads: &mut [u8], types: &mut [u8]) -> bool
 
 // The run of a function of the module on standard input.
 fn print_run(function: u32, arg_payloads: &[u8], arg_types: &[u8]) {
-    let mut input = [0u8; 33329];
+    let mut input = [0u8; 33529];
     let n = io::read_full(libc::STDIN_FILENO, &mut input);
     let mut out = [0u8; 172095];
     let m = reports::run_report(&input[..n], function, arg_payloads, arg_types, &mut out);

@@ -49,7 +49,7 @@ fn run_text(answer: RunAnswer, p: &[u8], t: &[u8], out: &mut [u8]) -> usize
     }
 }
 
-// The run of a body of an accepted module on 4,096 slots.
+// The run of a body of an accepted module on 4,096 slots and 1,024 cells.
 fn accepted_text(
     file: &[u8],
     function: u32,
@@ -62,6 +62,8 @@ fn accepted_text(
 {
     let mut payloads = [0u8; 32768];
     let mut types = [0u8; 4096];
+    let mut heap = [0u8; 8192];
+    let mut blocks = [0u8; 24576];
     let answer = limpetskein::run(
         file,
         function,
@@ -70,6 +72,8 @@ fn accepted_text(
         ALLOWANCE,
         &mut payloads,
         &mut types,
+        &mut heap,
+        &mut blocks,
     );
     run_text(answer, &payloads, &types, out)
 }

@@ -17,6 +17,7 @@ use Rattle.rules.specs.Numbers.{no-typing}
 use Rattle.rules.specs.Tables.{firstOf, Body, bodyOf}
 use Rattle.rules.specs.ModuleFile.{refusal, labels, functions, read}
 use Rattle.rules.specs.Stack.{Lent, capacity}
+use Rattle.rules.specs.Heap.{LentHeap, heapCapacity}
 use Rattle.rules.specs.Machine.{Outcome, run}
 use Rattle.rules.specs.Check.{bodies, firstUntyped}
 use Rattle.rules.specs.Answers.{checkNumber, Checked, checked, judged, checkWith, check, runNumber, runRefusal, arguments, outcomeOf, answered, Ran, ran, runWith, runModule}
@@ -97,68 +98,69 @@ answered-value (suc n) t x′ old = record { taken-out = λ e. absurd (omega (ar
 abbrev HasValue : Ran → Type 0
 HasValue r = (old : ℕ) → ValueIs (r .answer) (runNumber (r .answer)) (heightAfter (r .answer) old) (r .stack)
 
-module _ (s : List ℕ) (f : ℕ) (args : Lent) (allowance : ℕ) (x : Lent) where
+module _ (s : List ℕ) (f : ℕ) (args : Lent) (allowance : ℕ) (x : Lent) (y : LentHeap) where
   -- what a run that starts leaves
   begun : runRefusal s f args ≡ 0 → length (arguments args) ≤ capacity x
-      → runModule s f args allowance x ≡ ran (run (read s) (capacity x) allowance 0 (firstState s f args)) x
+      → runModule s f args allowance x y ≡ ran (run (read s) (capacity x) allowance 0 (firstState s f args y)) x y
   unfolding runModule outcomeOf
   begun e l = rw e (rw (le-leb (length (arguments args)) (capacity x) l) refl)
 
-  with-value : (e : ℕ) → HasValue (runWith s f args allowance x e)
+  with-value : (e : ℕ) → HasValue (runWith s f args allowance x y e)
   with-value (suc e) old = record { taken-out = λ q. absurd (omega (arith, q)); stopped = λ h. refl }
-  with-value zero old = answered-value (outcomeOf (read s) (bodyOf f) (arguments args) allowance (capacity x) .number) _ _ old
+  with-value zero old = answered-value (outcomeOf (read s) (bodyOf f) (arguments args) allowance (capacity x) (heapCapacity y) .number) _ _ old
 
-  run-value : HasValue (runModule s f args allowance x)
+  run-value : HasValue (runModule s f args allowance x y)
   unfolding runModule
   run-value = with-value (runRefusal s f args)
 
-  pub run-keeps : (a : RunAnswer) (x′ : Lent) → _≡_ {A = Ran} (record { answer = a; stack = x′ }) (runModule s f args allowance x) → RunKeeps s f args allowance x a x′
-  run-keeps a x′ q =
+  pub run-keeps : (a : RunAnswer) (x′ : Lent) (y′ : LentHeap) → _≡_ {A = Ran} (record { answer = a; stack = x′; heap = y′ }) (runModule s f args allowance x y) → RunKeeps s f args allowance x y a x′ y′
+  run-keeps a x′ y′ q =
       record {
         same = q;
         value = subst HasValue (sym q) run-value;
         sound = record {
-          ends = λ room c e. subst (λ (r : Ran). End (runNumber (r .answer))) (sym q) (demand3 .ends s room c f args e allowance x);
-          kept = λ room c e. demand3 .kept s room c f args e (capacity x);
+          ends = λ room c e. subst (λ (r : Ran). End (read s .edition) (runNumber (r .answer))) (sym q) (demand3 .ends s room c f args e allowance x y);
+          kept = λ room c e l. demand3 .kept s room c f args e x y l;
         };
-        left = λ e l. (run (read s) (capacity x) allowance 0 (firstState s f args), demand3 .leaves (read s) (capacity x) (firstState s f args) allowance, q ∙ begun e l);
+        left = λ e l. (run (read s) (capacity x) allowance 0 (firstState s f args y), demand3 .leaves (read s) (capacity x) (firstState s f args y) allowance, q ∙ begun e l);
       }
 
   answered-ends : (o : Outcome) (n : ℕ) → n ≡ o .number → (steps height : ℕ)
-      → EndsAs o x (runNumber (answered n (record { steps = o .steps; height = length (o .memory .stack) }))) (ran o x .stack)
+      → EndsAs o x y (runNumber (answered n (record { steps = o .steps; height = length (o .memory .stack) }))) (ran o x y .stack) (ran o x y .heap)
       (stepsAfter (answered n (record { steps = o .steps; height = length (o .memory .stack) })) steps)
       (heightAfter (answered n (record { steps = o .steps; height = length (o .memory .stack) })) height)
-  answered-ends o zero e steps height = record { number-is = e; stack-is = refl; steps-is = refl; height-is = refl }
-  answered-ends o (suc n) e steps height = record { number-is = e; stack-is = refl; steps-is = refl; height-is = refl }
+  answered-ends o zero e steps height = record { number-is = e; stack-is = refl; heap-is = refl; steps-is = refl; height-is = refl }
+  answered-ends o (suc n) e steps height = record { number-is = e; stack-is = refl; heap-is = refl; steps-is = refl; height-is = refl }
 
-  ends-as : (o : Outcome) (a : RunAnswer) (x′ : Lent) → _≡_ {A = Ran} (record { answer = a; stack = x′ }) (ran o x)
+  ends-as : (o : Outcome) (a : RunAnswer) (x′ : Lent) (y′ : LentHeap) → _≡_ {A = Ran} (record { answer = a; stack = x′; heap = y′ }) (ran o x y)
       → (number steps steps′ height height′ : ℕ) → number ≡ runNumber a → steps′ ≡ stepsAfter a steps → height′ ≡ heightAfter a height
-      → EndsAs o x number x′ steps′ height′
-  ends-as o a x′ q number steps steps′ height height′ en es eh =
-      let z : EndsAs o x (runNumber a) x′ (stepsAfter a steps) (heightAfter a height) =
-      subst (λ (r : Ran). EndsAs o x (runNumber (r .answer)) (r .stack) (stepsAfter (r .answer) steps) (heightAfter (r .answer) height)) (sym q)
+      → EndsAs o x y number x′ y′ steps′ height′
+  ends-as o a x′ y′ q number steps steps′ height height′ en es eh =
+      let z : EndsAs o x y (runNumber a) x′ y′ (stepsAfter a steps) (heightAfter a height) =
+      subst (λ (r : Ran). EndsAs o x y (runNumber (r .answer)) (r .stack) (r .heap) (stepsAfter (r .answer) steps) (heightAfter (r .answer) height)) (sym q)
       (answered-ends o (o .number) refl steps height) in
-      record { number-is = en ∙ z .number-is; stack-is = z .stack-is; steps-is = es ∙ z .steps-is; height-is = eh ∙ z .height-is }
+      record { number-is = en ∙ z .number-is; stack-is = z .stack-is; heap-is = z .heap-is; steps-is = es ∙ z .steps-is; height-is = eh ∙ z .height-is }
 
-  pub host-run-keeps : (a : RunAnswer) (x′ : Lent) → RunKeeps s f args allowance x a x′
+  pub host-run-keeps : (a : RunAnswer) (x′ : Lent) (y′ : LentHeap) → RunKeeps s f args allowance x y a x′ y′
       → (number steps steps′ height height′ : ℕ) → number ≡ runNumber a → steps′ ≡ stepsAfter a steps → height′ ≡ heightAfter a height
-      → HostRunKeeps s f args allowance x steps height number x′ steps′ height′
-  host-run-keeps a x′ k number steps steps′ height height′ en es eh =
-      let ea : a ≡ runModule s f args allowance x .answer = ap (λ (r : Ran). r .answer) (k .same) in
+      → HostRunKeeps s f args allowance x y steps height number x′ y′ steps′ height′
+  host-run-keeps a x′ y′ k number steps steps′ height height′ en es eh =
+      let ea : a ≡ runModule s f args allowance x y .answer = ap (λ (r : Ran). r .answer) (k .same) in
       record {
         number-is = en ∙ ap runNumber ea;
         stack-is = ap (λ (r : Ran). r .stack) (k .same);
+        heap-is = ap (λ (r : Ran). r .heap) (k .same);
         steps-is = es ∙ ap (λ (z : RunAnswer). stepsAfter z steps) ea;
         height-is = eh ∙ ap (λ (z : RunAnswer). heightAfter z height) ea;
         value =
             subst (λ (z : RunAnswer). ValueIs z number height′ x′) ea
             (subst (λ (z : ℕ). ValueIs a z height′ x′) (sym en) (subst (λ (z : ℕ). ValueIs a (runNumber a) z x′) (sym eh) (k .value height)));
-        left = λ e l. let w = k .left e l in (w .0, w .1, ends-as (w .0) a x′ (w .2) number steps steps′ height height′ en es eh);
-        sound = subst (λ (z : ℕ). Sound s f args x z) (sym en) (k .sound);
+        left = λ e l. let w = k .left e l in (w .0, w .1, ends-as (w .0) a x′ y′ (w .2) number steps steps′ height height′ en es eh);
+        sound = subst (λ (z : ℕ). Sound s f args x y z) (sym en) (k .sound);
       }
 
-  pub host-run-finished : (a : RunAnswer) (x′ : Lent) → RunKeeps s f args allowance x a x′ → (t : Tally) → a ≡ Finished t → (steps height : ℕ)
-      → HostRunKeeps s f args allowance x steps height 0 x′ (t .steps) (t .height)
-  host-run-finished a x′ k t e steps height =
-      host-run-keeps a x′ k 0 steps (t .steps) height (t .height) (sym (ap runNumber e)) (sym (ap (λ (z : RunAnswer). stepsAfter z steps) e))
+  pub host-run-finished : (a : RunAnswer) (x′ : Lent) (y′ : LentHeap) → RunKeeps s f args allowance x y a x′ y′ → (t : Tally) → a ≡ Finished t → (steps height : ℕ)
+      → HostRunKeeps s f args allowance x y steps height 0 x′ y′ (t .steps) (t .height)
+  host-run-finished a x′ y′ k t e steps height =
+      host-run-keeps a x′ y′ k 0 steps (t .steps) height (t .height) (sym (ap runNumber e)) (sym (ap (λ (z : RunAnswer). stepsAfter z steps) e))
       (sym (ap (λ (z : RunAnswer). heightAfter z height) e))

@@ -6,6 +6,7 @@ use lib.ListN.{take}
 use Rattle.rules.specs.declared.WriteAnswer.{WriteAnswer}
 use Rattle.rules.specs.Numbers.{done}
 use Rattle.rules.specs.Stack.{Lent, capacity}
+use Rattle.rules.specs.Heap.{LentHeap}
 use Rattle.rules.specs.Writing.{writeNumber, wrote}
 use Rattle.rules.specs.Host.{writtenAfter}
 use Rattle.rules.specs.Demand3.{IsAccepted}
@@ -20,8 +21,8 @@ pub record Means (line : List ℕ) (number n : ℕ) (out′ : List ℕ) : Type 0
   -- "Every accepted line's module passes the checker"
   pub accepted : number ≡ done → (room : List ℕ) → IsAccepted (take n out′) room
   -- "run with allowance 257 and 35 slots, or more, it gives the reading's value in wrapping unsigned ints, or 24 where a quotient is by zero"
-  pub gives : number ≡ done → (r g b : ℕ) → r < 2 ^ 32 → g < 2 ^ 32 → b < 2 ^ 32 → (allowance : ℕ) (x : Lent) → 257 ≤ allowance → 35 ≤ capacity x
-      → Evaluates line (take n out′) r g b allowance x
+  pub gives : number ≡ done → (r g b : ℕ) → r < 2 ^ 32 → g < 2 ^ 32 → b < 2 ^ 32 → (allowance : ℕ) (x : Lent) (y : LentHeap) → 257 ≤ allowance → 35 ≤ capacity x
+      → Evaluates line (take n out′) r g b allowance x y
 
 pub record FormulaKeeps (line out : List ℕ) (a : WriteAnswer) (out′ : List ℕ) : Type 0 where
   -- answer and output are the definition's

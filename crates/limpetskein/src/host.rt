@@ -4,7 +4,7 @@ ghost use Rattle.rules.specs.Tables.{tables};
 ghost use Rattle.rules.specs.Answers.{checkNumber, runNumber};
 ghost use Rattle.rules.specs.Writing.{writeNumber};
 ghost use Rattle.rules.specs.Host.{bodyAfter, stepsAfter, heightAfter, writtenAfter};
-ghost use Rattle.limpetskein.specs.Promises.{lentOf, HostCheckKeeps, HostRunKeeps};
+ghost use Rattle.limpetskein.specs.Promises.{lentOf, lentHeapOf, HostCheckKeeps, HostRunKeeps};
 ghost use Rattle.limpetskein.specs.WritePromises.{HostWriteKeeps};
 ghost use Rattle.limpetskein.specs.FormulaPromises.{HostFormulaKeeps};
 use rules::CheckAnswer;
@@ -65,10 +65,12 @@ pub extern "C" fn limpetskein_run(
     allowance: u64,
     payloads: &mut [u8],
     types: &mut [u8],
+    heap: &mut [u8],
+    blocks: &mut [u8],
     steps: &mut u64,
     height: &mut u64,
 ) -> u32
-    ensures { λ r. ⌜ HostRunKeeps (now (file .entry)) function (lentOf (now («arg_payloads» .entry)) (now («arg_types» .entry))) allowance (lentOf (now (payloads .entry)) (now (types .entry))) (now (steps .entry)) (now (height .entry)) r (lentOf (now (payloads .exit)) (now (types .exit))) (now (steps .exit)) (now (height .exit)) ⌝ }
+    ensures { λ r. ⌜ HostRunKeeps (now (file .entry)) function (lentOf (now («arg_payloads» .entry)) (now («arg_types» .entry))) allowance (lentOf (now (payloads .entry)) (now (types .entry))) (lentHeapOf (now (heap .entry)) (now (blocks .entry))) (now (steps .entry)) (now (height .entry)) r (lentOf (now (payloads .exit)) (now (types .exit))) (lentHeapOf (now (heap .exit)) (now (blocks .exit))) (now (steps .exit)) (now (height .exit)) ⌝ }
 {
     let answer = crate::run(
         file,
@@ -78,6 +80,8 @@ pub extern "C" fn limpetskein_run(
         allowance,
         payloads,
         types,
+        heap,
+        blocks,
     );
     let RunAnswer::Finished(tally) = answer else {
         return stop(answer, steps, height);
@@ -107,18 +111,20 @@ pub extern "C" fn limpetskein_write(
     constants: &[u8],
     functions: &[u8],
     labels: &[u8],
+    structures: &[u8],
     code: &[u8],
     entry_length: u32,
     out: &mut [u8],
     written: &mut u64,
 ) -> u32
-    ensures { λ r. ⌜ HostWriteKeeps (tables edition (now (constants .entry)) (now (functions .entry)) (now (labels .entry)) (now (code .entry)) «entry_length») (now (out .entry)) (now (written .entry)) r (now (out .exit)) (now (written .exit)) ⌝ }
+    ensures { λ r. ⌜ HostWriteKeeps (tables edition (now (constants .entry)) (now (functions .entry)) (now (labels .entry)) (now (structures .entry)) (now (code .entry)) «entry_length») (now (out .entry)) (now (written .entry)) r (now (out .exit)) (now (written .exit)) ⌝ }
 {
     let answer = crate::write(
         edition as usize,
         constants,
         functions,
         labels,
+        structures,
         code,
         entry_length as usize,
         out,

@@ -1,6 +1,6 @@
 // The public library: the check of any bytes, the run of any body of any bytes, the writer of modules, and the compiler of formula lines.
 ghost use Rattle.rules.specs.Tables.{tables};
-ghost use Rattle.limpetskein.specs.Promises.{lentOf, CheckKeeps, RunKeeps};
+ghost use Rattle.limpetskein.specs.Promises.{lentOf, lentHeapOf, CheckKeeps, RunKeeps};
 ghost use Rattle.rules.specs.Grammar.{StopsAt};
 ghost use Rattle.limpetskein.specs.WritePromises.{WriteKeeps};
 ghost use Rattle.limpetskein.specs.FormulaPromises.{FormulaKeeps};
@@ -17,7 +17,7 @@ pub fn check(file: &[u8], room: &mut [u8]) -> CheckAnswer
     checker::check(file, room)
 }
 
-// The run of a body of any bytes on the lent arguments and slots. ffffffff names the entry.
+// The run of a body of any bytes on the lent arguments, slots and heap: cells, and entries of blocks. ffffffff names the entry.
 pub fn run(
     file: &[u8],
     function: u32,
@@ -26,8 +26,10 @@ pub fn run(
     allowance: u64,
     payloads: &mut [u8],
     types: &mut [u8],
+    heap: &mut [u8],
+    blocks: &mut [u8],
 ) -> RunAnswer
-    ensures { λ r. ⌜ RunKeeps (now (file .entry)) function (lentOf (now («arg_payloads» .entry)) (now («arg_types» .entry))) allowance (lentOf (now (payloads .entry)) (now (types .entry))) r (lentOf (now (payloads .exit)) (now (types .exit))) ⌝ }
+    ensures { λ r. ⌜ RunKeeps (now (file .entry)) function (lentOf (now («arg_payloads» .entry)) (now («arg_types» .entry))) allowance (lentOf (now (payloads .entry)) (now (types .entry))) (lentHeapOf (now (heap .entry)) (now (blocks .entry))) r (lentOf (now (payloads .exit)) (now (types .exit))) (lentHeapOf (now (heap .exit)) (now (blocks .exit))) ⌝ }
 {
     runs::run(
         file,
@@ -37,22 +39,34 @@ pub fn run(
         allowance,
         payloads,
         types,
+        heap,
+        blocks,
     )
 }
 
-// Writes the module of these tables, in edition 1 or 3, into the lent output, or refuses and changes nothing.
+// Writes the module of these tables, in edition 1, 3 or 4, into the lent output, or refuses and changes nothing.
 pub fn write(
     edition: usize,
     constants: &[u8],
     functions: &[u8],
     labels: &[u8],
+    structures: &[u8],
     code: &[u8],
     entry: usize,
     out: &mut [u8],
 ) -> WriteAnswer
-    ensures { λ r. ⌜ WriteKeeps (tables edition (now (constants .entry)) (now (functions .entry)) (now (labels .entry)) (now (code .entry)) entry) (now (out .entry)) r (now (out .exit)) ⌝ }
+    ensures { λ r. ⌜ WriteKeeps (tables edition (now (constants .entry)) (now (functions .entry)) (now (labels .entry)) (now (structures .entry)) (now (code .entry)) entry) (now (out .entry)) r (now (out .exit)) ⌝ }
 {
-    writer::write(edition, constants, functions, labels, code, entry, out)
+    writer::write(
+        edition,
+        constants,
+        functions,
+        labels,
+        structures,
+        code,
+        entry,
+        out,
+    )
 }
 
 // Compiles a formula line and writes its module into the lent output, or refuses and changes nothing.

@@ -1,8 +1,10 @@
--- The proof of `limpetskein::run`.
-use borrow.Author.Needs.{needs}
 use Rattle.limpetskein.proofs.Promised.{run-keeps}
+use borrow.Author.Needs.{needs}
 use Rattle.limpetskein.proofs.run.Statement.{statement}
 use Rattle.limpetskein.proofs.run.Tie as tie
+use Rattle.limpetskein.proofs.run.Reads as reads
+use Rattle.limpetskein.proofs.run.Lts as lts
+use Rattle.runs.proofs.run.Reads as run-reads
 
 run-requires : tie.Need-run-requires
 run-requires c κs = search needs
@@ -13,8 +15,15 @@ same-length c = search needs
 same-length-2 : tie.Need-same-length-2
 same-length-2 c = search needs
 
+same-length-3 : tie.Need-same-length-3
+same-length-3 c = search needs
+
+same-length-4 : tie.Need-same-length-4
+same-length-4 c = search needs
+
 returns : tie.Need-returns
-returns c = run-keeps _ _ _ _ _ _ _ (c .before .before .before .before .run .ensures)
+returns c = run-keeps _ _ _ _ _ _ _ _ _ ((c .before .before .before .before .before .before .before .before .run) .ensures)
 
 pub run-spec : {M : Type 1} → statement M
-run-spec = tie.close (tie.spec run-requires same-length same-length-2 returns)
+run-spec =
+    tie.close (tie.spec run-requires same-length same-length-2 same-length-3 same-length-4 returns)
