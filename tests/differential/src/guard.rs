@@ -12,6 +12,7 @@ static CALL: OnceLock<Call> = OnceLock::new();
 #[derive(Clone, Copy, Debug)]
 pub enum Call {
     Check,
+    Run,
     Write,
     Formula,
 }
@@ -73,6 +74,7 @@ fn report(what: &str) {
     let (call, cases, show) = match CALL.get() {
         Some(Call::Write) => ("write", "tables", "--write"),
         Some(Call::Formula) => ("formula", "line", "--formula"),
+        Some(Call::Run) => ("run", "module", "--case"),
         _ => ("check", "module", "--case"),
     };
     if case == HUGE {

@@ -26,6 +26,10 @@ extern "C" {
         payloads_len: usize,
         types: *mut u8,
         types_len: usize,
+        heap: *mut u8,
+        heap_len: usize,
+        blocks: *mut u8,
+        blocks_len: usize,
         steps: *mut u64,
         height: *mut u64,
     ) -> u32;
@@ -38,6 +42,8 @@ extern "C" {
         functions_len: usize,
         labels: *const u8,
         labels_len: usize,
+        structures: *const u8,
+        structures_len: usize,
         code: *const u8,
         code_len: usize,
         entry_length: u32,
@@ -84,6 +90,8 @@ impl Subject for Library {
         let arg_payloads = self.pointer(&mut memory.arg_payloads);
         let payloads = self.pointer(&mut memory.payloads);
         let types = self.pointer(&mut memory.types);
+        let heap = self.pointer(&mut memory.heap);
+        let blocks = self.pointer(&mut memory.blocks);
         // SAFETY: pointers and lengths are those of separate live buffers.
         unsafe {
             limpetskein_run(
@@ -99,6 +107,10 @@ impl Subject for Library {
                 memory.payloads.len(),
                 types,
                 memory.types.len(),
+                heap,
+                memory.heap.len(),
+                blocks,
+                memory.blocks.len(),
                 &raw mut memory.steps,
                 &raw mut memory.height,
             )
@@ -109,6 +121,7 @@ impl Subject for Library {
         let constants = self.pointer(&mut memory.constants);
         let functions = self.pointer(&mut memory.functions);
         let labels = self.pointer(&mut memory.labels);
+        let structures = self.pointer(&mut memory.structures);
         let code = self.pointer(&mut memory.code);
         let out = self.pointer(&mut memory.out);
         // SAFETY: pointers and lengths are those of separate live buffers.
@@ -121,6 +134,8 @@ impl Subject for Library {
                 memory.functions.len(),
                 labels,
                 memory.labels.len(),
+                structures,
+                memory.structures.len(),
                 code,
                 memory.code.len(),
                 memory.entry_length,
@@ -160,6 +175,10 @@ pub fn run_entry(module: *const u8, len: usize) -> u32 {
             payloads.len(),
             types.as_mut_ptr(),
             types.len(),
+            std::ptr::null_mut(),
+            0,
+            std::ptr::null_mut(),
+            0,
             &raw mut steps,
             &raw mut height,
         )

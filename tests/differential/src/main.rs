@@ -1,8 +1,8 @@
 //! Compares the library behind the C interface with the second program on generated cases:
-//! answers, out-parameters, all lent memory and the guard bytes around it. With `--checks`,
-//! only checks are compared, first with what is stated of them, then on generated cases; with
-//! `--writes`, writes in the same way; with `--formulas`, formula lines, and the check and the
-//! runs of what they are written as.
+//! answers, out-parameters, all lent memory and the guard bytes around it, first on what is stated
+//! of runs. With `--checks`, only checks are compared, first with what is stated of them, then on
+//! generated cases; with `--writes`, writes in the same way; with `--formulas`, formula lines, and
+//! the check and the runs of what they are written as.
 //!
 //! `differential [--checks | --writes | --formulas] [--edition N] [--seed N]
 //! [--seconds N | --cases N] [--from N] [--most N]`
@@ -13,10 +13,11 @@ mod guard;
 mod huge;
 mod library;
 mod rounds;
+mod runs;
 mod writes;
 
 use library::{limpetskein_check, Library};
-use rounds::{is_old, Comparison};
+use rounds::{edition_of, Comparison};
 use second::args;
 use second::compare::compare;
 use second::gen::case::Case;
@@ -46,19 +47,21 @@ fn main() {
             make: Case::without_runs,
             compare: checks::differs,
             describe,
-            old: |case: &Case| is_old(&case.module),
+            edition: |case: &Case| edition_of(&case.module),
         };
         rounds::run(&checks, before);
     } else {
         let run = huge::differs("run", library::run_entry);
+        let before = u64::from(check) + u64::from(run) + runs::huge_differ();
+        let before = before + runs::not_as_stated();
         let all = Comparison {
             subject: "library",
             make: Case::new,
             compare: differs,
             describe,
-            old: |case: &Case| is_old(&case.module),
+            edition: |case: &Case| edition_of(&case.module),
         };
-        rounds::run(&all, u64::from(check) + u64::from(run));
+        rounds::run(&all, before);
     }
 }
 
@@ -69,7 +72,7 @@ fn compare_writes() {
         make: WriteCase::new,
         compare: writes::differs,
         describe: |case: &WriteCase| (case.kind, case.describe()),
-        old: |case: &WriteCase| case.tables.edition == 1,
+        edition: |case: &WriteCase| edition_of(&case.tables.edition.to_le_bytes()),
     };
     rounds::run(&writes, before);
 }
@@ -81,7 +84,7 @@ fn compare_formulas() {
         make: LineCase::new,
         compare: formulas::differs,
         describe: |case: &LineCase| (case.kind, case.describe()),
-        old: |_| false,
+        edition: |_| 3,
     };
     rounds::run(&formulas, before);
 }

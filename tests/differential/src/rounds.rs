@@ -13,13 +13,17 @@ pub struct Comparison<C> {
     pub compare: fn(&C, bool) -> (usize, Option<String>),
     /// The case's generator, and its bytes in words.
     pub describe: fn(&C) -> (&'static str, String),
-    /// Is the case's edition word 1?
-    pub old: fn(&C) -> bool,
+    /// The case's edition: 1, 4, or else 3.
+    pub edition: fn(&C) -> u64,
 }
 
-/// Does the word of these bytes say edition 1?
-pub fn is_old(start: &[u8]) -> bool {
-    start.starts_with(&[1, 0, 0, 0])
+/// The edition that the word of these bytes says: 1, 4, or else 3.
+pub fn edition_of(start: &[u8]) -> u64 {
+    match start {
+        [1, 0, 0, 0, ..] => 1,
+        [4, 0, 0, 0, ..] => 4,
+        _ => 3,
+    }
 }
 
 /// Looks at the arguments, and names what crashes from here on.
@@ -39,15 +43,17 @@ pub fn start() {
         Call::Write
     } else if args::has("--formulas") {
         Call::Formula
-    } else {
+    } else if args::has("--checks") {
         Call::Check
+    } else {
+        Call::Run
     };
     guard::start(args::number("--seed", 1), call);
 }
 
 /// Compares cases until time is up or enough differences are printed, and ends the process
-/// with status 1 if there is one. `--edition 1` takes cases of edition 1 alone, `--edition 3` all
-/// others. `before`: differences found before the first case.
+/// with status 1 if there is one. `--edition 1` and `--edition 4` take cases of that edition alone,
+/// `--edition 3` all others. `before`: differences found before the first case.
 pub fn run<C>(comparison: &Comparison<C>, before: u64) {
     let seed = args::number("--seed", 1);
     let from = args::number("--from", 0);
@@ -69,7 +75,7 @@ pub fn run<C>(comparison: &Comparison<C>, before: u64) {
         guard::next(number);
         let case = (comparison.make)(seed, number);
         number += 1;
-        if edition != 0 && (edition == 1) != (comparison.old)(&case) {
+        if edition != 0 && edition != (comparison.edition)(&case) {
             continue;
         }
         compared += 1;

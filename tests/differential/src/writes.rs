@@ -52,9 +52,9 @@ pub fn differs(case: &WriteCase, null_if_empty: bool) -> (usize, Option<String>)
 /// a few, which is long enough.
 pub fn huge_differ() -> u64 {
     let over = 1usize << 32;
-    let own = [24, 0, 0, 11];
+    let own = [24, 0, 0, 11, 0];
     let answers = huge::lend(over + 100, |start| {
-        let longer = (0..4).map(|n| {
+        let longer = (0..5).map(|n| {
             let mut lengths = own;
             lengths[n] += over;
             write_w1(lengths, 100, start)
@@ -81,35 +81,50 @@ pub fn huge_differ() -> u64 {
 
 /// Writes W1 with tables and output of these lengths: answer and length. A table with its own
 /// length is lent as it is; what is longer is lent at `start`, and only one of all is.
-fn write_w1(lengths: [usize; 4], out_len: usize, start: *mut u8) -> (u32, u64) {
+fn write_w1(lengths: [usize; 5], out_len: usize, start: *mut u8) -> (u32, u64) {
     let w1 = Owned::cut(&hex::decode(W1).expect("hex digits"));
-    let tables = [&w1.constants, &w1.functions, &w1.labels, &w1.code];
-    let pointer = |n: usize| {
-        if lengths[n] == tables[n].len() {
-            tables[n].as_ptr()
-        } else {
-            start.cast_const()
+    let Owned {
+        constants,
+        functions,
+        labels,
+        structures,
+        code,
+        ..
+    } = &w1;
+    let mut lent = lengths.map(|len| (start.cast_const(), len));
+    let tables = [constants, functions, labels, code, structures];
+    for (lent, table) in lent.iter_mut().zip(tables) {
+        if lent.1 == table.len() {
+            lent.0 = table.as_ptr();
         }
-    };
+    }
     let mut short = [0u8; 100];
     let out = if out_len > short.len() {
         start
     } else {
         short.as_mut_ptr()
     };
+    write(&w1, lent, out, out_len)
+}
+
+/// The tables are constants, functions, labels, code, structures.
+fn write(w1: &Owned, tables: [(*const u8, usize); 5], out: *mut u8, out_len: usize) -> (u32, u64) {
+    let [constants, functions, labels, code, structures] = tables;
     let mut written = 0;
     // SAFETY: pointers and lengths are those of separate live buffers.
     let answer = unsafe {
         limpetskein_write(
             w1.edition,
-            pointer(0),
-            lengths[0],
-            pointer(1),
-            lengths[1],
-            pointer(2),
-            lengths[2],
-            pointer(3),
-            lengths[3],
+            constants.0,
+            constants.1,
+            functions.0,
+            functions.1,
+            labels.0,
+            labels.1,
+            structures.0,
+            structures.1,
+            code.0,
+            code.1,
             w1.entry_length,
             out,
             out_len,

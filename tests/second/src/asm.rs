@@ -2,10 +2,11 @@
 //!
 //! Statements are separated by semicolons or line ends, and end with a colon:
 //!
-//! * `edition 1`: the module is of this edition (first, else it is of edition 3);
+//! * `edition 1`, `edition 4`: the module is of this edition (first, else it is of edition 3);
+//! * `structure int, double`: the next structure, numbered from 10, with these fields;
 //! * `int 7`, `long -1`, `double 1.5`, `double #7FF0000000000001`: the next constant;
-//! * `entry:`, `function int (int, *long):` (return type `void`, `int`, `long`, `double`):
-//!   what follows is this body;
+//! * `entry:`, `function int (int, *long, *10):` (return type `void`, `int`, `long`, `double`, or
+//!   a pointer as `*10`): what follows is this body;
 //! * `@0`: label 0 is here (at the next instruction);
 //! * `push 0`, `add`, ...: instructions, operands in decimal.
 
@@ -54,8 +55,14 @@ impl Asm {
         if let Some(number) = word.strip_prefix('@') {
             self.label(number.parse().expect("label number"));
         } else if word == "edition" {
-            assert_eq!(rest.trim(), "1", "edition 1");
-            self.program.edition = Edition::One;
+            self.program.edition = match rest.trim() {
+                "1" => Edition::One,
+                "4" => Edition::Four,
+                _ => panic!("{text}"),
+            };
+        } else if word == "structure" {
+            let fields = rest.split(',').map(|field| type_byte(field.trim()));
+            self.program.structures.push(fields.collect());
         } else if word == "entry:" {
             assert!(self.program.functions.is_empty(), "the entry comes first");
         } else if word == "function" {
@@ -100,6 +107,17 @@ fn number_type(word: &str) -> Option<u8> {
     }
 }
 
+/// A type as in a signature: `int`, `*long`, `*10`.
+fn type_byte(word: &str) -> u8 {
+    match word.strip_prefix('*') {
+        Some(target) => {
+            let structure = || target.parse().expect("type");
+            POINTER_TO | number_type(target).unwrap_or_else(structure)
+        }
+        None => number_type(word).expect("type"),
+    }
+}
+
 /// `int (int, *long):`
 fn routine(text: &str) -> Routine {
     let (returns, rest) = text.split_once('(').expect("parameters");
@@ -108,14 +126,15 @@ fn routine(text: &str) -> Routine {
         .split(',')
         .map(str::trim)
         .filter(|word| !word.is_empty())
-        .map(|word| match word.strip_prefix('*') {
-            Some(target) => POINTER_TO | number_type(target).expect("type"),
-            None => number_type(word).expect("type"),
-        })
+        .map(type_byte)
         .collect();
+    let returns = match returns.trim() {
+        "void" => 0,
+        word => type_byte(word),
+    };
     Routine {
         parameters,
-        returns: number_type(returns.trim()).unwrap_or(0),
+        returns,
         code: Vec::new(),
     }
 }

@@ -100,13 +100,15 @@ pub fn compare_formulas(
 pub fn describe(run: &RunCall) -> String {
     format!(
         "function {:08X}, argument types {}, argument payloads {}, allowance {}, \
-         {} payload bytes, {} type bytes",
+         {} payload bytes, {} type bytes, {} heap bytes, {} block bytes",
         run.function,
         quoted(&run.arg_types),
         quoted(&run.arg_payloads),
         run.allowance,
         run.payloads.len(),
-        run.types.len()
+        run.types.len(),
+        run.heap.len(),
+        run.blocks.len()
     )
 }
 
@@ -124,7 +126,8 @@ pub fn check_difference(a: &CheckMemory, b: &CheckMemory) -> String {
     text + &slice_difference("room", &a.room, &b.room)
 }
 
-fn run_difference(a: &RunMemory, b: &RunMemory) -> String {
+/// How what was lent to two runs differs, in words.
+pub fn run_difference(a: &RunMemory, b: &RunMemory) -> String {
     let mut text = String::new();
     if a.steps != b.steps {
         text += &format!("; steps {} and {}", a.steps, b.steps);
@@ -136,7 +139,9 @@ fn run_difference(a: &RunMemory, b: &RunMemory) -> String {
     text += &slice_difference("argument types", &a.arg_types, &b.arg_types);
     text += &slice_difference("argument payloads", &a.arg_payloads, &b.arg_payloads);
     text += &slice_difference("payloads", &a.payloads, &b.payloads);
-    text + &slice_difference("types", &a.types, &b.types)
+    text += &slice_difference("types", &a.types, &b.types);
+    text += &slice_difference("heap", &a.heap, &b.heap);
+    text + &slice_difference("blocks", &a.blocks, &b.blocks)
 }
 
 /// How what was lent to two writes differs, in words.
@@ -148,6 +153,7 @@ pub fn write_difference(a: &WriteMemory, b: &WriteMemory) -> String {
     text += &slice_difference("constants", &a.constants, &b.constants);
     text += &slice_difference("functions", &a.functions, &b.functions);
     text += &slice_difference("labels", &a.labels, &b.labels);
+    text += &slice_difference("structures", &a.structures, &b.structures);
     text += &slice_difference("code", &a.code, &b.code);
     text + &slice_difference("output", &a.out, &b.out)
 }

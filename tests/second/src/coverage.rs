@@ -3,15 +3,18 @@
 use crate::check::Checked;
 use crate::claims::{is_an_end_of_demand_3, Claims};
 use crate::compare::compare_formulas;
+use crate::edges;
 use crate::formula::split;
 use crate::gen::case::{Case, RunCall};
 use crate::gen::lines::LineCase;
 use crate::gen::tables::WriteCase;
-use crate::machine::{Machine, Watch};
+use crate::heap::{address, Address, Part};
+use crate::machine::{Machine, Slot, Watch};
 use crate::opcode::{Edition, Op};
+use crate::possible::IN_A_CELL;
 use crate::rules::Rules;
 use crate::subject::{checked_number, Second, Subject};
-use crate::types::POINTER;
+use crate::types::{POINTER, STRUCTURE};
 use crate::worklist::Reason;
 use std::collections::BTreeMap;
 
@@ -19,7 +22,7 @@ type Counts<K> = BTreeMap<K, u64>;
 
 #[derive(Default)]
 pub struct Coverage {
-    /// By edition: 1, or else 3.
+    /// By edition: 1, 4, or else 3.
     pub checks: Counts<(Edition, u32)>,
     pub runs: Counts<(Edition, u32)>,
     pub writes: Counts<(Edition, u32)>,
@@ -34,6 +37,7 @@ pub struct Coverage {
     pub executed: Counts<(Edition, Op, u8)>,
     pub raised: Counts<(Edition, Op, u32)>,
     pub reasons: Counts<(Edition, Reason)>,
+    pub heap_edges: Counts<&'static str>,
     /// Arguments that didn't fit (20 without an instruction).
     pub misfits: u64,
     /// Modules by generator: all, and accepted ones.
@@ -52,6 +56,7 @@ pub struct Coverage {
 fn edition_of(file: &[u8]) -> Edition {
     match file {
         [1, 0, 0, 0, ..] => Edition::One,
+        [4, 0, 0, 0, ..] => Edition::Four,
         _ => Edition::Three,
     }
 }
@@ -113,13 +118,20 @@ impl Coverage {
         self.raises = 0;
         let second = Second(Rules::PLAIN);
         let answer = second.run_watched(run.function, run.allowance, &mut memory, self);
-        count(&mut self.runs, (edition_of(&case.module), answer));
-        self.misfits += u64::from(answer == 20 && self.raises == 0);
+        let edition = edition_of(&case.module);
+        count(&mut self.runs, (edition, answer));
+        let misfit = answer == 20 && self.raises == 0;
+        self.misfits += u64::from(misfit);
+        if answer == 0 || answer >= 15 {
+            for edge in edges::lent(edition, run, misfit) {
+                count(&mut self.heap_edges, edge);
+            }
+        }
         if accepted {
             let mut claims = Claims::default();
             let mut memory = case.run_memory(run);
             second.run_watched(run.function, run.allowance, &mut memory, &mut claims);
-            let ends = is_an_end_of_demand_3(answer) || [12, 13].contains(&answer);
+            let ends = is_an_end_of_demand_3(edition, answer) || [12, 13].contains(&answer);
             self.broken += claims.broken + u64::from(!ends);
         }
     }
@@ -172,29 +184,53 @@ fn accepted_with_room(case: &Case) -> bool {
     crate::check::check(Rules::PLAIN, &case.module, &mut room) == Checked::Accepted
 }
 
+/// The type of what a pointer leads to, and whether it is in a cell.
+fn target(machine: &Machine<'_>, pointer: Option<Slot>) -> u8 {
+    let Some(pointer) = pointer.filter(|slot| slot.ty == POINTER) else {
+        return 0;
+    };
+    match address(pointer.payload) {
+        Address::Null => 0,
+        Address::Slot(slot) => machine.stack.get(slot as usize).map_or(0, |slot| slot.ty),
+        Address::Block { serial, part } => match machine.heap.part(serial, part) {
+            Some(Part::Number { ty, .. }) => IN_A_CELL | ty,
+            Some(Part::Structure) => STRUCTURE,
+            None => 0,
+        },
+    }
+}
+
+/// What is known of an instruction's variant before it.
+fn variant(machine: &Machine<'_>, op: Op) -> u8 {
+    let top = machine.stack.last().copied();
+    let through = machine.module.edition.has_pointers();
+    match op {
+        Op::Inc | Op::Dec | Op::Tload if through => target(machine, top),
+        Op::Delete => target(machine, top) & !IN_A_CELL,
+        Op::Tstore => {
+            let ty = top.map_or(0, |slot| slot.ty);
+            let under = machine.stack.iter().rev().nth(1).copied();
+            ty | target(machine, under) & IN_A_CELL
+        }
+        Op::Lea => {
+            let at = machine.module.instruction(Rules::PLAIN, machine.place);
+            let n = at.map_or(0, |at| at.operand);
+            let slot = machine.frame().locals.get(n as usize);
+            slot.map_or(0, |&slot| machine.stack[slot].ty)
+        }
+        Op::Ret => machine
+            .module
+            .function(machine.frame().body)
+            .map_or(0, |f| crate::types::run_time(f.returns)),
+        Op::Jmp | Op::Call | Op::Null => 0,
+        _ => top.map_or(0, |slot| slot.ty),
+    }
+}
+
 impl Watch for Coverage {
     fn before(&mut self, machine: &Machine<'_>, op: Op) {
-        let top = machine.stack.last().copied();
-        let place = machine.place;
-        self.variant = match op {
-            Op::Inc | Op::Dec if machine.module.edition == Edition::Three => top
-                .filter(|slot| slot.ty == POINTER)
-                .and_then(|slot| machine.stack.get(slot.payload as usize))
-                .map_or(0, |slot| slot.ty),
-            Op::Lea => {
-                let at = machine.module.instruction(Rules::PLAIN, place);
-                let n = at.map_or(0, |at| at.operand);
-                let slot = machine.frame().locals.get(n as usize);
-                slot.map_or(0, |&slot| machine.stack[slot].ty)
-            }
-            Op::Ret => machine
-                .module
-                .function(machine.frame().body)
-                .map_or(0, |f| f.returns),
-            Op::Jmp | Op::Call => 0,
-            _ => top.map_or(0, |slot| slot.ty),
-        };
-        let at = machine.module.instruction(Rules::PLAIN, place);
+        self.variant = variant(machine, op);
+        let at = machine.module.instruction(Rules::PLAIN, machine.place);
         self.next = at.map_or(0, |at| at.next);
     }
 
@@ -204,12 +240,23 @@ impl Watch for Coverage {
             self.raises += 1;
             return count(&mut self.raised, (edition, op, number));
         }
-        let top = machine.stack.last().map_or(0, |slot| slot.ty);
+        let top = machine.stack.last().copied();
         let variant = match op {
-            Op::Push | Op::Load | Op::Tload => top,
+            Op::Push | Op::Load => top.map_or(0, |slot| slot.ty),
+            Op::New | Op::Flea => target(machine, top) & !IN_A_CELL,
             op if op.is_conditional() => u8::from(machine.place != self.next),
             _ => self.variant,
         };
+        if op == Op::New {
+            for edge in edges::given(machine) {
+                count(&mut self.heap_edges, edge);
+            }
+        }
+        if op.is_of_the_heap() {
+            if let Some(edge) = edges::left(&machine.heap) {
+                count(&mut self.heap_edges, edge);
+            }
+        }
         count(&mut self.executed, (edition, op, variant));
     }
 }

@@ -2,12 +2,16 @@
 //!
 //! "At each given place the instruction, judged by types alone with every pointer taken as
 //! live, raises at most 20 or 24, "same type" meaning the same of six, for call arguments
-//! too". "Demand 3's ends and the typing rule gain" 35, document 02's A2.
+//! too". "Demand 3's ends and the typing rule gain" 35, document 02's A2, and "in edition 4, 33 and
+//! 36", A6. "In a typing `null` has its own type (byte 80) for moves, `cmp`, `icmp` and `delete`
+//! only; those three take any pointers."
 
 use crate::opcode::{Edition, Op};
 use crate::reader::{Instruction, Module, ENTRY};
 use crate::rules::{Fault, Rules};
-use crate::types::{is_number, pointee, run_time, DOUBLE, INT, LONG, POINTER_TO};
+use crate::types::{
+    is_number, is_pointer, pointee, run_time, structure, DOUBLE, INT, LONG, NULL, POINTER_TO,
+};
 
 /// "a list of local types and of operand types", deepest first.
 #[derive(Clone, Debug, Default, PartialEq, Eq)]
@@ -32,7 +36,8 @@ pub struct Judge<'m> {
 
 impl Judge<'_> {
     /// The lists after the instruction and its next places, or the exception that it raises
-    /// (other than 20, 24 and 35, which depend on more than types).
+    /// (other than 20, 24, 33 and 35, which depend on more than types). `null` where it may not be
+    /// is 36.
     pub fn judge(&self, at: Instruction, given: &Lists) -> Result<Left, u32> {
         let mut lists = given.clone();
         let mut next = vec![at.next];
@@ -41,7 +46,8 @@ impl Judge<'_> {
                 self.stack(at, &mut lists)?;
             }
             Op::Inc | Op::Dec if self.on_top() => self.by_one(&mut lists)?,
-            Op::Tload | Op::Tstore | Op::Inc | Op::Dec => through(at.op, &mut lists)?,
+            Op::Tload | Op::Tstore | Op::Inc | Op::Dec => self.through(at.op, &mut lists)?,
+            Op::Null | Op::New | Op::Delete | Op::Flea => self.heap(at, &mut lists)?,
             Op::Neg | Op::Not | Op::Toi | Op::Tol | Op::Tod => unary(at.op, &mut lists)?,
             Op::Jmp | Op::Call | Op::Ret => next = self.flow(at, &mut lists)?,
             op if op.is_conditional() => next = self.branch(at, &mut lists)?,
@@ -71,7 +77,21 @@ impl Judge<'_> {
         if self.rules.wrong(Fault::PointersAlike) {
             return raise(run_time(a) != run_time(b), 22);
         }
-        raise(a != b, 22)
+        let null = is_pointer(a) && is_pointer(b) && (a == NULL || b == NULL);
+        raise(a != b && !(null && self.rules.wrong(Fault::NullFits)), 22)
+    }
+
+    /// `cmp` and `icmp` of edition 4: "those three take any pointers"
+    fn comparable(&self, a: u8, b: u8) -> Result<(), u32> {
+        let any = if self.module.edition.has_heap() {
+            !self.rules.wrong(Fault::PointersComparedApart)
+        } else {
+            self.rules.wrong(Fault::AnyPointersInThree)
+        };
+        if any && is_pointer(a) && is_pointer(b) {
+            return Ok(());
+        }
+        self.same(a, b)
     }
 
     fn stack(&self, at: Instruction, lists: &mut Lists) -> Result<(), u32> {
@@ -128,7 +148,7 @@ impl Judge<'_> {
         let pair = take(lists, 2)?;
         let (a, b) = (pair[0], pair[1]);
         if matches!(op, Op::Cmp | Op::Icmp) {
-            self.same(a, b)?;
+            self.comparable(a, b)?;
             raise(a == DOUBLE && self.rules.wrong(Fault::UnorderedUntyped), 35)?;
             lists.operands.push(INT);
             return Ok(());
@@ -179,7 +199,10 @@ impl Judge<'_> {
         let function = self.module.signature(self.rules, n).ok_or(28u32)?;
         let arguments = take(lists, function.parameters.len())?;
         for (&argument, &parameter) in arguments.iter().zip(&function.parameters) {
-            self.same(argument, parameter)?;
+            let null = argument == NULL && is_pointer(parameter);
+            if !(null && self.rules.wrong(Fault::NullArgumentTyped)) {
+                self.same(argument, parameter)?;
+            }
         }
         if function.returns != 0 {
             lists.operands.push(function.returns);
@@ -193,26 +216,73 @@ impl Judge<'_> {
         let function = self.module.function(self.body).ok_or(28u32)?;
         if function.returns != 0 {
             let top = take(lists, 1)?[0];
-            raise(top != function.returns, 22)?;
+            self.same(top, function.returns)?;
         }
         Ok(())
     }
-}
 
-/// `tload`, `tstore`, `inc`, `dec`, "every pointer taken as live".
-fn through(op: Op, lists: &mut Lists) -> Result<(), u32> {
-    if op == Op::Tstore {
-        let pair = take(lists, 2)?;
-        let target = pointee(pair[0]).ok_or(31u32)?;
-        // "`tstore` needs a value of the type of what it writes to (22)"
-        return raise(pair[1] != target, 22);
+    /// The number type that a pointer points to, "every pointer taken as live": 31, then 36 for
+    /// `null`, then 50 for a whole structure.
+    fn number_at(&self, ty: u8) -> Result<u8, u32> {
+        raise(!is_pointer(ty), 31)?;
+        raise(ty == NULL && !self.rules.wrong(Fault::NullThroughTyped), 36)?;
+        if ty == NULL {
+            return Ok(INT);
+        }
+        let whole = self.rules.wrong(Fault::WholeTyped) && structure(ty).is_some();
+        pointee(ty).or(whole.then_some(INT)).ok_or(50)
     }
-    let top = take(lists, 1)?[0];
-    let target = pointee(top).ok_or(31u32)?;
-    if op == Op::Tload {
-        lists.operands.push(target);
+
+    /// `tload`, `tstore`, `inc`, `dec`.
+    fn through(&self, op: Op, lists: &mut Lists) -> Result<(), u32> {
+        if op == Op::Tstore {
+            let pair = take(lists, 2)?;
+            let target = self.number_at(pair[0])?;
+            // "`tstore` needs a value of the type of what it writes to (22)"
+            return raise(pair[1] != target, 22);
+        }
+        let top = take(lists, 1)?[0];
+        let target = self.number_at(top)?;
+        if op == Op::Tload {
+            lists.operands.push(target);
+        }
+        Ok(())
     }
-    Ok(())
+
+    /// `null`, `new`, `delete`, `flea`.
+    fn heap(&self, at: Instruction, lists: &mut Lists) -> Result<(), u32> {
+        match at.op {
+            Op::Null => lists.operands.push(NULL),
+            Op::New => {
+                // "37 type number"; "`new` also takes 3, 4 and 6"
+                let number = u8::try_from(at.operand).is_ok_and(is_number);
+                raise(!number && self.module.fields(at.operand).is_none(), 37)?;
+                lists.operands.push(POINTER_TO | at.operand as u8);
+            }
+            Op::Delete => {
+                let top = take(lists, 1)?[0];
+                raise(!is_pointer(top), 31)?;
+                let apart =
+                    pointee(top).is_some() && self.rules.wrong(Fault::DeleteOfNumberUntyped);
+                raise(apart, 33)?;
+            }
+            _ => {
+                let top = take(lists, 1)?[0];
+                lists.operands.push(self.field(top, at.operand)?);
+            }
+        }
+        Ok(())
+    }
+
+    /// The type of the pointer that `flea` leaves: 31, 36, 39, 38.
+    fn field(&self, ty: u8, field: u32) -> Result<u8, u32> {
+        raise(!is_pointer(ty), 31)?;
+        raise(ty == NULL, 36)?;
+        let number = structure(ty).ok_or(39u32)?;
+        let fields = self.module.fields(u32::from(number)).ok_or(39u32)?;
+        let target = fields.get(field as usize).ok_or(38u32)?;
+        Ok(POINTER_TO | target)
+    }
 }
 
 fn unary(op: Op, lists: &mut Lists) -> Result<(), u32> {

@@ -4,13 +4,13 @@
 //! main program is compared with this one on generated modules and calls.
 //!
 //! * The rules: `reader`, `writer`, `check` (with `worklist` and `judge`), `run` (with
-//!   `machine`, `step`, `integer`, `double`, `convert`), `formula`, `show` for the small program's
-//!   output, `desk` for the desk's commands.
+//!   `machine`, `step`, `pointers`, `heap`, `integer`, `double`, `convert`), `formula`, `show` for
+//!   the small program's output, `desk` for the desk's commands.
 //! * `opcode`: the editions and their opcode numbers; all else is shared.
 //! * `rules`: the deliberately wrong variants that test the tests.
 //! * The tools: `program` and `asm` write modules, `gen` makes cases, `memory`, `subject` and
 //!   `compare` run two programs side by side, `coverage` counts what the cases reach,
-//!   `stated` has checks, writes and formula lines with their answers written out.
+//!   `stated` has checks, runs, writes and formula lines with their answers written out.
 
 #![forbid(unsafe_code)]
 
@@ -23,14 +23,17 @@ pub mod convert;
 pub mod coverage;
 pub mod desk;
 pub mod double;
+pub mod edges;
 pub mod formula;
 pub mod gen;
+pub mod heap;
 pub mod hex;
 pub mod integer;
 pub mod judge;
 pub mod machine;
 pub mod memory;
 pub mod opcode;
+pub mod pointers;
 pub mod possible;
 pub mod program;
 pub mod reader;

@@ -1,5 +1,6 @@
 //! The machine's state and its moments.
 
+use crate::heap::Heap;
 use crate::opcode::Op;
 use crate::reader::{Module, ENTRY};
 use crate::rules::{Fault, Rules};
@@ -57,6 +58,7 @@ pub struct Machine<'m> {
     /// The whole stack; its length is the height.
     pub stack: Vec<Slot>,
     pub frames: Vec<Frame>,
+    pub heap: Heap,
     pub place: usize,
     pub steps: u64,
 }
@@ -81,6 +83,7 @@ impl<'m> Machine<'m> {
         function: u32,
         arguments: Vec<Slot>,
         capacity: usize,
+        heap: Heap,
     ) -> Machine<'m> {
         let frame = Frame::new(rules, function, 0, arguments.len(), 0);
         Machine {
@@ -89,6 +92,7 @@ impl<'m> Machine<'m> {
             capacity,
             stack: arguments,
             frames: vec![frame],
+            heap,
             place: module.range(function).start,
             steps: 0,
         }

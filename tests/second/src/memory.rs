@@ -68,6 +68,9 @@ pub struct RunMemory {
     pub arg_payloads: Lent,
     pub payloads: Lent,
     pub types: Lent,
+    /// Cells, and block entries.
+    pub heap: Lent,
+    pub blocks: Lent,
     pub steps: u64,
     pub height: u64,
 }
@@ -79,6 +82,7 @@ pub struct WriteMemory {
     pub constants: Lent,
     pub functions: Lent,
     pub labels: Lent,
+    pub structures: Lent,
     pub code: Lent,
     pub entry_length: u32,
     pub out: Lent,

@@ -1,5 +1,6 @@
 //! Editions and their opcodes. Edition 3: "opcodes 01 to 05, 07 to 28, 2B, 2C, 2E (hex), 42 in
-//! all". Edition 1: "source document 003's 0.1.0 numbers, 01 to 25 (hex)", 37 in all.
+//! all". Edition 1: "source document 003's 0.1.0 numbers, 01 to 25 (hex)", 37 in all. Edition 4
+//! "adds `null`, `new`, `delete`, `flea`" with 003's 0.3.0 numbers, 46 in all.
 
 use crate::rules::{Fault, Rules};
 
@@ -9,16 +10,19 @@ pub enum Edition {
     One,
     #[default]
     Three,
+    /// "Structures and a heap."
+    Four,
 }
 
-pub const EDITIONS: [Edition; 2] = [Edition::One, Edition::Three];
+pub const EDITIONS: [Edition; 3] = [Edition::One, Edition::Three, Edition::Four];
 
 impl Edition {
-    /// The edition of a word, or nothing: "neither 1 nor 3".
+    /// The edition of a word, or nothing: "none of 1, 3 and 4".
     pub fn from_word(rules: Rules, word: u32) -> Option<Edition> {
         match word {
             1 if !rules.wrong(Fault::EditionOneRefused) => Some(Edition::One),
             3 => Some(Edition::Three),
+            4 if !rules.wrong(Fault::EditionFourRefused) => Some(Edition::Four),
             2 if rules.wrong(Fault::EditionTwoTaken) => Some(Edition::Three),
             _ => None,
         }
@@ -28,7 +32,18 @@ impl Edition {
         match self {
             Edition::One => 1,
             Edition::Three => 3,
+            Edition::Four => 4,
         }
+    }
+
+    /// Edition 1 has "No pointer types".
+    pub fn has_pointers(self) -> bool {
+        self != Edition::One
+    }
+
+    /// Edition 4 has structures, `null`, `new`, `delete` and `flea`.
+    pub fn has_heap(self) -> bool {
+        self == Edition::Four
     }
 
     /// The edition's opcodes.
@@ -46,6 +61,7 @@ pub enum Op {
     Load = 0x03,
     Store = 0x04,
     Lea = 0x05,
+    Flea = 0x06,
     Tload = 0x07,
     Tstore = 0x08,
     Copy = 0x09,
@@ -84,15 +100,19 @@ pub enum Op {
     Toi = 0x2B,
     Tol = 0x2C,
     Tod = 0x2E,
+    Null = 0x30,
+    New = 0x31,
+    Delete = 0x32,
 }
 
 /// Every opcode with its mnemonic.
-pub const ALL: [(Op, &str); 42] = [
+pub const ALL: [(Op, &str); 46] = [
     (Op::Push, "push"),
     (Op::Pop, "pop"),
     (Op::Load, "load"),
     (Op::Store, "store"),
     (Op::Lea, "lea"),
+    (Op::Flea, "flea"),
     (Op::Tload, "tload"),
     (Op::Tstore, "tstore"),
     (Op::Copy, "copy"),
@@ -130,6 +150,9 @@ pub const ALL: [(Op, &str); 42] = [
     (Op::Toi, "toi"),
     (Op::Tol, "tol"),
     (Op::Tod, "tod"),
+    (Op::Null, "null"),
+    (Op::New, "new"),
+    (Op::Delete, "delete"),
 ];
 
 /// 003's numbers of version 0.1.0, from 01 on. It gives `top` the number 26 (hex), though that
@@ -182,13 +205,15 @@ impl Op {
             return Op::from_old_byte(rules, byte);
         }
         let index = match byte {
-            0x01..=0x05 => byte - 0x01,
-            0x07..=0x28 => byte - 0x07 + 5,
-            0x2B | 0x2C => byte - 0x2B + 39,
-            0x2E => 41,
+            0x01..=0x28 => byte - 0x01,
+            0x2B | 0x2C => byte - 0x2B + 40,
+            0x2E => 42,
+            0x30..=0x32 => byte - 0x30 + 43,
             _ => return None,
         };
-        Some(ALL[index as usize].0)
+        let op = ALL[index as usize].0;
+        let lacking = op.is_of_the_heap() && !edition.has_heap();
+        (!lacking || rules.wrong(Fault::HeapOpcodesInThree)).then_some(op)
     }
 
     fn from_old_byte(rules: Rules, byte: u8) -> Option<Op> {
@@ -203,9 +228,15 @@ impl Op {
     /// The opcode's byte in an edition that has it.
     pub fn byte(self, edition: Edition) -> Option<u8> {
         match edition {
-            Edition::Three => Some(self as u8),
+            Edition::Three => (!self.is_of_the_heap()).then_some(self as u8),
+            Edition::Four => Some(self as u8),
             Edition::One => OLD.iter().position(|&op| op == self).map(|n| n as u8 + 1),
         }
+    }
+
+    /// Edition 4 "adds `null`, `new`, `delete`, `flea`".
+    pub fn is_of_the_heap(self) -> bool {
+        matches!(self, Op::Null | Op::New | Op::Delete | Op::Flea)
     }
 
     /// The opcode of a mnemonic.
@@ -222,9 +253,10 @@ impl Op {
     /// 003: some instructions need a 4-byte operand. "`ret` has no operand, whatever 003's
     /// table says."
     pub fn has_operand(self) -> bool {
-        matches!(self, Op::Push | Op::Load | Op::Store | Op::Lea)
-            || self.has_label()
-            || self == Op::Call
+        matches!(
+            self,
+            Op::Push | Op::Load | Op::Store | Op::Lea | Op::Flea | Op::New | Op::Call
+        ) || self.has_label()
     }
 
     /// Does the operand name a label?
@@ -236,7 +268,7 @@ impl Op {
         matches!(self, Op::Je | Op::Jne | Op::Ja | Op::Jae | Op::Jb | Op::Jbe)
     }
 
-    /// 003: an instruction is 1 byte, with its operand 5; the same in both editions.
+    /// 003: an instruction is 1 byte, with its operand 5; the same in all editions.
     pub fn size(self) -> usize {
         if self.has_operand() {
             5

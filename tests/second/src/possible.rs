@@ -2,13 +2,14 @@
 //! work on, every reason for a body to have no typing.
 
 use crate::opcode::{Edition, Op};
-use crate::types::{DOUBLE, INT, LONG, POINTER};
+use crate::types::{DOUBLE, INT, LONG, NUMBERS, POINTER, STRUCTURE};
 use crate::worklist::Reason;
 
 const SUMS: [Op; 6] = [Op::Add, Op::Sub, Op::Mul, Op::Imul, Op::Div, Op::Idiv];
 
 /// The exceptions that an instruction can raise in a run of this edition, in the paper's order.
-/// In edition 1 no pointer can arise, and `inc` and `dec` work on the top.
+/// In edition 1 no pointer can arise, and `inc` and `dec` work on the top. In edition 4 a pointer
+/// may be null, or lead to a structure.
 pub fn exceptions(edition: Edition, op: Op) -> Vec<u32> {
     match (edition, op) {
         (Edition::One, Op::Inc | Op::Dec) => vec![21],
@@ -17,6 +18,16 @@ pub fn exceptions(edition: Edition, op: Op) -> Vec<u32> {
             numbers.filter(|n| ![31, 32, 33].contains(n)).collect()
         }
         (Edition::Three, op) => new_exceptions(op).to_vec(),
+        (Edition::Four, op) => heap_exceptions(op).to_vec(),
+    }
+}
+
+fn heap_exceptions(op: Op) -> &'static [u32] {
+    match op {
+        Op::Tload => &[21, 31, 36, 33, 50],
+        Op::Tstore => &[21, 31, 36, 33, 50, 22],
+        Op::Inc | Op::Dec => &[21, 31, 36, 33, 32, 50],
+        op => new_exceptions(op),
     }
 }
 
@@ -42,12 +53,17 @@ fn new_exceptions(op: Op) -> &'static [u32] {
         Op::Je | Op::Jne | Op::Ja | Op::Jae | Op::Jb | Op::Jbe => &[27, 21, 22],
         Op::Call => &[28, 21, 22, 20],
         Op::Ret => &[30, 21, 22],
+        Op::Flea => &[21, 31, 36, 33, 39, 38],
+        Op::Null => &[20],
+        Op::New => &[37, 20],
+        Op::Delete => &[21, 31, 33],
     }
 }
 
 /// The exceptions that leave a body without typing: those of a run other than 20, 24 and 35,
 /// other than 33 ("every pointer taken as live") and than 32 for `inc` and `dec` (no pointer
-/// points to a pointer); and `lea` of a local that holds no number, shown as 32.
+/// points to a pointer); and `lea` of a local that holds no number, shown as 32. 36 is `null`
+/// where a typing doesn't take it.
 pub fn typing_exceptions(edition: Edition, op: Op) -> Vec<u32> {
     let mut numbers: Vec<u32> = exceptions(edition, op);
     numbers.retain(|number| ![20, 24, 33, 35].contains(number));
@@ -69,20 +85,35 @@ pub fn reasons(edition: Edition) -> Vec<Reason> {
     reasons
 }
 
+/// Added to the type in a variant of `tload`, `tstore`, `inc`, `dec` through a heap pointer.
+pub const IN_A_CELL: u8 = 0x40;
+
 /// The variants in which an instruction can be executed: for most the type that it works on;
-/// for a conditional branch 1 if taken and 0 if not; for `ret` the return type.
+/// for a conditional branch 1 if taken and 0 if not; for `ret` the return type; for `flea` the
+/// field's type; for `new` and `delete` the block's type (any structure as 10), 0 for null.
 pub fn executions(edition: Edition, op: Op) -> Vec<u8> {
     let types = new_executions(op).iter().copied();
-    let pointers = edition == Edition::Three;
-    types.filter(|&ty| pointers || ty != POINTER).collect()
+    let pointers = edition.has_pointers();
+    let mut all: Vec<u8> = types.filter(|&ty| pointers || ty != POINTER).collect();
+    if edition.has_heap() {
+        match op {
+            Op::Tload | Op::Tstore | Op::Inc | Op::Dec => {
+                all.extend(NUMBERS.map(|ty| IN_A_CELL | ty));
+            }
+            Op::Ret => all.push(POINTER),
+            _ => {}
+        }
+    }
+    all
 }
 
 fn new_executions(op: Op) -> &'static [u8] {
     match op {
-        Op::Push | Op::Neg | Op::Toi | Op::Tol | Op::Tod | Op::Inc | Op::Dec => {
+        Op::Push | Op::Neg | Op::Toi | Op::Tol | Op::Tod | Op::Inc | Op::Dec | Op::Flea => {
             &[INT, LONG, DOUBLE]
         }
-        Op::Jmp | Op::Call => &[0],
+        Op::Jmp | Op::Call | Op::Null => &[0],
+        Op::New | Op::Delete => &[0, INT, LONG, DOUBLE, STRUCTURE],
         Op::Ret => &[0, INT, LONG, DOUBLE],
         op if op.is_conditional() => &[0, 1],
         op if SUMS.contains(&op) => &[INT, LONG, DOUBLE],
@@ -100,10 +131,15 @@ pub const CHECK_ANSWERS: [u32; 12] = [0, 1, 2, 3, 4, 5, 6, 7, 8, 9, 10, 11];
 /// The answers that a write can give.
 pub const WRITE_ANSWERS: [u32; 9] = [0, 2, 4, 5, 6, 7, 8, 9, 16];
 
-/// Can this answer be given where the edition word is 1? (Those of the others are counted as
-/// edition 3's.)
-pub fn old_answer(number: u32) -> bool {
-    ![2, 31, 32, 33].contains(&number)
+/// Can this answer be given where this is the edition word? (Those of words that are no edition
+/// are counted as edition 3's.)
+pub fn answer_of(edition: Edition, number: u32) -> bool {
+    let heap = [36, 37, 38, 39, 50].contains(&number);
+    match edition {
+        Edition::One => ![2, 31, 32, 33].contains(&number) && !heap,
+        Edition::Three => !heap,
+        Edition::Four => number != 2,
+    }
 }
 
 /// The answers that a formula can give.
@@ -125,8 +161,28 @@ pub const LINE_EDGES: [&str; 12] = [
     "quotient by zero",
 ];
 
+/// What lent heaps and runs on them must reach, by name, as in `coverage::heap_edges`.
+pub const HEAP_EDGES: [&str; 16] = [
+    "no cells",
+    "one cell",
+    "part of a cell",
+    "part of an entry",
+    "fewer cells",
+    "fewer entries",
+    "4,096",
+    "over 4,096",
+    "edition 1",
+    "edition 3",
+    "arguments don't fit",
+    "last cell given",
+    "null with free cells",
+    "a hole given",
+    "a hole passed over",
+    "table not by cell",
+];
+
 /// The answers that a run can give.
-pub const RUN_ANSWERS: [u32; 29] = [
+pub const RUN_ANSWERS: [u32; 34] = [
     0, 1, 2, 3, 4, 5, 6, 7, 8, 9, 12, 13, 15, 20, 21, 22, 23, 24, 25, 26, 27, 28, 29, 30, 31, 32,
-    33, 34, 35,
+    33, 34, 35, 36, 37, 38, 39, 50,
 ];

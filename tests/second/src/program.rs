@@ -1,8 +1,8 @@
 //! A module in parts that can be changed and written as a file.
 
 use crate::opcode::{Edition, Op};
-use crate::reader::{CONSTANT, ENTRY, FUNCTION, HEADER, LABEL};
-use crate::types::is_number;
+use crate::reader::{header, CONSTANT, ENTRY, FUNCTION, LABEL, STRUCTURE_RECORD};
+use crate::types::{is_number, structure};
 
 #[derive(Clone, Copy, Debug, PartialEq, Eq)]
 pub struct Constant {
@@ -39,6 +39,8 @@ pub struct Program {
     pub entry: Vec<Instr>,
     pub functions: Vec<Routine>,
     pub labels: Vec<Mark>,
+    /// The field types of each structure; written in edition 4.
+    pub structures: Vec<Vec<u8>>,
 }
 
 fn size(code: &[Instr]) -> usize {
@@ -85,13 +87,20 @@ impl Program {
         self.start(mark.owner) + size(&code[..mark.index.min(code.len())])
     }
 
-    /// Has the edition all opcodes and parameter types of the program?
+    /// Has the edition all opcodes and types of the program?
     pub fn fits(&self, edition: Edition) -> bool {
         let bodies = self.owners();
         let mut code = bodies.iter().flat_map(|&owner| self.body(owner));
-        let mut parameters = self.functions.iter().flat_map(|f| &f.parameters);
+        let signature = |f: &Routine| [&f.parameters[..], &[f.returns]].concat();
+        let mut types = self.functions.iter().flat_map(signature);
+        let known = |ty: u8| match edition {
+            Edition::One => ty == 0 || is_number(ty),
+            Edition::Three => structure(ty).is_none(),
+            Edition::Four => true,
+        };
         code.all(|instr| instr.op.byte(edition).is_some())
-            && (edition == Edition::Three || parameters.all(|&ty| is_number(ty)))
+            && types.all(known)
+            && (edition.has_heap() || self.structures.is_empty())
     }
 
     /// The module file.
@@ -115,19 +124,29 @@ impl Program {
         for function in &self.functions {
             put_code(&mut bytes, self.edition, &function.code);
         }
+        if self.edition.has_heap() {
+            for fields in &self.structures {
+                put_structure(&mut bytes, fields);
+            }
+        }
         bytes
     }
 
     fn put_header(&self, bytes: &mut Vec<u8>) {
         let code: usize =
             size(&self.entry) + self.functions.iter().map(|f| size(&f.code)).sum::<usize>();
-        let functions_at = HEADER + CONSTANT * self.constants.len();
+        let constants_at = header(self.edition);
+        let functions_at = constants_at + CONSTANT * self.constants.len();
         let labels_at = functions_at + FUNCTION * self.functions.len();
         let code_at = labels_at + LABEL * self.labels.len();
         put(bytes, self.edition.word() as usize);
-        put(bytes, code_at + code);
+        let mut structures = 0;
+        if self.edition.has_heap() {
+            structures = self.structures.len();
+        }
+        put(bytes, code_at + code + STRUCTURE_RECORD * structures);
         for (count, offset) in [
-            (self.constants.len(), HEADER),
+            (self.constants.len(), constants_at),
             (self.functions.len(), functions_at),
             (self.labels.len(), labels_at),
             (code, code_at),
@@ -136,7 +155,19 @@ impl Program {
             put(bytes, count);
             put(bytes, offset);
         }
+        if self.edition.has_heap() {
+            put(bytes, structures);
+            put(bytes, code_at + code);
+        }
     }
+}
+
+/// "field count 1 to 8, eight type bytes (3, 4, 6, unused 0), three zeros"
+fn put_structure(bytes: &mut Vec<u8>, fields: &[u8]) {
+    bytes.push(fields.len() as u8);
+    let mut record = fields.to_vec();
+    record.resize(STRUCTURE_RECORD - 1, 0);
+    bytes.extend(record);
 }
 
 fn put_function(bytes: &mut Vec<u8>, function: &Routine, start: usize) {
@@ -152,8 +183,9 @@ fn put_function(bytes: &mut Vec<u8>, function: &Routine, start: usize) {
 
 /// An opcode that the edition lacks becomes a byte that is no opcode of it.
 fn put_code(bytes: &mut Vec<u8>, edition: Edition, code: &[Instr]) {
+    let none = if edition == Edition::One { 0x26 } else { 0x2F };
     for instr in code {
-        bytes.push(instr.op.byte(edition).unwrap_or(0x26));
+        bytes.push(instr.op.byte(edition).unwrap_or(none));
         if instr.op.has_operand() {
             bytes.extend(instr.operand.to_le_bytes());
         }

@@ -2,7 +2,7 @@
 
 use crate::opcode::{Edition, Op};
 use crate::rules::{Fault, Rules};
-use crate::types::{is_number, pointee, INT};
+use crate::types::{is_number, pointee, structure, INT, NULL, STRUCTURE};
 use crate::words::{payload, word};
 use std::ops::Range;
 
@@ -12,13 +12,29 @@ pub const HEADER: usize = 48;
 pub const CONSTANT: usize = 12;
 pub const FUNCTION: usize = 20;
 pub const LABEL: usize = 8;
+/// "12-byte structure records"
+pub const STRUCTURE_RECORD: usize = 12;
 pub const MAX_CONSTANTS: u32 = 1024;
 pub const MAX_FUNCTIONS: u32 = 128;
 pub const MAX_LABELS: u32 = 256;
 pub const MAX_CODE: u32 = 16_384;
+pub const MAX_STRUCTURES: u32 = 16;
 
-/// The longest module possible.
-pub const LONGEST: usize = HEADER
+/// "Edition 4 has a 56-byte header (words 48 and 52: structure count, at most 16, and offset".
+pub const LONG_HEADER: usize = 56;
+
+/// The bytes of an edition's header.
+pub fn header(edition: Edition) -> usize {
+    if edition.has_heap() {
+        LONG_HEADER
+    } else {
+        HEADER
+    }
+}
+
+/// The longest module possible, which is of edition 4.
+pub const LONGEST: usize = LONG_HEADER
+    + STRUCTURE_RECORD * MAX_STRUCTURES as usize
     + CONSTANT * MAX_CONSTANTS as usize
     + FUNCTION * MAX_FUNCTIONS as usize
     + LABEL * MAX_LABELS as usize
@@ -34,6 +50,8 @@ pub struct Module<'a> {
     pub labels: u32,
     pub code_length: u32,
     pub entry_length: u32,
+    /// 0 in editions 1 and 3.
+    pub structures: u32,
 }
 
 #[derive(Clone, Debug, PartialEq, Eq)]
@@ -59,24 +77,26 @@ pub fn read(rules: Rules, file: &[u8]) -> Result<Module<'_>, u32> {
     if file.len() < HEADER {
         return Err(1);
     }
-    // 2: "2 ... means neither 1 nor 3"
+    // 2: "2 now means none of 1, 3 and 4"
     let edition = Edition::from_word(rules, word(file, 0)).ok_or(2u32)?;
+    // 1, edition 4: "a 56-byte header (...; shorter is 1)"
+    if file.len() < header(edition) {
+        return Err(if rules.wrong(Fault::ShortFourIsThree) {
+            3
+        } else {
+            1
+        });
+    }
     // 3: "total length word differs from the lent length"
     if u64::from(word(file, 4)) != file.len() as u64 {
         return Err(3);
     }
-    let module = Module {
-        file,
-        edition,
-        constants: word(file, 8),
-        functions: word(file, 16),
-        labels: word(file, 24),
-        code_length: word(file, 32),
-        entry_length: word(file, 40),
-    };
-    module.limits()?;
+    let module = Module::view(file, edition);
+    module.limits(rules)?;
     module.layout(rules)?;
     module.constant_records(rules)?;
+    // "a bad structure record is 6"
+    module.structure_records(rules)?;
     if rules.wrong(Fault::FunctionsOneByOne) {
         module.functions_one_by_one(rules)?;
     }
@@ -90,17 +110,42 @@ pub fn read(rules: Rules, file: &[u8]) -> Result<Module<'_>, u32> {
 }
 
 impl<'a> Module<'a> {
+    /// The file and its counts.
+    fn view(file: &'a [u8], edition: Edition) -> Module<'a> {
+        let structures = if edition.has_heap() {
+            word(file, 48)
+        } else {
+            0
+        };
+        Module {
+            file,
+            edition,
+            constants: word(file, 8),
+            functions: word(file, 16),
+            labels: word(file, 24),
+            code_length: word(file, 32),
+            entry_length: word(file, 40),
+            structures,
+        }
+    }
+
     /// 4: "a count or the code length is over its limit, or word 44 is not zero"
-    fn limits(&self) -> Result<(), u32> {
+    fn limits(&self, rules: Rules) -> Result<(), u32> {
+        let structures = MAX_STRUCTURES + u32::from(rules.wrong(Fault::SeventeenStructures));
         let over = self.constants > MAX_CONSTANTS
             || self.functions > MAX_FUNCTIONS
             || self.labels > MAX_LABELS
-            || self.code_length > MAX_CODE;
+            || self.code_length > MAX_CODE
+            || self.structures > structures;
         refuse(over || word(self.file, 44) != 0, 4)
     }
 
+    fn constants_at(&self) -> usize {
+        header(self.edition)
+    }
+
     fn functions_at(&self) -> usize {
-        HEADER + CONSTANT * self.constants as usize
+        self.constants_at() + CONSTANT * self.constants as usize
     }
 
     fn labels_at(&self) -> usize {
@@ -111,16 +156,24 @@ impl<'a> Module<'a> {
         self.labels_at() + LABEL * self.labels as usize
     }
 
+    /// "a last section of 12-byte structure records"
+    fn structures_at(&self) -> usize {
+        self.code_at() + self.code_length as usize
+    }
+
     /// 5: "an offset is not the packed one, the sections' sum is not the total, or the entry
     /// is longer than the code"
     fn layout(&self, rules: Rules) -> Result<(), u32> {
         let offset = |at| word(self.file, at) as usize;
         let unlabelled = self.labels == 0 && rules.wrong(Fault::EmptySectionOffset);
-        let packed = offset(12) == HEADER
+        let unplaced = self.structures == 0 && rules.wrong(Fault::NoStructuresOffset);
+        let last = !self.edition.has_heap() || offset(52) == self.structures_at() || unplaced;
+        let packed = offset(12) == self.constants_at()
             && offset(20) == self.functions_at()
             && (offset(28) == self.labels_at() || unlabelled)
-            && offset(36) == self.code_at();
-        let sum = self.code_at() + self.code_length as usize;
+            && offset(36) == self.code_at()
+            && last;
+        let sum = self.structures_at() + STRUCTURE_RECORD * self.structures as usize;
         let fits = sum == self.file.len() && self.entry_length <= self.code_length;
         refuse(!(packed && fits), 5)
     }
@@ -128,7 +181,7 @@ impl<'a> Module<'a> {
     /// 6: "a constant of another type, or an int with upper bytes set"
     fn constant_records(&self, rules: Rules) -> Result<(), u32> {
         for n in 0..self.constants {
-            let at = HEADER + CONSTANT * n as usize;
+            let at = self.constants_at() + CONSTANT * n as usize;
             // "type word (3, 4 or 6)": all 32 bits of it
             let mut ty = word(self.file, at);
             if rules.wrong(Fault::ConstantTypeByte) {
@@ -137,6 +190,21 @@ impl<'a> Module<'a> {
             let known = u8::try_from(ty).is_ok_and(is_number);
             let upper = word(self.file, at + 8);
             refuse(!known || (ty == u32::from(INT) && upper != 0), 6)?;
+        }
+        Ok(())
+    }
+
+    /// 6: "a bad structure record is 6"
+    fn structure_records(&self, rules: Rules) -> Result<(), u32> {
+        let number = if rules.wrong(Fault::StructuresSeven) {
+            7
+        } else {
+            6
+        };
+        for n in 0..self.structures {
+            let at = self.structures_at() + STRUCTURE_RECORD * n as usize;
+            let record = &self.file[at..at + STRUCTURE_RECORD];
+            refuse(!structure_record(rules, record), number)?;
         }
         Ok(())
     }
@@ -159,21 +227,43 @@ impl<'a> Module<'a> {
         let (start, length) = (word(record, 0), word(record, 4));
         // "start, length (≥ 1)"
         refuse(u64::from(start) != packed || length < 1, 7)?;
-        // "parameter count (0 to 8, one byte), return type (one byte: 0, 3, 4, 6)"
-        let (count, returns) = (record[8] as usize, record[9]);
-        refuse(count > 8 || !(returns == 0 || is_number(returns)), 7)?;
+        // "parameter count (0 to 8, one byte)"
+        let count = record[8] as usize;
+        refuse(count > 8 || !self.can_return(rules, record[9]), 7)?;
         // "eight parameter type bytes (3, 4, 6, or 83, 84, 86 hex for pointer to one; unused
         // are 0), two zero bytes"
         let (used, unused) = record[10..18].split_at(count);
-        // edition 1: "No pointer types in signatures (7)."
-        let pointers = self.edition == Edition::Three || rules.wrong(Fault::PointerParameterTaken);
-        let known = |&ty: &u8| is_number(ty) || pointers && pointee(ty).is_some();
-        refuse(!used.iter().all(known), 7)?;
+        refuse(!used.iter().all(|&ty| self.can_take(rules, ty)), 7)?;
         if !rules.wrong(Fault::UnusedParameterBytes) {
             refuse(unused.iter().any(|&byte| byte != 0), 7)?;
         }
         refuse(record[18] != 0 || record[19] != 0, 7)?;
         Ok(packed + u64::from(length))
+    }
+
+    /// "return type (one byte: 0, 3, 4, 6)"; "Type bytes 8A to 99 (hex) mean pointer to a
+    /// structure; functions may return those." Pointers to numbers stay 7.
+    fn can_return(&self, rules: Rules, ty: u8) -> bool {
+        let structure = self.declares(rules, ty) && !rules.wrong(Fault::StructureReturnRefused);
+        let number = rules.wrong(Fault::NumberPointerReturned) && self.edition.has_heap();
+        ty == 0 || is_number(ty) || structure || number && pointee(ty).is_some()
+    }
+
+    /// A parameter's type byte. Edition 1: "No pointer types in signatures (7)."
+    fn can_take(&self, rules: Rules, ty: u8) -> bool {
+        let pointers = self.edition.has_pointers() || rules.wrong(Fault::PointerParameterTaken);
+        let null = self.edition.has_heap() && rules.wrong(Fault::NullParameterTaken);
+        is_number(ty)
+            || pointers && pointee(ty).is_some()
+            || self.declares(rules, ty)
+            || null && ty == NULL
+    }
+
+    /// Is this a pointer to a declared structure? "an undeclared one in a signature 7"
+    fn declares(&self, rules: Rules, ty: u8) -> bool {
+        let declared = |n: u8| u32::from(n - STRUCTURE) < self.structures;
+        let all = self.edition.has_heap() && rules.wrong(Fault::UndeclaredTaken);
+        structure(ty).is_some_and(|n| declared(n) || all)
     }
 
     /// 8: "an unknown opcode, or an instruction crossing its body's end"
@@ -256,17 +346,18 @@ impl<'a> Module<'a> {
     }
 
     fn code(&self) -> &'a [u8] {
-        &self.file[self.code_at()..]
+        &self.file[self.code_at()..self.structures_at()]
     }
 
-    /// The four sections: constants, functions, labels, code.
-    pub fn sections(&self) -> [&'a [u8]; 4] {
+    /// The sections: constants, functions, labels, code, structures.
+    pub fn sections(&self) -> [&'a [u8]; 5] {
         let (functions, labels, code) = (self.functions_at(), self.labels_at(), self.code_at());
         [
-            HEADER..functions,
+            self.constants_at()..functions,
             functions..labels,
             labels..code,
-            code..self.file.len(),
+            code..self.structures_at(),
+            self.structures_at()..self.file.len(),
         ]
         .map(|section| &self.file[section])
     }
@@ -285,8 +376,20 @@ impl<'a> Module<'a> {
 
     /// Type and payload of a constant, if there is one of this number.
     pub fn constant(&self, n: u32) -> Option<(u8, u64)> {
-        let at = HEADER + CONSTANT * n as usize;
+        let at = self.constants_at() + CONSTANT * n as usize;
         (n < self.constants).then(|| (self.file[at], payload(self.file, at + 4)))
+    }
+
+    /// The field types of the structure of this type number, if there is one: "numbered from
+    /// 10".
+    pub fn fields(&self, ty: u32) -> Option<&'a [u8]> {
+        let n = ty.checked_sub(u32::from(STRUCTURE))?;
+        if n >= self.structures {
+            return None;
+        }
+        let at = self.structures_at() + STRUCTURE_RECORD * n as usize;
+        let count = self.file[at] as usize;
+        Some(&self.file[at + 1..at + 1 + count.min(8)])
     }
 
     /// The function of this number, if there is one.
@@ -327,6 +430,20 @@ impl<'a> Module<'a> {
         }
         Some(function)
     }
+}
+
+/// "field count 1 to 8, eight type bytes (3, 4, 6, unused 0), three zeros"
+fn structure_record(rules: Rules, record: &[u8]) -> bool {
+    let count = record[0] as usize;
+    if !(1..=8).contains(&count) {
+        return count == 0 && rules.wrong(Fault::NoFieldsTaken);
+    }
+    let (used, unused) = record[1..9].split_at(count);
+    let pointers = rules.wrong(Fault::PointerFieldTaken);
+    let known = |&ty: &u8| is_number(ty) || pointers && pointee(ty).is_some();
+    let unused = unused.iter().all(|&ty| ty == 0) || rules.wrong(Fault::UnusedFieldBytes);
+    let zeros = record[9..].iter().all(|&byte| byte == 0) || rules.wrong(Fault::StructureZeros);
+    used.iter().all(known) && unused && zeros
 }
 
 /// The number where there is a fault.

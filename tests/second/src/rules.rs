@@ -100,6 +100,60 @@ pub enum Fault {
     WritesThree,
     WritesTwo,
     EditionLast,
+    StructureInThree,
+    StructurePartFour,
+    EditionFourRefused,
+    HeapOpcodesInThree,
+    ShortFourIsThree,
+    SeventeenStructures,
+    NoStructuresOffset,
+    StructuresSeven,
+    NoFieldsTaken,
+    PointerFieldTaken,
+    UnusedFieldBytes,
+    StructureZeros,
+    StructureReturnRefused,
+    NumberPointerReturned,
+    UndeclaredTaken,
+    NullParameterTaken,
+    NullFits,
+    NullArgumentTyped,
+    NullThroughTyped,
+    WholeTyped,
+    PointersComparedApart,
+    AnyPointersInThree,
+    DeleteOfNumberUntyped,
+    HighestRun,
+    SmallestRun,
+    RunPastBlocks,
+    SerialReused,
+    NullTakesSerial,
+    NewKeepsCells,
+    FreeCellsKept,
+    EntriesKept,
+    TableByCell,
+    LargerCount,
+    HeapLimitForgotten,
+    HeapPastCapacityCleared,
+    OldHeapUntouched,
+    MisfitKeepsHeap,
+    NullIsZero,
+    NumberIsField,
+    FieldFromZero,
+    NullAfterUnknown,
+    WholeUnknown,
+    WholeAfterType,
+    FieldBeforeStructure,
+    FieldEarly,
+    FleaOfSlotUnknown,
+    FleaNeedsRoom,
+    TypeAfterRoom,
+    TypeByLowByte,
+    DeleteOfNullRaises,
+    DeleteOfSlot,
+    DeleteOfField,
+    DeleteTwice,
+    PointersSigned,
     GrammarBeforeLength,
     SpacesUncounted,
     LengthAtMost255,
@@ -508,7 +562,7 @@ pub const FAULTS: [(Fault, &str, &str); 76] = [
 ];
 
 /// The wrong variants of the writer.
-pub const WRITER_FAULTS: [(Fault, &str, &str); 19] = [
+pub const WRITER_FAULTS: [(Fault, &str, &str); 21] = [
     (
         Fault::LimitByBytes,
         "limit-by-bytes",
@@ -603,6 +657,276 @@ pub const WRITER_FAULTS: [(Fault, &str, &str); 19] = [
         Fault::EditionLast,
         "2-last",
         "another edition after the tables' refusals",
+    ),
+    (
+        Fault::StructureInThree,
+        "structure-in-3",
+        "a structure for another edition is left out",
+    ),
+    (
+        Fault::StructurePartFour,
+        "structure-part-4",
+        "part of a structure for another edition is 4",
+    ),
+];
+
+/// The wrong variants of reader, check and run in what edition 4 has of its own.
+pub const HEAP_FAULTS: [(Fault, &str, &str); 52] = [
+    (
+        Fault::EditionFourRefused,
+        "edition-4-refused",
+        "edition 4 is 2",
+    ),
+    (
+        Fault::HeapOpcodesInThree,
+        "06-in-3",
+        "edition 3 has flea, null, new and delete",
+    ),
+    (
+        Fault::ShortFourIsThree,
+        "short-4-is-3",
+        "a header of edition 4 under 56 bytes is 3",
+    ),
+    (
+        Fault::SeventeenStructures,
+        "structures-17",
+        "17 structures are taken",
+    ),
+    (
+        Fault::NoStructuresOffset,
+        "no-structures-offset",
+        "offset of no structures not looked at",
+    ),
+    (
+        Fault::StructuresSeven,
+        "structures-7",
+        "a bad structure record is 7",
+    ),
+    (
+        Fault::NoFieldsTaken,
+        "no-fields-taken",
+        "a structure without fields is taken",
+    ),
+    (
+        Fault::PointerFieldTaken,
+        "pointer-field-taken",
+        "a field that is a pointer is taken",
+    ),
+    (
+        Fault::UnusedFieldBytes,
+        "unused-field-bytes",
+        "unused field bytes not looked at",
+    ),
+    (
+        Fault::StructureZeros,
+        "structure-zeros",
+        "three last bytes of a structure not looked at",
+    ),
+    (
+        Fault::StructureReturnRefused,
+        "structure-return-refused",
+        "returning a pointer to a structure is 7",
+    ),
+    (
+        Fault::NumberPointerReturned,
+        "number-pointer-returned",
+        "a pointer to a number may be returned",
+    ),
+    (
+        Fault::UndeclaredTaken,
+        "undeclared-taken",
+        "an undeclared structure in a signature is taken",
+    ),
+    (
+        Fault::NullParameterTaken,
+        "80-in-signature",
+        "80 in a signature is taken",
+    ),
+    (
+        Fault::NullFits,
+        "null-fits",
+        "typing lets null stand for every pointer",
+    ),
+    (
+        Fault::NullArgumentTyped,
+        "null-argument",
+        "typing lets null be an argument",
+    ),
+    (
+        Fault::NullThroughTyped,
+        "null-through",
+        "typing lets tload, tstore, inc, dec follow null",
+    ),
+    (
+        Fault::WholeTyped,
+        "whole-typed",
+        "typing lets tload, tstore, inc, dec take a whole structure",
+    ),
+    (
+        Fault::PointersComparedApart,
+        "4-compares-apart",
+        "typing of edition 4 compares pointers of one type only",
+    ),
+    (
+        Fault::AnyPointersInThree,
+        "3-compares-any",
+        "typing of edition 3 compares any pointers",
+    ),
+    (
+        Fault::DeleteOfNumberUntyped,
+        "delete-of-number-untyped",
+        "typing lets delete take no pointer to a number",
+    ),
+    (
+        Fault::HighestRun,
+        "highest-run",
+        "new takes the highest run that fits",
+    ),
+    (
+        Fault::SmallestRun,
+        "smallest-run",
+        "new takes the smallest run that fits",
+    ),
+    (
+        Fault::RunPastBlocks,
+        "run-past-blocks",
+        "new takes cells past all blocks only",
+    ),
+    (
+        Fault::SerialReused,
+        "serial-reused",
+        "a deleted block's serial is given again",
+    ),
+    (
+        Fault::NullTakesSerial,
+        "null-takes-serial",
+        "a new that gives null counts a serial",
+    ),
+    (
+        Fault::NewKeepsCells,
+        "new-keeps-cells",
+        "new does not clear its cells",
+    ),
+    (
+        Fault::FreeCellsKept,
+        "free-cells-kept",
+        "free cells keep what they held",
+    ),
+    (
+        Fault::EntriesKept,
+        "entries-kept",
+        "entries after the live blocks are not cleared",
+    ),
+    (
+        Fault::TableByCell,
+        "table-by-cell",
+        "the table lists blocks by first cell",
+    ),
+    (
+        Fault::LargerCount,
+        "larger-count",
+        "heap capacity by the larger count",
+    ),
+    (
+        Fault::HeapLimitForgotten,
+        "heap-limit-forgotten",
+        "heap capacity over 4,096",
+    ),
+    (
+        Fault::HeapPastCapacityCleared,
+        "heap-past-capacity",
+        "cells and entries past the capacity are cleared",
+    ),
+    (
+        Fault::OldHeapUntouched,
+        "old-heap-untouched",
+        "heap untouched in editions 1 and 3",
+    ),
+    (
+        Fault::MisfitKeepsHeap,
+        "misfit-keeps-heap",
+        "arguments that don't fit leave the heap",
+    ),
+    (Fault::NullIsZero, "null-is-0", "null is slot 0"),
+    (
+        Fault::NumberIsField,
+        "number-is-field",
+        "new of a number gives its field 0",
+    ),
+    (
+        Fault::FieldFromZero,
+        "field-from-0",
+        "field 0 is the whole block",
+    ),
+    (
+        Fault::NullAfterUnknown,
+        "36-after-33",
+        "null followed is 33",
+    ),
+    (
+        Fault::WholeUnknown,
+        "50-is-33",
+        "a whole structure followed is 33",
+    ),
+    (
+        Fault::WholeAfterType,
+        "50-after-22",
+        "tstore to a whole structure is 22",
+    ),
+    (
+        Fault::FieldBeforeStructure,
+        "38-before-39",
+        "flea of no structure is 38",
+    ),
+    (
+        Fault::FieldEarly,
+        "38-early",
+        "a field number over 7 with numbers out of range",
+    ),
+    (
+        Fault::FleaOfSlotUnknown,
+        "flea-of-slot-33",
+        "flea of a slot is 33",
+    ),
+    (
+        Fault::FleaNeedsRoom,
+        "flea-needs-room",
+        "flea on a full stack is 20",
+    ),
+    (
+        Fault::TypeAfterRoom,
+        "37-after-20",
+        "new on a full stack is 20 before 37",
+    ),
+    (
+        Fault::TypeByLowByte,
+        "type-by-low-byte",
+        "new takes the low byte of its type number",
+    ),
+    (
+        Fault::DeleteOfNullRaises,
+        "delete-of-null-36",
+        "delete of null is 36",
+    ),
+    (
+        Fault::DeleteOfSlot,
+        "delete-of-slot",
+        "delete of a slot does nothing",
+    ),
+    (
+        Fault::DeleteOfField,
+        "delete-of-field",
+        "delete of a field takes its block",
+    ),
+    (
+        Fault::DeleteTwice,
+        "delete-twice",
+        "delete of no live block does nothing",
+    ),
+    (
+        Fault::PointersSigned,
+        "pointers-signed",
+        "pointers compare signed",
     ),
 ];
 
@@ -768,6 +1092,7 @@ impl Rules {
     pub fn named(name: &str) -> Option<Rules> {
         FAULTS
             .iter()
+            .chain(&HEAP_FAULTS)
             .chain(&WRITER_FAULTS)
             .chain(&FORMULA_FAULTS)
             .find(|(_, n, _)| *n == name)

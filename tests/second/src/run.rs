@@ -1,5 +1,6 @@
-//! A run as the host calls it: answers 1 to 9, 12, 13, and outcomes with the lent stack.
+//! A run as the host calls it: answers 1 to 9, 12, 13, and outcomes with the lent stack and heap.
 
+use crate::heap::{self, Heap, LentHeap};
 use crate::machine::{Machine, Slot, Unwatched, Watch};
 use crate::reader::{read, Function, Module, ENTRY};
 use crate::rules::{Fault, Rules};
@@ -33,8 +34,14 @@ pub enum Ran {
     },
 }
 
-pub fn run(rules: Rules, file: &[u8], call: Call<'_>, stack: LentStack<'_>) -> Ran {
-    run_watched(rules, file, call, stack, &mut Unwatched)
+pub fn run(
+    rules: Rules,
+    file: &[u8],
+    call: Call<'_>,
+    stack: LentStack<'_>,
+    heap: LentHeap<'_>,
+) -> Ran {
+    run_watched(rules, file, call, stack, heap, &mut Unwatched)
 }
 
 pub fn run_watched(
@@ -42,6 +49,7 @@ pub fn run_watched(
     file: &[u8],
     call: Call<'_>,
     stack: LentStack<'_>,
+    lent: LentHeap<'_>,
     watch: &mut dyn Watch,
 ) -> Ran {
     // "A run of a module that was not accepted is allowed and equally defined; one that can't
@@ -55,12 +63,17 @@ pub fn run_watched(
         Err(number) => return Ran::Refused(number),
     };
     let capacity = capacity(rules, &stack);
+    let heap = Heap::new(rules, heap::capacity(rules, &lent));
     if arguments.len() > capacity {
-        return misfit(rules, capacity, stack);
+        return misfit(rules, capacity, stack, heap, lent);
     }
-    let mut machine = Machine::new(rules, module, call.function, arguments, capacity);
+    let mut machine = Machine::new(rules, module, call.function, arguments, capacity, heap);
     let outcome = machine.run(call.allowance, watch);
     write_back(rules, &machine.stack, capacity, stack);
+    // "After a run", of any edition
+    if module.edition.has_heap() || !rules.wrong(Fault::OldHeapUntouched) {
+        heap::write_back(rules, &machine.heap, lent);
+    }
     Ran::Ended {
         outcome,
         steps: machine.steps,
@@ -68,10 +81,20 @@ pub fn run_watched(
     }
 }
 
-/// "if they don't fit: 20, no steps, height 0"; it is a run, after which slots are zero.
-fn misfit(rules: Rules, capacity: usize, stack: LentStack<'_>) -> Ran {
+/// "if they don't fit: 20, no steps, height 0"; it is a run, after which slots are zero, and so
+/// are cells and entries.
+fn misfit(
+    rules: Rules,
+    capacity: usize,
+    stack: LentStack<'_>,
+    heap: Heap,
+    lent: LentHeap<'_>,
+) -> Ran {
     if !rules.wrong(Fault::MisfitKeepsMemory) {
         write_back(rules, &[], capacity, stack);
+    }
+    if !rules.wrong(Fault::MisfitKeepsHeap) {
+        heap::write_back(rules, &heap, lent);
     }
     let (outcome, steps, height) = (20, 0, 0);
     Ran::Ended {

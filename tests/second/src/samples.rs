@@ -1,7 +1,10 @@
 //! The samples: W1 to W12 of the paper and more modules that show a rule each.
 
+mod heap;
+
 use crate::asm;
 use crate::hex;
+pub use heap::HEAP;
 
 /// One sample module.
 pub struct Sample {
@@ -792,6 +795,7 @@ pub fn all() -> impl Iterator<Item = &'static Sample> {
         .chain(&LIMITS)
         .chain(&REFUSED)
         .chain(&OLD)
+        .chain(&HEAP)
 }
 
 /// A formula line, and the parameters of runs of its module.

@@ -1,6 +1,7 @@
 //! What the small program prints.
 
 use crate::check::{check, Checked, RECORD};
+use crate::heap::{LentHeap, CELL, ENTRY as BLOCK};
 use crate::reader::{ENTRY, LONGEST, MAX_LABELS};
 use crate::rules::Rules;
 use crate::run::{run, Call, LentStack, Ran};
@@ -23,6 +24,9 @@ pub fn small(rules: Rules, input: &[u8]) -> String {
     }
 }
 
+/// "(the program lends 1,024)"; nothing of it is printed.
+const LENT_CELLS: usize = 1024;
+
 /// What is printed of a run of an accepted module.
 pub fn ran(
     rules: Rules,
@@ -32,6 +36,7 @@ pub fn ran(
     arg_payloads: &[u8],
 ) -> String {
     let (mut payloads, mut types) = (vec![0; 8 * 4096], vec![0; 4096]);
+    let (mut cells, mut blocks) = (vec![0; CELL * LENT_CELLS], vec![0; BLOCK * LENT_CELLS]);
     let call = Call {
         function,
         arg_types,
@@ -42,7 +47,11 @@ pub fn ran(
         payloads: &mut payloads,
         types: &mut types,
     };
-    match run(rules, file, call, stack) {
+    let heap = LentHeap {
+        cells: &mut cells,
+        blocks: &mut blocks,
+    };
+    match run(rules, file, call, stack, heap) {
         Ran::Refused(number) => format!("{number}\n"),
         Ran::Ended {
             outcome,

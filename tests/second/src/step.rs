@@ -1,7 +1,8 @@
 //! One instruction on the machine.
 //!
 //! "Within one instruction the order is: 30; number out of range; 21; 31; 33; 32; 22; 34; 24;
-//! 20.", with document 02's "35 DOUBLE_UNORDERED, after 24 in the order". Every function here tests in this order and changes the state only after its last
+//! 20.", with document 02's "35 DOUBLE_UNORDERED, after 24 in the order" and A6's numbers (in
+//! `pointers`). Every function here tests in this order and changes the state only after its last
 //! test: an instruction that raises "leaves the state as before it".
 
 use crate::machine::{Frame, Machine, Slot};
@@ -9,7 +10,7 @@ use crate::opcode::{Edition, Op};
 use crate::reader::{Instruction, ENTRY};
 use crate::rules::{Fault, Rules};
 use crate::types::{run_time, DOUBLE, INT, LONG, POINTER};
-use crate::{convert, double, integer};
+use crate::{convert, double, integer, pointers};
 
 #[derive(Clone, Copy, Debug, PartialEq, Eq)]
 pub enum Flow {
@@ -31,8 +32,12 @@ pub fn step(m: &mut Machine<'_>, at: Instruction) -> Result<Flow, u32> {
         Op::Lea => lea(m, at.operand)?,
         Op::Copy => copy(m)?,
         Op::Swap => swap(m)?,
-        Op::Tload => tload(m)?,
-        Op::Tstore => tstore(m)?,
+        Op::Tload => pointers::tload(m)?,
+        Op::Tstore => pointers::tstore(m)?,
+        Op::Flea => pointers::flea(m, at.operand)?,
+        Op::Null => pointers::null(m)?,
+        Op::New => pointers::new(m, at.operand)?,
+        Op::Delete => pointers::delete(m)?,
         Op::Inc | Op::Dec => by_one(m, at.op)?,
         Op::Neg | Op::Not => unary(m, at.op)?,
         Op::Toi | Op::Tol | Op::Tod => conversion(m, at.op)?,
@@ -46,7 +51,7 @@ pub fn step(m: &mut Machine<'_>, at: Instruction) -> Result<Flow, u32> {
     Ok(Flow::Goes)
 }
 
-fn raise(fault: bool, number: u32) -> Result<(), u32> {
+pub fn raise(fault: bool, number: u32) -> Result<(), u32> {
     if fault {
         Err(number)
     } else {
@@ -55,24 +60,24 @@ fn raise(fault: bool, number: u32) -> Result<(), u32> {
 }
 
 /// The `count` topmost operands, deepest first. "21: too few operands in the frame."
-fn operands(m: &Machine<'_>, count: usize) -> Result<Vec<Slot>, u32> {
+pub fn operands(m: &Machine<'_>, count: usize) -> Result<Vec<Slot>, u32> {
     let own = m.stack.len() - m.frame().operands();
     raise(own < count, 21)?;
     Ok(m.stack[m.stack.len() - count..].to_vec())
 }
 
-fn drop_operands(m: &mut Machine<'_>, count: usize) {
+pub fn drop_operands(m: &mut Machine<'_>, count: usize) {
     m.stack.truncate(m.stack.len() - count);
 }
 
 /// Takes operands away and puts one value in their place.
-fn replace(m: &mut Machine<'_>, count: usize, value: Slot) {
+pub fn replace(m: &mut Machine<'_>, count: usize, value: Slot) {
     drop_operands(m, count);
     m.stack.push(value);
 }
 
 /// 20 where no slot is left.
-fn room(m: &Machine<'_>) -> Result<(), u32> {
+pub fn room(m: &Machine<'_>) -> Result<(), u32> {
     raise(m.stack.len() >= m.capacity, 20)
 }
 
@@ -162,62 +167,17 @@ fn swap(m: &mut Machine<'_>) -> Result<(), u32> {
     Ok(())
 }
 
-/// The slot that a pointer operand reaches, `taken` operands being taken. "an address not
-/// below the height left after the operands are taken is 33"
-fn reached(m: &Machine<'_>, pointer: Slot, taken: usize) -> Result<usize, u32> {
-    raise(pointer.ty != POINTER, 31)?;
-    let height = if m.rules.wrong(Fault::AddressAgainstFullHeight) {
-        m.stack.len()
-    } else {
-        m.stack.len() - taken
-    };
-    raise(pointer.payload >= height as u64, 33)?;
-    Ok(pointer.payload as usize)
-}
-
-/// 003: copies what the pointer on top points to, in place of the pointer.
-fn tload(m: &mut Machine<'_>) -> Result<(), u32> {
-    let pointer = operands(m, 1)?[0];
-    let slot = reached(m, pointer, 1)?;
-    if m.rules.wrong(Fault::TloadOfPointerRaises) {
-        raise(m.stack[slot].ty == POINTER, 32)?;
-    }
-    replace(m, 1, m.stack[slot]);
-    Ok(())
-}
-
-/// 003: the top goes where the pointer under it points; both are removed.
-/// "`tstore` needs a value of the type of what it writes to (22)."
-fn tstore(m: &mut Machine<'_>) -> Result<(), u32> {
-    let pair = operands(m, 2)?;
-    let slot = reached(m, pair[0], 2)?;
-    if m.rules.wrong(Fault::TstoreOfPointerRaises) {
-        raise(pair[1].ty == POINTER, 32)?;
-    }
-    raise(m.stack[slot].ty != pair[1].ty, 22)?;
-    m.stack[slot] = pair[1];
-    drop_operands(m, 2);
-    Ok(())
-}
-
-/// Edition 3: "`inc`, `dec` work through the pointer, by 1 wrapping or by 1.0 rounded once; a pointer
-/// there is 32."
+/// Edition 1: "There `inc` and `dec` change the top value itself."; else through the pointer.
 fn by_one(m: &mut Machine<'_>, op: Op) -> Result<(), u32> {
     let old = m.module.edition == Edition::One;
     if old && !m.rules.wrong(Fault::OldIncThroughPointer) {
         return top_by_one(m, op);
     }
-    let pointer = operands(m, 1)?[0];
-    let slot = reached(m, pointer, 1)?;
-    let Slot { ty, payload } = m.stack[slot];
-    raise(ty == POINTER, 32)?;
-    m.stack[slot].payload = one_more(m.rules, op, ty, payload);
-    drop_operands(m, 1);
-    Ok(())
+    pointers::by_one(m, op)
 }
 
 /// "by 1 wrapping or by 1.0 rounded once"
-fn one_more(rules: Rules, op: Op, ty: u8, payload: u64) -> u64 {
+pub fn one_more(rules: Rules, op: Op, ty: u8, payload: u64) -> u64 {
     let one = if op == Op::Inc { 1 } else { -1 };
     match width(ty) {
         Some(_) if rules.wrong(Fault::IncCarries) => integer::wrap(64, i128::from(payload) + one),
@@ -304,7 +264,7 @@ fn conversion(m: &mut Machine<'_>, op: Op) -> Result<(), u32> {
 }
 
 /// "`cmp`, `icmp`: A > B gives 1, equal 0, anything else -1. Pointers compare by slot.": 21, 22,
-/// 35.
+/// 35. "`cmp` and `icmp` on pointers go by payload, unsigned."
 fn compare(m: &mut Machine<'_>, op: Op) -> Result<(), u32> {
     let pair = operands(m, 2)?;
     let (a, b) = (pair[0], pair[1]);
@@ -331,6 +291,10 @@ fn compare(m: &mut Machine<'_>, op: Op) -> Result<(), u32> {
         (true, Some(width)) => order(
             integer::signed(width, a.payload),
             integer::signed(width, b.payload),
+        ),
+        _ if a.ty == POINTER && m.rules.wrong(Fault::PointersSigned) => order(
+            integer::signed(64, a.payload),
+            integer::signed(64, b.payload),
         ),
         _ => order(i128::from(a.payload), i128::from(b.payload)),
     };
@@ -420,7 +384,8 @@ fn ret(m: &mut Machine<'_>) -> Result<Flow, u32> {
     let mut value = None;
     if returns != 0 {
         let top = operands(m, 1)?[0];
-        raise(top.ty != returns, 22)?;
+        // "functions may return those": a pointer only as a pointer
+        raise(top.ty != run_time(returns), 22)?;
         value = Some(top);
     }
     let frame = m.frame().clone();

@@ -2,6 +2,7 @@
 
 use crate::check::{check, Checked};
 use crate::formula::formula;
+use crate::heap::LentHeap;
 use crate::machine::{Unwatched, Watch};
 use crate::memory::{CheckMemory, FormulaMemory, RunMemory, WriteMemory};
 use crate::rules::Rules;
@@ -12,7 +13,7 @@ pub trait Subject {
     /// The paper's number; the out-parameter `body` is written with 11 only.
     fn check(&mut self, memory: &mut CheckMemory) -> u32;
 
-    /// The paper's number; `steps` and `height` are written with 0, 15 and 20 to 35 only.
+    /// The paper's number; `steps` and `height` are written with 0, 15 and the exceptions only.
     fn run(&mut self, function: u32, allowance: u64, memory: &mut RunMemory) -> u32;
 
     /// The paper's number; `written` is written with 0 only.
@@ -40,6 +41,7 @@ impl Subject for Second {
             constants: memory.constants.slice(),
             functions: memory.functions.slice(),
             labels: memory.labels.slice(),
+            structures: memory.structures.slice(),
             code: memory.code.slice(),
             entry_length: memory.entry_length,
         };
@@ -76,7 +78,11 @@ impl Second {
             payloads: memory.payloads.slice_mut(),
             types: memory.types.slice_mut(),
         };
-        let ran = run_watched(self.0, memory.module.slice(), call, stack, watch);
+        let heap = LentHeap {
+            cells: memory.heap.slice_mut(),
+            blocks: memory.blocks.slice_mut(),
+        };
+        let ran = run_watched(self.0, memory.module.slice(), call, stack, heap, watch);
         ran_number(ran, &mut memory.steps, &mut memory.height)
     }
 }

@@ -1,11 +1,11 @@
-//! The writer, document 02's A1 and A5: answers 2, 4 to 9 and 16, and the module that is
-//! written, of either edition.
+//! The writer, document 02's A1, A5 and A6: answers 2, 4 to 9 and 16, and the module that is
+//! written, of any edition.
 
 use crate::check::{check, Checked, RECORD};
 use crate::opcode::Edition;
 use crate::reader::{
-    read, refuse, Module, CONSTANT, FUNCTION, HEADER, LABEL, MAX_CODE, MAX_CONSTANTS,
-    MAX_FUNCTIONS, MAX_LABELS,
+    header, read, refuse, Module, CONSTANT, FUNCTION, HEADER, LABEL, MAX_CODE, MAX_CONSTANTS,
+    MAX_FUNCTIONS, MAX_LABELS, MAX_STRUCTURES, STRUCTURE_RECORD,
 };
 use crate::rules::{Fault, Rules};
 use crate::types::INT;
@@ -20,6 +20,8 @@ pub struct Tables<'a> {
     pub constants: &'a [u8],
     pub functions: &'a [u8],
     pub labels: &'a [u8],
+    /// "A1 writes it too (a structure for another edition is 4)"
+    pub structures: &'a [u8],
     pub code: &'a [u8],
     pub entry_length: u32,
 }
@@ -29,11 +31,11 @@ pub struct Tables<'a> {
 /// number".
 pub fn write(rules: Rules, tables: Tables<'_>, out: &mut [u8]) -> Result<usize, u32> {
     if rules.wrong(Fault::OutputFirst) {
-        refuse(out.len() < tables.length(), 16)?;
+        refuse(out.len() < tables.length(rules), 16)?;
     }
     // "Refusals: the reader's 4 to 9 (part of a record at a table's end is 5); then 16, output
     // too short."
-    // "2, now A1's too, means neither 1 nor 3"
+    // "2, now A1's too"; "2 now means none of 1, 3 and 4"
     let known =
         Edition::from_word(rules, tables.edition).is_some() || rules.wrong(Fault::WritesTwo);
     if !rules.wrong(Fault::EditionLast) {
@@ -104,34 +106,58 @@ fn ends_in_part(rules: Rules, (table, record, _): Table<'_>) -> bool {
 impl<'a> Tables<'a> {
     /// The tables of a module that was read.
     pub fn of(module: Module<'a>) -> Tables<'a> {
-        let [constants, functions, labels, code] = module.sections();
+        let [constants, functions, labels, code, structures] = module.sections();
         Tables {
             edition: module.edition.word(),
             constants,
             functions,
             labels,
+            structures,
             code,
             entry_length: module.entry_length,
         }
     }
 
-    fn each(&self) -> [Table<'a>; 4] {
+    /// Has the edition that is asked for structures?
+    fn has_structures(&self) -> bool {
+        self.edition == Edition::Four.word()
+    }
+
+    /// The tables in the order of the file.
+    fn each(&self, rules: Rules) -> [Table<'a>; 5] {
+        // "a structure for another edition is 4"
+        let structures = if self.has_structures() {
+            MAX_STRUCTURES + u32::from(rules.wrong(Fault::SeventeenStructures))
+        } else if rules.wrong(Fault::StructureInThree) {
+            u32::MAX
+        } else {
+            0
+        };
         [
             (self.constants, CONSTANT, MAX_CONSTANTS),
             (self.functions, FUNCTION, MAX_FUNCTIONS),
             (self.labels, LABEL, MAX_LABELS),
             (self.code, 1, MAX_CODE),
+            (self.structures, STRUCTURE_RECORD, structures),
         ]
     }
 
+    /// Bytes of the header.
+    fn header(&self, rules: Rules) -> usize {
+        Edition::from_word(rules, self.edition).map_or(HEADER, header)
+    }
+
     /// The module's length, its header included.
-    fn length(&self) -> usize {
-        HEADER + self.each().iter().map(|table| table.0.len()).sum::<usize>()
+    fn length(&self, rules: Rules) -> usize {
+        let tables = self.each(rules);
+        self.header(rules) + tables.iter().map(|table| table.0.len()).sum::<usize>()
     }
 
     /// 4 of any table, then 5 of any: "The first in number order is given."
     fn limits_and_parts(&self, rules: Rules) -> Result<(), u32> {
-        let tables = self.each();
+        let tables = self.each(rules);
+        let part = !self.structures.is_empty() && !self.has_structures();
+        refuse(part && rules.wrong(Fault::StructurePartFour), 4)?;
         if rules.wrong(Fault::TableByTable) {
             for table in tables {
                 refuse(over_limit(rules, table), 4)?;
@@ -149,9 +175,10 @@ impl<'a> Tables<'a> {
         refuse(parts || longer, 5)
     }
 
-    /// "A header of counts and offsets, then four sections without gaps."
+    /// "A header of counts and offsets, then four sections without gaps."; in edition 4 "words 48
+    /// and 52: structure count, at most 16, and offset" and "a last section".
     fn file(&self, rules: Rules) -> Vec<u8> {
-        let mut file = vec![0; HEADER];
+        let mut file = vec![0; self.header(rules)];
         let put = |file: &mut Vec<u8>, at: usize, number: usize| {
             file[at..at + 4].copy_from_slice(&(number as u32).to_le_bytes());
         };
@@ -159,13 +186,17 @@ impl<'a> Tables<'a> {
         if rules.wrong(Fault::WritesThree) {
             put(&mut file, 0, 3);
         }
-        for (n, (table, record, _)) in self.each().into_iter().enumerate() {
+        let words = [8, 16, 24, 32, 48];
+        for ((table, record, _), at) in self.each(rules).into_iter().zip(words) {
+            if at == 48 && !self.has_structures() {
+                continue;
+            }
             let count = table.len() / record;
-            put(&mut file, 8 + 8 * n, count);
+            put(&mut file, at, count);
             let offset = file.len();
-            put(&mut file, 12 + 8 * n, offset);
+            put(&mut file, at + 4, offset);
             if count == 0 && rules.wrong(Fault::EmptySectionUnplaced) {
-                put(&mut file, 12 + 8 * n, 0);
+                put(&mut file, at + 4, 0);
             }
             file.extend(&table[..count * record]);
         }
@@ -179,19 +210,20 @@ impl<'a> Tables<'a> {
     /// Wrong on purpose: records put right instead of refused.
     fn mend(&self, rules: Rules, file: &mut [u8]) {
         let (constants, functions) = (self.constants.len(), self.functions.len());
+        let start = self.header(rules);
         if rules.wrong(Fault::UpperBytesCleared) {
-            for record in file[HEADER..HEADER + constants].chunks_mut(CONSTANT) {
+            for record in file[start..start + constants].chunks_mut(CONSTANT) {
                 if word(record, 0) == u32::from(INT) {
                     record[8..].fill(0);
                 }
             }
         }
         if rules.wrong(Fault::StartsComputed) {
-            let mut start = self.entry_length;
-            let from = HEADER + constants;
+            let mut place = self.entry_length;
+            let from = start + constants;
             for record in file[from..from + functions].chunks_mut(FUNCTION) {
-                record[..4].copy_from_slice(&start.to_le_bytes());
-                start = start.wrapping_add(word(record, 4));
+                record[..4].copy_from_slice(&place.to_le_bytes());
+                place = place.wrapping_add(word(record, 4));
             }
         }
     }

@@ -1,5 +1,5 @@
 //! Edition 1: each of its 37 opcode numbers on the machine, in bytes; what `inc` and `dec` do;
-//! refusals at their edges; and that a recipe that both editions have does the same in both.
+//! refusals at their edges; and that a recipe that all editions have does the same in all.
 
 mod common;
 
@@ -44,10 +44,14 @@ fn thirty_seven_numbers() {
     }
     let lacking = ALL.iter().filter(|(op, _)| op.byte(Edition::One).is_none());
     let lacking: Vec<&str> = lacking.map(|&(_, name)| name).collect();
-    assert_eq!(lacking, ["lea", "tload", "tstore", "copy", "swap"]);
-    for (op, _) in ALL {
-        let byte = op.byte(Edition::Three).expect("all are of edition 3");
-        assert_eq!(Op::from_byte(Rules::PLAIN, Edition::Three, byte), Some(op));
+    let heap = ["null", "new", "delete"];
+    let pointers = ["lea", "flea", "tload", "tstore", "copy", "swap"];
+    assert_eq!(lacking, [&pointers[..], &heap].concat());
+    for edition in [Edition::Three, Edition::Four] {
+        for op in edition.ops() {
+            let byte = op.byte(edition).expect("an opcode of the edition");
+            assert_eq!(Op::from_byte(Rules::PLAIN, edition, byte), Some(op));
+        }
     }
     // the stated checks have every number but `ret`, which stands in their function
     for byte in (0x01..=0x25).filter(|&byte| byte != 0x22) {
@@ -233,7 +237,7 @@ fn unordered() {
     assert_eq!((outcome(&text), checked(&text)), ((22, 2), 11));
 }
 
-/// "2 ... means neither 1 nor 3"; "No pointer types in signatures (7)."
+/// "2 now means none of 1, 3 and 4"; "No pointer types in signatures (7)."
 #[test]
 fn refusals() {
     let good = asm::file("edition 1; int 7; entry: push 0; function void (int): ret");
@@ -247,7 +251,7 @@ fn refusals() {
         }
         number
     };
-    for word in [0u32, 2, 4, 5, 257, 0x0100_0001, 0x0001_0003, u32::MAX] {
+    for word in [0u32, 2, 5, 6, 257, 0x0100_0001, 0x0001_0003, u32::MAX] {
         assert_eq!(with(0, &word.to_le_bytes()), 2, "{word}");
     }
     assert_eq!(answer(&good[..47]), 1);
@@ -284,9 +288,9 @@ fn refusals() {
 }
 
 /// Programs that have no `inc` and `dec`, the only instructions that differ, and nothing that
-/// edition 1 lacks: written in either edition they are checked and run alike.
+/// edition 1 lacks: written in any edition they are checked and run alike.
 #[test]
-fn the_same_in_both_editions() {
+fn the_same_in_all_editions() {
     let (mut compared, mut accepted) = (0, 0);
     for number in 0..6000 {
         let mut rng = Rng::for_case(12, number);
@@ -316,7 +320,7 @@ fn has_inc(program: &Program) -> bool {
     code.any(|instr| matches!(instr.op, Op::Inc | Op::Dec))
 }
 
-/// Is the program accepted? In both editions everything is the same.
+/// Is the program accepted? In all editions everything is the same.
 fn same(rng: &mut Rng, mut program: Program) -> bool {
     let files = EDITIONS.map(|edition| {
         program.edition = edition;
@@ -328,10 +332,11 @@ fn same(rng: &mut Rng, mut program: Program) -> bool {
         (format!("{checked:?}"), room)
     });
     assert_eq!(rooms[0], rooms[1], "{program:?}");
+    assert_eq!(rooms[0], rooms[2], "{program:?}");
     let runs = calls::runs(rng, &files[0]);
     let ran = files.map(|module| {
         let case = Case {
-            kind: "both",
+            kind: "all",
             module,
             room: Vec::new(),
             runs: runs.clone(),
@@ -344,13 +349,15 @@ fn same(rng: &mut Rng, mut program: Program) -> bool {
                 answer,
                 memory.payloads,
                 memory.types,
-                memory.steps,
-                memory.height,
+                memory.heap,
+                memory.blocks,
+                (memory.steps, memory.height),
             )
         };
         case.runs.iter().map(run).collect::<Vec<_>>()
     });
     assert_eq!(ran[0], ran[1], "{program:?}");
+    assert_eq!(ran[0], ran[2], "{program:?}");
     rooms[0].0 == "Accepted"
 }
 
@@ -380,20 +387,21 @@ fn samples_in_both_editions() {
     assert!(pairs >= 19, "{pairs}");
 }
 
-/// Generated modules are of both editions.
+/// Generated modules are of all editions.
 #[test]
 fn generated_editions() {
-    let mut counts = [0; 2];
-    let mut read_in = [0; 2];
+    let mut counts = [0; 3];
+    let mut read_in = [0; 3];
+    let place = |edition: Edition| EDITIONS.iter().position(|&e| e == edition);
     for number in 0..2000 {
         let mut rng = Rng::for_case(3, number);
-        counts[usize::from(edition(&mut rng) == Edition::One)] += 1;
+        counts[place(edition(&mut rng)).unwrap_or(0)] += 1;
         if let Ok(module) = read(Rules::PLAIN, &Case::without_runs(3, number).module) {
-            read_in[usize::from(module.edition == Edition::One)] += 1;
+            read_in[place(module.edition).unwrap_or(0)] += 1;
         }
     }
     assert!(
-        counts.iter().chain(&read_in).all(|&count| count > 500),
+        counts.iter().chain(&read_in).all(|&count| count > 400),
         "{counts:?}, {read_in:?}"
     );
 }

@@ -5,6 +5,7 @@ mod common;
 use common::*;
 use second::asm;
 use second::check::{check, Checked};
+use second::heap::LentHeap;
 use second::reader::ENTRY;
 use second::rules::Rules;
 use second::run::{run, Call, LentStack, Ran};
@@ -202,7 +203,11 @@ fn capacity(payloads: usize, types: usize) -> usize {
         payloads: &mut lent,
         types: &mut lent_types,
     };
-    let ran = run(Rules::PLAIN, &asm::file("entry:"), call, stack);
+    let heap = LentHeap {
+        cells: &mut [],
+        blocks: &mut [],
+    };
+    let ran = run(Rules::PLAIN, &asm::file("entry:"), call, stack, heap);
     let (outcome, steps, height) = (0, 0, 0);
     let ended = Ran::Ended {
         outcome,

@@ -4,6 +4,7 @@ mod common;
 use common::*;
 use second::asm;
 use second::check::{check, Checked};
+use second::heap::LentHeap;
 use second::reader::{read, ENTRY, LONGEST};
 use second::rules::Rules;
 use second::run::{run, Call, LentStack, Ran};
@@ -262,13 +263,16 @@ fn thirteen_lengths() {
             payloads: &mut lent,
             types: &mut lent_types,
         };
-        let ran = run(Rules::PLAIN, &file, call, stack);
+        let (mut cells, mut blocks) = ([0xEE; 16], [0xEE; 48]);
+        let heap = LentHeap {
+            cells: &mut cells,
+            blocks: &mut blocks,
+        };
+        let ran = run(Rules::PLAIN, &file, call, stack, heap);
         if matches!(ran, Ran::Refused(_)) {
-            assert_eq!(
-                (lent, lent_types),
-                ([0xEE; 80], [0xEE; 10]),
-                "memory unchanged"
-            );
+            let stack = (lent, lent_types);
+            assert_eq!(stack, ([0xEE; 80], [0xEE; 10]), "memory unchanged");
+            assert_eq!((cells, blocks), ([0xEE; 16], [0xEE; 48]));
         }
         ran
     };
@@ -286,7 +290,8 @@ fn thirteen_lengths() {
 
 #[test]
 fn longest() {
-    assert_eq!(LONGEST, 33_328);
+    // 56 + 12 · 1,024 + 20 · 128 + 8 · 256 + 16,384 + 12 · 16, of edition 4
+    assert_eq!(LONGEST, 33_528);
     let mut file = asm::file("entry:");
     file.resize(LONGEST + 1, 0);
     assert_eq!(read(Rules::PLAIN, &file).err(), Some(3));

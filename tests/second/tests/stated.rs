@@ -1,13 +1,29 @@
-//! The second program gives what is stated, and the stated checks alone tell wrong checkers.
+//! The second program gives what is stated, and the stated checks and runs alone tell wrong
+//! checkers and machines.
 
-use second::rules::Rules;
-use second::stated;
+use second::rules::{Rules, HEAP_FAULTS};
+use second::stated::{self, runs};
 use second::subject::Second;
 
 #[test]
 fn the_second_program_gives_what_is_stated() {
     for stated in stated::all() {
         assert_eq!(stated.difference(&mut Second(Rules::PLAIN)), None);
+    }
+    for stated in runs::all() {
+        assert_eq!(stated.difference(&mut Second(Rules::PLAIN)), None);
+    }
+}
+
+/// Each wrong variant of edition 4 is told by a stated check or a stated run.
+#[test]
+fn wrong_heaps_are_told() {
+    let (checks, runs) = (stated::all(), runs::all());
+    for (fault, name, _) in HEAP_FAULTS {
+        let mut wrong = Second(Rules::with(fault));
+        let told = checks.iter().any(|s| s.difference(&mut wrong).is_some())
+            || runs.iter().any(|s| s.difference(&mut wrong).is_some());
+        assert!(told, "{name}");
     }
 }
 

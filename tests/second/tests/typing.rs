@@ -69,12 +69,14 @@ fn demand_3_on_a_sample() {
         if Second(PLAIN).check(&mut case.check_memory()) != 0 {
             continue;
         }
+        let edition = read(PLAIN, &case.module).expect("a module").edition;
         for run in &case.runs {
             let mut claims = Claims::default();
             let mut memory = case.run_memory(run);
             let answer = second.run_watched(run.function, run.allowance, &mut memory, &mut claims);
             let refused = [12, 13].contains(&answer);
-            assert!(refused || is_an_end_of_demand_3(answer), "case {number}");
+            let end = is_an_end_of_demand_3(edition, answer);
+            assert!(refused || end, "case {number}");
             assert_eq!(claims.broken, 0, "case {number}");
         }
     }

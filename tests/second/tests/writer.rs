@@ -18,12 +18,22 @@ fn the_second_program_gives_what_is_stated() {
 }
 
 /// Wrong variants of the reader that a writer shows too.
-const WRONG_READERS: [&str; 5] = [
+const WRONG_READERS: [&str; 15] = [
     "label-on-body-end",
     "labels-before-code",
     "functions-one-by-one",
     "unused-parameter-bytes",
     "constant-type-byte",
+    "edition-4-refused",
+    "06-in-3",
+    "structures-7",
+    "structures-17",
+    "no-fields-taken",
+    "pointer-field-taken",
+    "unused-field-bytes",
+    "structure-zeros",
+    "80-in-signature",
+    "undeclared-taken",
 ];
 
 #[test]

@@ -6,6 +6,7 @@ mod misuse;
 
 use second::check::check;
 use second::formula::formula;
+use second::heap::LentHeap;
 use second::rules::Rules;
 use second::run::{run, Call, LentStack};
 use second::subject::{checked_number, ran_number, wrote_number};
@@ -79,6 +80,10 @@ pub unsafe extern "C" fn limpetskein_run(
     payloads_len: usize,
     types: *mut u8,
     types_len: usize,
+    heap: *mut u8,
+    heap_len: usize,
+    blocks: *mut u8,
+    blocks_len: usize,
     steps: *mut u64,
     height: *mut u64,
 ) -> u32 {
@@ -92,9 +97,14 @@ pub unsafe extern "C" fn limpetskein_run(
         payloads: lent_mut(payloads, payloads_len),
         types: lent_mut(types, types_len),
     };
-    let answer = run(rules(), lent(module, module_len), call, stack);
+    let lent_heap = LentHeap {
+        cells: lent_mut(heap, heap_len),
+        blocks: lent_mut(blocks, blocks_len),
+    };
+    let answer = run(rules(), lent(module, module_len), call, stack, lent_heap);
     let number = ran_number(answer, &mut *steps, &mut *height);
     misuse::after_run(fault(), types, types_len, steps);
+    misuse::after_heap(fault(), heap, heap_len, blocks, blocks_len);
     number
 }
 
@@ -110,6 +120,8 @@ pub unsafe extern "C" fn limpetskein_write(
     functions_len: usize,
     labels: *const u8,
     labels_len: usize,
+    structures: *const u8,
+    structures_len: usize,
     code: *const u8,
     code_len: usize,
     entry_length: u32,
@@ -122,6 +134,7 @@ pub unsafe extern "C" fn limpetskein_write(
         constants: lent(constants, constants_len),
         functions: lent(functions, functions_len),
         labels: lent(labels, labels_len),
+        structures: lent(structures, structures_len),
         code: lent(code, code_len),
         entry_length,
     };

@@ -2,7 +2,7 @@
 //! past a lent slice, an out-parameter written that must stay, an input changed, a crash.
 
 /// The names that `STANDIN_FAULT` knows besides those of the wrong variants.
-pub const NAMES: [&str; 11] = [
+pub const NAMES: [&str; 13] = [
     "misuse-past-room",
     "misuse-before-types",
     "misuse-body-written",
@@ -14,6 +14,8 @@ pub const NAMES: [&str; 11] = [
     "misuse-code-changed",
     "misuse-past-module",
     "misuse-line-changed",
+    "misuse-past-heap",
+    "misuse-before-blocks",
 ];
 
 /// # Safety
@@ -40,6 +42,22 @@ pub unsafe fn after_run(fault: &str, types: *mut u8, types_len: usize, steps: *m
     match fault {
         "misuse-before-types" if types_len > 0 => *types.sub(1) = 0,
         "misuse-steps-written" => *steps = 0,
+        _ => {}
+    }
+}
+
+/// # Safety
+/// As for the run; and there are bytes around the slices.
+pub unsafe fn after_heap(
+    fault: &str,
+    heap: *mut u8,
+    heap_len: usize,
+    blocks: *mut u8,
+    blocks_len: usize,
+) {
+    match fault {
+        "misuse-past-heap" if heap_len > 0 => *heap.add(heap_len) = 0,
+        "misuse-before-blocks" if blocks_len > 0 => *blocks.sub(1) = 0,
         _ => {}
     }
 }

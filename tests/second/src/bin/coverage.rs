@@ -9,8 +9,8 @@ use second::gen::lines::LineCase;
 use second::gen::tables::WriteCase;
 use second::opcode::{Edition, EDITIONS};
 use second::possible::{
-    exceptions, executions, old_answer, reasons, CHECK_ANSWERS, FORMULA_ANSWERS, LINE_EDGES,
-    RUN_ANSWERS, WRITE_ANSWERS,
+    answer_of, exceptions, executions, reasons, CHECK_ANSWERS, FORMULA_ANSWERS, HEAP_EDGES,
+    LINE_EDGES, RUN_ANSWERS, WRITE_ANSWERS,
 };
 
 fn main() {
@@ -53,7 +53,7 @@ fn kinds(coverage: &Coverage) -> u64 {
     for (kind, all) in &coverage.kinds {
         let accepted = coverage.accepted.get(kind).copied().unwrap_or(0);
         println!("  {kind}: {accepted} of {all}");
-        if ["typed", "expression"].contains(kind) {
+        if ["typed", "expression", "heap"].contains(kind) {
             missing += all - accepted;
         }
     }
@@ -100,9 +100,14 @@ fn answers(coverage: &Coverage) -> u64 {
         let count = coverage.line_edges.get(edge).copied();
         (edge.to_string(), count.unwrap_or(0))
     });
+    let heaps = HEAP_EDGES.iter().map(|&edge| {
+        let count = coverage.heap_edges.get(edge).copied();
+        (edge.to_string(), count.unwrap_or(0))
+    });
     let misfit = std::iter::once(("20".to_string(), coverage.misfits));
     row("answers of formulas:", formulas)
         + row("edges of formula lines:", edges)
+        + row("edges of heaps:", heaps)
         + row("arguments that don't fit:", misfit)
 }
 
@@ -114,9 +119,7 @@ fn answers_of(coverage: &Coverage, edition: Edition) -> u64 {
         ("runs", &RUN_ANSWERS[..], &coverage.runs),
         ("writes", &WRITE_ANSWERS[..], &coverage.writes),
     ] {
-        let possible = numbers
-            .iter()
-            .filter(|&&n| edition == Edition::Three || old_answer(n));
+        let possible = numbers.iter().filter(|&&n| answer_of(edition, n));
         let counted = possible.map(|&n| {
             let count = counts.get(&(edition, n)).copied();
             (n.to_string(), count.unwrap_or(0))

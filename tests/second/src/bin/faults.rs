@@ -9,7 +9,7 @@ use second::compare::{compare, compare_formulas, compare_writes};
 use second::gen::case::Case;
 use second::gen::lines::LineCase;
 use second::gen::tables::WriteCase;
-use second::rules::{Fault, Rules, FAULTS, FORMULA_FAULTS, WRITER_FAULTS};
+use second::rules::{Fault, Rules, FAULTS, FORMULA_FAULTS, HEAP_FAULTS, WRITER_FAULTS};
 use second::subject::Second;
 
 /// A wrong variant, its name, and what is wrong.
@@ -23,7 +23,8 @@ fn main() {
     let seed = args::number("--seed", 1);
     let limit = args::number("--cases", 50_000);
     println!("wrong variants, found after how many cases from seed {seed} (at most {limit}):");
-    let missed = search(&FAULTS, limit, |number| {
+    let variants = [&FAULTS[..], &HEAP_FAULTS[..]].concat();
+    let missed = search(&variants, limit, |number| {
         let case = Case::new(seed, number);
         move |wrong: &mut Second| {
             let difference = compare(&case, &mut Second(Rules::PLAIN), wrong);
@@ -44,7 +45,7 @@ fn main() {
             difference.map(|text| (number + 1, case.kind, text))
         }
     });
-    let all = FAULTS.len() + WRITER_FAULTS.len() + FORMULA_FAULTS.len();
+    let all = variants.len() + WRITER_FAULTS.len() + FORMULA_FAULTS.len();
     let missed = missed + missed_writers + missed_formulas;
     println!("{all} wrong variants, {missed} missed");
     if missed > 0 {

@@ -6,7 +6,7 @@ use second::desk::{self, Left};
 use second::formula;
 use second::rules::Rules;
 use second::samples::{
-    all, LineSample, Sample, LIMITS, LINES, NUMBERS, OLD, PROGRAMS, REFUSED, REFUSED_LINES,
+    all, LineSample, Sample, HEAP, LIMITS, LINES, NUMBERS, OLD, PROGRAMS, REFUSED, REFUSED_LINES,
     W_SAMPLES,
 };
 use second::show::small;
@@ -109,7 +109,7 @@ fn readme() -> String {
          Formula lines (`.line`) stand beside their modules, at the end of this list.\n\
          All files of this directory are made by `target/tests/release/samples write samples`,\n\
          which `tests/run` builds; it looks whether they are up to date. Their sources are in\n\
-         `tests/second/src/samples.rs`.\n\n\
+         `tests/second/src/samples.rs` and `tests/second/src/samples/heap.rs`.\n\n\
          The first line of an output is outcome, steps and height; then each slot's type and\n\
          payload, deepest first. A refused module has only its refusal number.\n",
     );
@@ -120,6 +120,7 @@ fn readme() -> String {
         ("Limits, ends, typings", &LIMITS[..]),
         ("Files that can't be read", &REFUSED[..]),
         ("Old recipes, edition 1", &OLD[..]),
+        ("Structures and a heap, edition 4", &HEAP[..]),
     ] {
         text += &table(title, samples);
     }

@@ -59,6 +59,8 @@ fn main() {
         println!("  steps {}, height {}", memory.steps, memory.height);
         println!("  types {}", hex::encode(memory.types.slice()));
         println!("  payloads {}", hex::encode(memory.payloads.slice()));
+        println!("  heap {}", hex::encode(memory.heap.slice()));
+        println!("  blocks {}", hex::encode(memory.blocks.slice()));
     }
 }
 
@@ -114,6 +116,10 @@ fn show_module(file: &[u8]) {
         if let Some((ty, payload)) = module.constant(n) {
             println!("constant {n}: type {ty}, {payload:016X}");
         }
+    }
+    for ty in 10..10 + module.structures {
+        let fields = module.fields(ty).unwrap_or_default();
+        println!("structure {ty}: {}", hex::encode(fields));
     }
     for body in module.bodies() {
         show_body(module, body);

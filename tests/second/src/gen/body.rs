@@ -2,21 +2,16 @@
 //! own, apart from the check.
 
 use super::rng::Rng;
+use super::structures::{blocks, values};
 use crate::judge::Lists;
 use crate::opcode::{Edition, Op};
 use crate::program::Constant;
-use crate::types::{is_number, pointee, DOUBLE, INT, LONG, NUMBERS, POINTER_TO, SIX};
+use crate::types::{
+    is_number, is_pointer, pointee, structure, DOUBLE, INT, LONG, NULL, POINTER_TO, STRUCTURE,
+};
 
 /// Parameter types and return type.
 pub type Signature = (Vec<u8>, u8);
-
-/// The types that an edition's values have.
-pub fn types(edition: Edition) -> &'static [u8] {
-    match edition {
-        Edition::One => &NUMBERS,
-        Edition::Three => &SIX,
-    }
-}
 
 /// What all bodies of a module share.
 pub struct Shared {
@@ -25,6 +20,16 @@ pub struct Shared {
     pub ops: Vec<Op>,
     pub constants: Vec<Constant>,
     pub signatures: Vec<Signature>,
+    /// Field types of each.
+    pub structures: Vec<Vec<u8>>,
+}
+
+impl Shared {
+    /// The field types behind a pointer to a structure.
+    fn fields(&self, ty: u8) -> Option<&[u8]> {
+        let n = structure(ty)? - STRUCTURE;
+        self.structures.get(usize::from(n)).map(Vec::as_slice)
+    }
 }
 
 /// An instruction; a label operand is a number within the body unless `raw`.
@@ -74,6 +79,13 @@ impl Body<'_> {
                 }
             }
             Op::Call => self.called(n),
+            Op::Null => self.lists.operands.push(NULL),
+            Op::New => self.lists.operands.push(POINTER_TO | operand as u8),
+            Op::Flea => {
+                let top = self.lists.operands.pop().unwrap_or(0);
+                let field = self.shared.fields(top).map_or(0, |fields| fields[n]);
+                self.lists.operands.push(POINTER_TO | field);
+            }
             _ => self.effect(op),
         }
     }
@@ -125,6 +137,14 @@ impl Body<'_> {
             }
             Op::Tload | Op::Inc | Op::Dec => pointee(top?).map(|_| 0),
             Op::Neg | Op::Toi | Op::Tol | Op::Tod => is_number(top?).then_some(0),
+            Op::Null => room.then_some(0),
+            Op::New => room.then(|| rng.pick(&blocks(self.shared.structures.len()))),
+            // what is deleted is often used again: less of it, more of the rest
+            Op::Delete => (is_pointer(top?) && rng.one_in(3)).then_some(0),
+            Op::Flea => {
+                let fields = self.shared.fields(top?)?;
+                Some(rng.below(fields.len()) as u32)
+            }
             Op::Not => (is_number(top?) && top != Some(DOUBLE)).then_some(0),
             op if op.has_label() || matches!(op, Op::Call | Op::Ret) => None,
             op => self.fits_pair(op).then_some(0),
@@ -137,6 +157,9 @@ impl Body<'_> {
         };
         match op {
             Op::Tstore => pointee(a) == Some(b),
+            Op::Cmp | Op::Icmp if self.shared.edition.has_heap() => {
+                a == b || is_pointer(a) && is_pointer(b)
+            }
             Op::Swap | Op::Cmp | Op::Icmp => a == b,
             Op::Add | Op::Sub | Op::Mul | Op::Imul | Op::Div | Op::Idiv => a == b && is_number(a),
             _ => a == b && (a == INT || a == LONG),
@@ -162,7 +185,8 @@ impl Body<'_> {
     /// Writes one instruction that doesn't jump.
     pub fn simple(&mut self, rng: &mut Rng) {
         if self.lists.operands.len() < 2 && rng.percent(50) {
-            let ty = rng.pick(types(self.shared.edition));
+            let all = values(self.shared.edition, self.shared.structures.len());
+            let ty = rng.pick(&all);
             self.produce(rng, ty);
             return;
         }
@@ -214,6 +238,11 @@ impl Body<'_> {
             if pointee(ty) == Some(local) {
                 ways.push((Op::Lea, n as u32));
             }
+        }
+        if ty == NULL {
+            ways.push((Op::Null, 0));
+        } else if is_pointer(ty) && self.shared.edition.has_heap() {
+            ways.push((Op::New, u32::from(ty & !POINTER_TO)));
         }
         if ways.is_empty() {
             return false;

@@ -3,6 +3,7 @@
 use super::case::RunCall;
 use super::constants::payload;
 use super::rng::Rng;
+use crate::heap::{LentHeap, CELL, ENTRY as BLOCK, MOST_CELLS};
 use crate::machine::{Machine, Watch};
 use crate::opcode::Op;
 use crate::reader::{read, Module, ENTRY};
@@ -14,16 +15,27 @@ use crate::types::{is_number, INT};
 struct Trial {
     steps: u64,
     height: usize,
+    /// Cells up to the highest that a block had.
+    cells: usize,
     /// Nothing in the module can be repeated, so any allowance will do.
     straight: bool,
 }
 
+/// The highest slot, and the highest cell.
 #[derive(Default)]
-struct Highest(usize);
+struct Highest {
+    slot: usize,
+    cell: usize,
+}
 
 impl Watch for Highest {
-    fn after(&mut self, machine: &Machine<'_>, _op: Op, _raised: Option<u32>) {
-        self.0 = self.0.max(machine.stack.len());
+    fn after(&mut self, machine: &Machine<'_>, op: Op, _raised: Option<u32>) {
+        self.slot = self.slot.max(machine.stack.len());
+        if op == Op::New {
+            let blocks = machine.heap.blocks.iter();
+            let ends = blocks.map(|block| block.first + block.cells.len());
+            self.cell = self.cell.max(ends.max().unwrap_or(0));
+        }
     }
 }
 
@@ -47,14 +59,20 @@ fn run(rng: &mut Rng, file: &[u8]) -> RunCall {
         allowance: 2000,
         payloads: Vec::new(),
         types: Vec::new(),
+        heap: Vec::new(),
+        blocks: Vec::new(),
         shift: rng.below(8),
     };
-    let mut trial = trial(file, &call);
+    let heap = module.is_some_and(|m| m.edition.has_heap());
+    let mut trial = trial(file, &call, if heap { TRIAL_CELLS } else { 0 });
     trial.straight = module.is_some_and(|m| m.labels == 0);
     call.allowance = allowance(rng, &trial);
     let (payloads, types) = lengths(rng, &trial);
     call.payloads = rng.bytes(payloads);
     call.types = rng.bytes(types);
+    let (cells, entries) = heap_lengths(rng, heap, trial.cells);
+    call.heap = rng.bytes(cells);
+    call.blocks = rng.bytes(entries);
     call
 }
 
@@ -88,7 +106,7 @@ fn arguments(rng: &mut Rng, parameters: &[u8]) -> (Vec<u8>, Vec<u8>) {
         match rng.below(7) {
             0 if !types.is_empty() => {
                 let n = rng.below(types.len());
-                types[n] = rng.pick(&[0, 3, 4, 6, 7, 0x83]);
+                types[n] = rng.pick(&[0, 3, 4, 6, 7, 0x80, 0x83, 0x8A]);
             }
             1 => drop((types.pop(), values.pop())),
             2 => {
@@ -117,7 +135,11 @@ fn upper_bits(rng: &mut Rng, types: &[u8], values: &mut [u64]) {
     }
 }
 
-fn trial(file: &[u8], call: &RunCall) -> Trial {
+/// Cells of a first run, as many as the small program lends.
+const TRIAL_CELLS: usize = 1024;
+
+fn trial(file: &[u8], call: &RunCall, cells: usize) -> Trial {
+    let (mut heap, mut blocks) = (vec![0; CELL * cells], vec![0; BLOCK * cells]);
     let (mut payloads, mut types) = (vec![0; 8 * 4096], vec![0; 4096]);
     let mut highest = Highest::default();
     let stack = LentStack {
@@ -130,13 +152,18 @@ fn trial(file: &[u8], call: &RunCall) -> Trial {
         arg_payloads: &call.arg_payloads,
         allowance: call.allowance,
     };
-    let steps = match run_watched(Rules::PLAIN, file, wanted, stack, &mut highest) {
+    let heap = LentHeap {
+        cells: &mut heap,
+        blocks: &mut blocks,
+    };
+    let steps = match run_watched(Rules::PLAIN, file, wanted, stack, heap, &mut highest) {
         Ran::Refused(_) => 0,
         Ran::Ended { steps, .. } => steps,
     };
     Trial {
         steps,
-        height: highest.0.max(call.arg_types.len()),
+        height: highest.slot.max(call.arg_types.len()),
+        cells: highest.cell,
         straight: false,
     }
 }
@@ -175,5 +202,33 @@ fn lengths(rng: &mut Rng, trial: &Trial) -> (usize, usize) {
         2 => (8 * slots, slots + more),
         3 => (8 * slots + rng.range(1, 7), slots + more),
         _ => (8 * slots, slots),
+    }
+}
+
+/// Bytes of heap and of block entries that are lent: around what a first run took, none, one, a
+/// few, and around the limit; mostly as many of both.
+fn heap_lengths(rng: &mut Rng, heap: bool, taken: usize) -> (usize, usize) {
+    let cells = match rng.below(40) {
+        0..=3 => 0,
+        4..=6 => 1,
+        7..=14 => rng.range(2, 12),
+        15 if heap && rng.one_in(3) => rng.range(MOST_CELLS - 1, MOST_CELLS + 3),
+        16 if heap && rng.one_in(3) => MOST_CELLS,
+        17 if !heap && rng.one_in(20) => rng.range(MOST_CELLS - 1, MOST_CELLS + 1),
+        18..=22 => taken,
+        23..=25 => taken.saturating_sub(1),
+        26 => taken / 2,
+        27 => taken + 1,
+        _ => taken + rng.range(1, 20),
+    };
+    let more = rng.range(1, 4);
+    let (part, piece) = (rng.range(1, CELL - 1), rng.range(1, BLOCK - 1));
+    match rng.below(12) {
+        0 => (CELL * cells + part, BLOCK * cells),
+        1 => (CELL * cells, BLOCK * cells + piece),
+        2 => (CELL * (cells + more) + part, BLOCK * cells),
+        3 => (CELL * cells, BLOCK * (cells + more) + piece),
+        4 => (CELL * (cells + more), BLOCK * cells + piece),
+        _ => (CELL * cells, BLOCK * cells),
     }
 }

@@ -1,7 +1,7 @@
 //! A case: one module, one check of it, some runs.
 
 use super::rng::Rng;
-use super::{calls, damage, expression, flow, limits, loose, mixed, near, pointers, typed};
+use super::{calls, damage, expression, flow, heap, limits, loose, mixed, near, pointers, typed};
 use crate::check::RECORD;
 use crate::memory::{CheckMemory, Lent, RunMemory};
 use crate::opcode::Edition;
@@ -19,6 +19,9 @@ pub struct RunCall {
     /// What the lent slices hold before the run.
     pub payloads: Vec<u8>,
     pub types: Vec<u8>,
+    /// Cells, and block entries.
+    pub heap: Vec<u8>,
+    pub blocks: Vec<u8>,
     /// How far the lent slices are off alignment.
     pub shift: usize,
 }
@@ -85,6 +88,8 @@ impl Case {
             arg_payloads: Lent::new(&run.arg_payloads, run.shift + 1),
             payloads: Lent::new(&run.payloads, run.shift + 2),
             types: Lent::new(&run.types, run.shift + 3),
+            heap: Lent::new(&run.heap, run.shift + 4),
+            blocks: Lent::new(&run.blocks, run.shift + 5),
             steps: STEPS_BEFORE,
             height: HEIGHT_BEFORE,
         }
@@ -94,6 +99,9 @@ impl Case {
 /// A module file, and the name of its generator.
 pub fn module(rng: &mut Rng) -> (&'static str, Vec<u8>) {
     let edition = edition(rng);
+    if edition.has_heap() && rng.percent(30) {
+        return heap_module(rng);
+    }
     match rng.below(100) {
         0..=21 => ("typed", well_typed(rng, edition).file()),
         22..=25 => ("flow", flow::program(rng, edition).file()),
@@ -102,11 +110,11 @@ pub fn module(rng: &mut Rng) -> (&'static str, Vec<u8>) {
             near::change(rng, &mut program);
             ("near miss", program.file())
         }
-        44..=45 => ("pointers", pointers::program(rng).file()),
+        44..=45 => ("pointers", pointers::program(rng, edition).file()),
         46..=55 => ("expression", expression::program(rng, edition).file()),
         56..=67 => ("mixed operands", mixed::program(rng, edition).file()),
         68..=75 => ("loose", loose::program(rng, edition).file()),
-        76..=80 => ("stale pointer", loose::stale(rng).file()),
+        76..=80 => ("stale pointer", loose::stale(rng, edition).file()),
         81..=84 => ("limit", limits::program(rng, edition).file()),
         85..=87 => ("random code", loose::random(rng, edition).file()),
         88 => ("random bytes", random_bytes(rng)),
@@ -117,12 +125,21 @@ pub fn module(rng: &mut Rng) -> (&'static str, Vec<u8>) {
     }
 }
 
-/// Edition 1 in two of five times.
+/// A module of edition 4 that is about its heap.
+fn heap_module(rng: &mut Rng) -> (&'static str, Vec<u8>) {
+    match rng.below(10) {
+        0..=4 => ("heap", heap::program(rng).file()),
+        5..=8 => ("heap astray", heap::astray(rng).file()),
+        _ => ("heap filled", heap::filled(rng).file()),
+    }
+}
+
+/// Each edition about as often.
 pub fn edition(rng: &mut Rng) -> Edition {
-    if rng.percent(40) {
-        Edition::One
-    } else {
-        Edition::Three
+    match rng.below(100) {
+        0..=27 => Edition::One,
+        28..=61 => Edition::Three,
+        _ => Edition::Four,
     }
 }
 
@@ -136,11 +153,12 @@ fn random_bytes(rng: &mut Rng) -> Vec<u8> {
     let len = match rng.below(8) {
         0 => rng.range(LONGEST - 1, LONGEST + 3),
         1 => 48,
+        2 => rng.range(48, 56),
         _ => rng.below(100),
     };
     let mut bytes = rng.bytes(len);
     if rng.percent(60) {
-        let edition = rng.pick(&[1, 3, 3, 2]);
+        let edition = rng.pick(&[1, 3, 4, 4, 2]);
         for (byte, wanted) in bytes.iter_mut().zip([edition, 0, 0, 0]) {
             *byte = wanted;
         }

@@ -3,13 +3,14 @@
 use super::rng::Rng;
 use crate::opcode::Edition;
 use crate::program::{Mark, Program};
-use crate::reader::{CONSTANT, FUNCTION, HEADER, LABEL};
+use crate::reader::{header, CONSTANT, FUNCTION, LABEL, STRUCTURE_RECORD};
 use crate::words::word;
 
-/// Bytes that are no opcode of edition 3, and of edition 1.
-const UNKNOWN: [u8; 11] = [
-    0x00, 0x06, 0x29, 0x2A, 0x2D, 0x2F, 0x30, 0x34, 0x35, 0x80, 0xFF,
+/// Bytes that are no opcode of edition 3, of edition 4, and of edition 1.
+const UNKNOWN: [u8; 12] = [
+    0x00, 0x06, 0x29, 0x2A, 0x2D, 0x2F, 0x30, 0x31, 0x32, 0x35, 0x80, 0xFF,
 ];
+const HEAP_UNKNOWN: [u8; 9] = [0x00, 0x29, 0x2A, 0x2D, 0x2F, 0x33, 0x34, 0x35, 0xFF];
 const OLD_UNKNOWN: [u8; 10] = [0x00, 0x26, 0x26, 0x26, 0x27, 0x28, 0x2B, 0x2E, 0x80, 0xFF];
 
 struct Damage<'a> {
@@ -49,7 +50,7 @@ impl Damage<'_> {
         match kind {
             0 if rng.one_in(4) => self.edition(rng),
             0..=2 => self.header(rng),
-            3 => self.bit(rng, HEADER),
+            3 => self.bit(rng, header(self.program.edition)),
             4 => {
                 let len = self.file.len();
                 self.bit(rng, len);
@@ -58,6 +59,7 @@ impl Damage<'_> {
             6 => self.lengthen(rng),
             7 | 8 => self.constant(rng),
             9..=12 => self.function(rng),
+            13 | 14 if !self.program.structures.is_empty() => self.structure(rng),
             13..=15 => self.label(rng),
             16 => self.entry_length(rng),
             _ => self.opcode(rng),
@@ -94,6 +96,7 @@ impl Damage<'_> {
                 129,
                 257,
                 16_385,
+                17,
                 0xFFFF_FFF0,
             ]),
         };
@@ -101,18 +104,24 @@ impl Damage<'_> {
     }
 
     fn header(&mut self, rng: &mut Rng) {
-        let offsets = [12, 20, 28, 36];
-        let at = if rng.percent(30) {
+        let mut offsets = vec![12, 20, 28, 36];
+        if self.program.edition.has_heap() {
+            offsets.extend([48, 52]);
+        }
+        let none = self.program.edition.has_heap() && self.program.structures.is_empty();
+        let at = if none && rng.percent(50) {
+            52
+        } else if rng.percent(30) {
             rng.pick(&offsets)
         } else {
-            4 * rng.below(12)
+            4 * rng.below(header(self.program.edition) / 4)
         };
         self.change_word(rng, at);
     }
 
     /// The other edition, or none.
     fn edition(&mut self, rng: &mut Rng) {
-        let word = rng.pick(&[0, 1, 1, 2, 2, 3, 3, 4, 0x0100_0001, 0x0000_0301]);
+        let word = rng.pick(&[0, 1, 1, 2, 2, 3, 3, 4, 4, 5, 0x0100_0001, 0x0000_0301]);
         self.put_word(0, word);
     }
 
@@ -129,7 +138,7 @@ impl Damage<'_> {
 
     fn cut(&mut self, rng: &mut Rng) {
         let len = match rng.below(3) {
-            0 => rng.below(HEADER + 1),
+            0 => rng.below(header(self.program.edition) + 1),
             1 => self.file.len().saturating_sub(rng.range(1, 4)),
             _ => rng.below(self.file.len() + 1),
         };
@@ -154,7 +163,7 @@ impl Damage<'_> {
 
     fn constant(&mut self, rng: &mut Rng) {
         let count = self.program.constants.len();
-        let at = HEADER + CONSTANT * rng.below(count);
+        let at = header(self.program.edition) + CONSTANT * rng.below(count);
         match rng.below(4) {
             0 => {
                 let ty = rng.pick(&[0, 1, 2, 5, 7, 8, 0x83, 0x86]);
@@ -173,7 +182,7 @@ impl Damage<'_> {
 
     fn function(&mut self, rng: &mut Rng) {
         let count = self.program.functions.len();
-        let functions_at = HEADER + CONSTANT * self.program.constants.len();
+        let functions_at = header(self.program.edition) + CONSTANT * self.program.constants.len();
         let at = functions_at + FUNCTION * rng.below(count);
         match rng.below(8) {
             0 => self.change_word(rng, at),
@@ -183,12 +192,15 @@ impl Damage<'_> {
                 self.put_byte(at + 8, count);
             }
             3 => {
-                let ty = rng.pick(&[0, 1, 3, 5, 7, 0x83, 0x86]);
+                let ty = rng.pick(&[0, 1, 3, 5, 7, 0x80, 0x83, 0x86, 0x8A, 0x8B, 0x99, 0x9A]);
                 self.put_byte(at + 9, ty);
             }
             4..=6 => {
                 let byte = at + rng.range(10, 17);
-                let ty = rng.pick(&[0, 3, 4, 5, 6, 7, 0x80, 0x83, 0x87, 0xFF]);
+                let ty = rng.pick(&[
+                    0, 3, 4, 5, 6, 7, 10, 0x80, 0x80, 0x83, 0x87, 0x89, 0x8A, 0x8B, 0x8E, 0x99,
+                    0x9A, 0xFF,
+                ]);
                 self.put_byte(byte, ty);
             }
             _ => {
@@ -196,6 +208,47 @@ impl Damage<'_> {
                 self.put_byte(byte, 1);
             }
         }
+    }
+
+    /// A bad field count, field type, unused byte or zero.
+    fn structure(&mut self, rng: &mut Rng) {
+        let count = self.program.structures.len();
+        let n = rng.below(count);
+        let code: usize = self
+            .program
+            .owners()
+            .into_iter()
+            .map(|o| self.body_size(o))
+            .sum();
+        let at = self.code_at() + code + STRUCTURE_RECORD * n;
+        let fields = self.program.structures[n].len();
+        match rng.below(6) {
+            0 | 1 => {
+                let more = (fields + 1) as u8;
+                let count = rng.pick(&[0, 0, more, (fields - 1) as u8, 9, 255]);
+                self.put_byte(at, count);
+            }
+            2 | 3 => {
+                let field = at + rng.range(1, fields);
+                let ty = rng.pick(&[0, 1, 5, 7, 8, 10, 0x80, 0x83, 0x84, 0x86]);
+                self.put_byte(field, ty);
+            }
+            4 if fields < 8 => {
+                let unused = at + rng.range(fields + 1, 8);
+                let ty = rng.pick(&[3, 4, 6, 1]);
+                self.put_byte(unused, ty);
+            }
+            _ => {
+                let zero = at + rng.range(9, 11);
+                self.put_byte(zero, 1);
+            }
+        }
+    }
+
+    /// Bytes of a body's code.
+    fn body_size(&self, owner: u32) -> usize {
+        let code = self.program.body(owner);
+        code.iter().map(|instr| instr.op.size()).sum()
     }
 
     fn label(&mut self, rng: &mut Rng) {
@@ -219,7 +272,7 @@ impl Damage<'_> {
     }
 
     fn code_at(&self) -> usize {
-        HEADER
+        header(self.program.edition)
             + CONSTANT * self.program.constants.len()
             + FUNCTION * self.program.functions.len()
             + LABEL * self.program.labels.len()
@@ -239,6 +292,7 @@ impl Damage<'_> {
         let (unknown, others): (&[u8], &[u8]) = match self.program.edition {
             Edition::One => (&OLD_UNKNOWN, &[0x01, 0x1A, 0x21, 0x22, 0x23, 0x25]),
             Edition::Three => (&UNKNOWN, &[0x01, 0x20, 0x27, 0x28, 0x2B]),
+            Edition::Four => (&HEAP_UNKNOWN, &[0x01, 0x06, 0x28, 0x30, 0x31, 0x32]),
         };
         let from = if rng.percent(60) { unknown } else { others };
         let byte = rng.pick(from);

@@ -6,10 +6,11 @@ use super::rng::Rng;
 use crate::opcode::{Edition, Op};
 use crate::program::{Constant, Mark, Program, Routine};
 use crate::reader::ENTRY;
-use crate::types::{INT, LONG};
+use crate::types::{DOUBLE, INT, LONG};
 
 pub fn program(rng: &mut Rng, edition: Edition) -> Program {
     let mut program = match rng.below(12) {
+        0 if edition.has_heap() => structures(rng),
         0..=2 => operands(rng),
         3 => locals(rng),
         4..=9 => frames(rng),
@@ -178,6 +179,9 @@ fn counts(rng: &mut Rng) -> Program {
     let over = usize::from(rng.one_in(3));
     program.entry = instrs(&[(Op::Push, 0), (Op::Pop, 0)]);
     let which = rng.below(5);
+    if which == 4 {
+        program.structures = vec![vec![DOUBLE; 8]; 16 + over];
+    }
     if which == 0 || which == 4 {
         let extra = 1024 + over - 6;
         program.constants = pool(rng, extra);
@@ -200,6 +204,17 @@ fn counts(rng: &mut Rng) -> Program {
         fill_code(&mut program, over);
     }
     program
+}
+
+/// 15 to 17 structures, and the last of them.
+fn structures(rng: &mut Rng) -> Program {
+    let count = rng.range(15, 17) as u32;
+    let last = 9 + rng.range(count as usize - 1, count as usize + 1) as u32;
+    Program {
+        structures: vec![vec![DOUBLE; 8]; count as usize],
+        entry: instrs(&[(Op::New, last), (Op::Flea, rng.pick(&[0, 7, 7, 8]))]),
+        ..Program::default()
+    }
 }
 
 /// Makes the code 16,384 bytes long, or one more.

@@ -66,6 +66,8 @@ impl LineCase {
             allowance: self.allowance,
             payloads: vec![0xEE; 8 * self.slots],
             types: vec![0xEE; self.slots],
+            heap: vec![0xEE; 8 * 3],
+            blocks: vec![0xEE; 24 * 3],
             shift: self.shift,
         };
         Case {

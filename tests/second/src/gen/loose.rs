@@ -3,13 +3,22 @@
 
 use super::constants::pool;
 use super::rng::Rng;
+use super::structures::{self, blocks};
 use super::typed::signature;
 use crate::opcode::{Edition, Op};
 use crate::program::{Instr, Mark, Program, Routine};
-use crate::types::{run_time, DOUBLE, INT, LONG, POINTER};
+use crate::types::{run_time, DOUBLE, INT, LONG, POINTER, STRUCTURE};
 
-/// A slot's run-time type and, for a pointer, the slot that it is known to name.
-type Known = (u8, Option<usize>);
+/// What a pointer is known to lead to.
+#[derive(Clone, Copy, PartialEq, Eq)]
+enum To {
+    Slot(usize),
+    /// A block of this type, or a field of this type.
+    Block(u8),
+}
+
+/// A slot's run-time type and, for a pointer, what it is known to lead to.
+type Known = (u8, Option<To>);
 
 /// What is known of the frame while its code is written.
 struct Track<'a> {
@@ -23,10 +32,11 @@ pub fn program(rng: &mut Rng, edition: Edition) -> Program {
     let mut program = Program {
         edition,
         constants: pool(rng, extra),
+        structures: structures::declared(rng, edition),
         ..Program::default()
     };
     for _ in 0..rng.pick(&[0, 1, 1, 2, 3]) {
-        let (parameters, returns) = signature(rng, edition);
+        let (parameters, returns) = signature(rng, edition, program.structures.len());
         program.functions.push(Routine {
             parameters,
             returns,
@@ -74,17 +84,22 @@ fn body(rng: &mut Rng, program: &Program, owner: u32, strict: usize) -> Vec<Inst
     }
     if let Some(routine) = routine {
         if rng.percent(90) {
-            let want = u32::from(routine.returns);
-            let n = program.constants.iter().position(|c| c.ty == want);
-            code.extend(n.map(|n| Instr {
-                op: Op::Push,
-                operand: n as u32,
-            }));
+            code.extend(instrs(&returned(program, routine.returns)));
             let (op, operand) = (Op::Ret, 0);
             code.push(Instr { op, operand });
         }
     }
     code
+}
+
+/// A value to return: a constant, or a new block.
+fn returned(program: &Program, returns: u8) -> Vec<(Op, u32)> {
+    if run_time(returns) == POINTER {
+        return vec![(Op::New, u32::from(returns & 0x7F))];
+    }
+    let want = u32::from(returns);
+    let n = program.constants.iter().position(|c| c.ty == want);
+    Vec::from_iter(n.map(|n| (Op::Push, n as u32)))
 }
 
 impl Track<'_> {
@@ -100,6 +115,11 @@ impl Track<'_> {
             Op::Load | Op::Lea => self.locals.len(),
             Op::Store => self.locals.len() + 1,
             Op::Call => self.program.functions.len(),
+            Op::New if rng.percent(80) => {
+                return rng.pick(&blocks(self.program.structures.len()));
+            }
+            Op::New => 12 + self.program.structures.len(),
+            Op::Flea => 6,
             _ => 4,
         };
         let beyond = usize::from(rng.one_in(8));
@@ -119,7 +139,10 @@ impl Track<'_> {
             }
             Op::Pop | Op::Copy => self.own() > 0,
             Op::Inc | Op::Dec if self.old() => self.own() > 0,
-            Op::Tload | Op::Inc | Op::Dec => self.own() > 0 && top == POINTER,
+            Op::Tload | Op::Inc | Op::Dec | Op::Delete => self.own() > 0 && top == POINTER,
+            Op::Null => true,
+            Op::New => self.cells(n).is_some(),
+            Op::Flea => self.own() > 0 && self.field(n).is_some(),
             Op::Neg | Op::Toi | Op::Tol | Op::Tod => self.own() > 0 && number,
             Op::Not => self.own() > 0 && number && top != DOUBLE,
             Op::Tstore => self.own() > 1 && under == POINTER,
@@ -128,6 +151,35 @@ impl Track<'_> {
             op if op.is_conditional() => self.own() > 0 && top == INT,
             Op::Jmp | Op::Ret => false,
             _ => self.own() > 1 && top == under && number && top != DOUBLE,
+        }
+    }
+
+    /// The cell types of a block of this type.
+    fn cells(&self, ty: usize) -> Option<Vec<u8>> {
+        match ty {
+            3 | 4 | 6 => Some(vec![ty as u8]),
+            _ => {
+                let n = ty.checked_sub(usize::from(STRUCTURE))?;
+                self.program.structures.get(n).cloned()
+            }
+        }
+    }
+
+    /// The type of this field of the structure that the pointer on top is known to lead to.
+    fn field(&self, n: usize) -> Option<u8> {
+        let (_, Some(To::Block(ty))) = *self.stack.last()? else {
+            return None;
+        };
+        let fields = self.cells(usize::from(ty)).filter(|_| ty >= STRUCTURE)?;
+        fields.get(n).copied()
+    }
+
+    /// What `tload` of a pointer gives, as far as is known.
+    fn target(&self, pointer: Known) -> Known {
+        match pointer.1 {
+            Some(To::Slot(slot)) => self.stack.get(slot).copied().unwrap_or((INT, None)),
+            Some(To::Block(ty)) => (ty, None),
+            None => (INT, None),
         }
     }
 
@@ -156,7 +208,13 @@ impl Track<'_> {
         match instr.op {
             Op::Push => self.stack.push((self.program.constants[n].ty as u8, None)),
             Op::Load => self.stack.push(self.stack[self.locals[n]]),
-            Op::Lea => self.stack.push((POINTER, Some(self.locals[n]))),
+            Op::Lea => self.stack.push((POINTER, Some(To::Slot(self.locals[n])))),
+            Op::Null => self.stack.push((POINTER, None)),
+            Op::New => self.stack.push((POINTER, Some(To::Block(n as u8)))),
+            Op::Flea => {
+                let field = self.field(n).map(To::Block);
+                self.replace(1, (POINTER, field));
+            }
             Op::Store if n == self.locals.len() => self.locals.push(self.stack.len() - 1),
             Op::Store => {
                 self.stack[self.locals[n]] = top;
@@ -164,8 +222,7 @@ impl Track<'_> {
             }
             Op::Copy => self.stack.push(top),
             Op::Tload => {
-                let target = top.1.and_then(|slot| self.stack.get(slot).copied());
-                self.replace(1, target.unwrap_or((INT, None)));
+                self.replace(1, self.target(top));
             }
             Op::Toi => self.replace(1, (INT, None)),
             Op::Tol => self.replace(1, (LONG, None)),
@@ -179,7 +236,7 @@ impl Track<'_> {
                 let (count, returns) = (routine.parameters.len(), routine.returns);
                 self.drop_top(count);
                 if returns != 0 {
-                    self.stack.push((returns, None));
+                    self.stack.push((run_time(returns), None));
                 }
             }
             _ => self.drop_top(1),
@@ -198,8 +255,13 @@ impl Track<'_> {
 
 /// A pointer that outlives the frame it points into: a function writes the address of one of
 /// its locals into a pointer local of its caller. Then the caller uses it.
-pub fn stale(rng: &mut Rng) -> Program {
+pub fn stale(rng: &mut Rng, edition: Edition) -> Program {
     let mut program = Program {
+        edition: if edition.has_heap() {
+            Edition::Four
+        } else {
+            Edition::Three
+        },
         constants: pool(rng, 2),
         ..Program::default()
     };
@@ -209,12 +271,12 @@ pub fn stale(rng: &mut Rng) -> Program {
         returns,
         code: leak(rng, &program, returns),
     });
-    program.entry = instrs(&uses(rng, returns));
+    program.entry = instrs(&uses(rng, program.edition, returns));
     program
 }
 
 /// The caller, which uses the pointer after the call.
-fn uses(rng: &mut Rng, returns: u8) -> Vec<(Op, u32)> {
+fn uses(rng: &mut Rng, edition: Edition, returns: u8) -> Vec<(Op, u32)> {
     let push = |rng: &mut Rng| (Op::Push, rng.below(8) as u32);
     let mut code = vec![push(rng), (Op::Store, 0), (Op::Lea, 0), (Op::Store, 1)];
     for _ in 0..rng.below(4) {
@@ -240,8 +302,10 @@ fn uses(rng: &mut Rng, returns: u8) -> Vec<(Op, u32)> {
             Op::Tload,
             Op::Tstore,
             Op::Cmp,
+            Op::Flea,
         ];
-        code.push((rng.pick(&next), 0));
+        let known = next.len() - usize::from(!edition.has_heap());
+        code.push((rng.pick(&next[..known]), 0));
         code.push(rng.pick(&[(Op::Load, 1), (Op::Load, 0), (Op::Push, 1)]));
     }
     code
@@ -276,10 +340,11 @@ pub fn random(rng: &mut Rng, edition: Edition) -> Program {
     let mut program = Program {
         edition,
         constants: pool(rng, 0),
+        structures: structures::declared(rng, edition),
         ..Program::default()
     };
     for _ in 0..rng.below(3) {
-        let (parameters, returns) = signature(rng, edition);
+        let (parameters, returns) = signature(rng, edition, program.structures.len());
         let code = random_code(rng, edition, 1);
         program.functions.push(Routine {
             parameters,
@@ -314,7 +379,7 @@ fn random_code(rng: &mut Rng, edition: Edition, least: usize) -> Vec<Instr> {
             let operand = if rng.one_in(30) {
                 rng.any() as u32
             } else {
-                rng.below(6) as u32
+                structures::operand(rng, op, 2, 6)
             };
             Instr { op, operand }
         })

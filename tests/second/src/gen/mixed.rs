@@ -1,26 +1,51 @@
 //! Operands of any types, then any instruction: every opcode meets every exception.
 
-use super::body::types;
 use super::constants::pool;
 use super::loose::instrs;
 use super::rng::Rng;
+use super::structures::{self, blocks, operand, parameters};
 use crate::opcode::{Edition, Op};
 use crate::program::{Mark, Program, Routine};
 use crate::reader::ENTRY;
+
+const CONDITIONS: [Op; 6] = [Op::Je, Op::Jne, Op::Ja, Op::Jae, Op::Jb, Op::Jbe];
+
+/// What raises 22, 24 or 34.
+const ARITHMETIC: [Op; 16] = [
+    Op::Add,
+    Op::Sub,
+    Op::Mul,
+    Op::Imul,
+    Op::Div,
+    Op::Idiv,
+    Op::Mod,
+    Op::Imod,
+    Op::And,
+    Op::Or,
+    Op::Xor,
+    Op::Not,
+    Op::Shl,
+    Op::Sal,
+    Op::Shr,
+    Op::Sar,
+];
 
 pub fn program(rng: &mut Rng, edition: Edition) -> Program {
     let mut program = Program {
         edition,
         constants: pool(rng, 2),
+        structures: structures::declared(rng, edition),
         ..Program::default()
     };
-    let (first, second) = (rng.pick(types(edition)), rng.pick(types(edition)));
+    let count = program.structures.len();
+    let types = parameters(edition, count);
+    let (first, second) = (rng.pick(&types), rng.pick(&types));
     program.functions.push(Routine {
         parameters: vec![first, second][..rng.below(3)].to_vec(),
-        returns: rng.pick(&[0, 3, 4, 6]),
-        code: instrs(&code(rng, edition)),
+        returns: structures::returns(rng, edition, count),
+        code: instrs(&code(rng, edition, count)),
     });
-    program.entry = instrs(&code(rng, edition));
+    program.entry = instrs(&code(rng, edition, count));
     for owner in [ENTRY, 0] {
         let index = rng.below(program.body(owner).len());
         program.labels.push(Mark { owner, index });
@@ -28,12 +53,13 @@ pub fn program(rng: &mut Rng, edition: Edition) -> Program {
     program
 }
 
-/// Two locals, a number and a pointer; then operands and an instruction, some times over.
-fn code(rng: &mut Rng, edition: Edition) -> Vec<(Op, u32)> {
+/// Two locals, a number and a pointer, in edition 4 blocks too; then operands and an instruction,
+/// some times over.
+fn code(rng: &mut Rng, edition: Edition, structures: usize) -> Vec<(Op, u32)> {
     // edition 1 has a copy of the local in the pointer's place
-    let (lea, ops) = match edition {
-        Edition::One => (Op::Load, edition.ops()),
-        Edition::Three => (Op::Lea, edition.ops()),
+    let lea = match edition {
+        Edition::One => Op::Load,
+        _ => Op::Lea,
     };
     let mut code = vec![
         (Op::Push, rng.below(8) as u32),
@@ -44,19 +70,14 @@ fn code(rng: &mut Rng, edition: Edition) -> Vec<(Op, u32)> {
     if rng.one_in(8) {
         code.truncate(rng.below(4));
     }
+    let mut locals = 2;
+    if edition.has_heap() && rng.percent(70) {
+        locals = 4;
+        bind_blocks(rng, structures, &mut code);
+    }
     for _ in 0..rng.range(1, 4) {
-        for _ in 0..rng.pick(&[0, 1, 1, 2, 2, 2, 2, 3]) {
-            code.push(match rng.below(8) {
-                0..=3 => (Op::Push, rng.below(8) as u32),
-                4 | 5 => (Op::Load, rng.below(2) as u32),
-                _ => (lea, rng.below(2) as u32),
-            });
-            if rng.percent(30) {
-                code.extend(code.last().copied());
-            }
-        }
-        let op = rng.pick(&ops);
-        code.push((op, rng.below(3) as u32));
+        let op = operands(rng, edition, structures, locals, &mut code);
+        code.push((op, operand(rng, op, structures, 3)));
     }
     if rng.percent(60) {
         code.push((Op::Ret, 0));
@@ -64,4 +85,70 @@ fn code(rng: &mut Rng, edition: Edition) -> Vec<(Op, u32)> {
         code.push((Op::Call, 0));
     }
     code
+}
+
+/// Locals 2 and 3 point to blocks, one of which may be gone, or are null.
+fn bind_blocks(rng: &mut Rng, structures: usize, code: &mut Vec<(Op, u32)>) {
+    for n in 2..4 {
+        let given = (Op::New, rng.pick(&blocks(structures)));
+        let value = rng.pick(&[given, given, given, (Op::Null, 0)]);
+        code.extend([value, (Op::Store, n)]);
+    }
+    if rng.one_in(4) {
+        code.extend([(Op::Load, rng.range(2, 3) as u32), (Op::Delete, 0)]);
+    }
+}
+
+/// Operands, and the opcode that comes after them.
+fn operands(
+    rng: &mut Rng,
+    edition: Edition,
+    structures: usize,
+    locals: usize,
+    code: &mut Vec<(Op, u32)>,
+) -> Op {
+    if rng.one_in(5) {
+        // two numbers, of the same type or not
+        let first = (Op::Push, rng.below(8) as u32);
+        let second = (Op::Push, rng.below(8) as u32);
+        code.extend([first, rng.pick(&[first, second])]);
+        return rng.pick(&ARITHMETIC);
+    }
+    if rng.one_in(15) {
+        return rng.pick(&CONDITIONS);
+    }
+    for _ in 0..rng.pick(&[0, 1, 1, 2, 2, 2, 2, 3]) {
+        value(rng, edition, structures, locals, code);
+    }
+    rng.pick(&edition.ops())
+}
+
+/// One operand, now and then twice.
+fn value(
+    rng: &mut Rng,
+    edition: Edition,
+    structures: usize,
+    locals: usize,
+    code: &mut Vec<(Op, u32)>,
+) {
+    let lea = match edition {
+        Edition::One => Op::Load,
+        _ => Op::Lea,
+    };
+    code.push(match rng.below(8) {
+        0..=3 if edition.has_heap() && rng.one_in(4) => {
+            let given = (Op::New, rng.pick(&blocks(structures)));
+            rng.pick(&[given, (Op::Null, 0)])
+        }
+        0..=3 => (Op::Push, rng.below(8) as u32),
+        4 | 5 => (Op::Load, rng.below(locals) as u32),
+        _ => (lea, rng.below(locals) as u32),
+    });
+    let heap = matches!(code.last(), Some((Op::New, _)) | Some((Op::Load, 2 | 3)));
+    if heap && rng.one_in(3) {
+        code.push((Op::Flea, rng.below(4) as u32));
+    }
+    if rng.percent(30) && !matches!(code.last(), Some((Op::Flea, _))) {
+        code.extend(code.last().copied());
+    }
 }

@@ -2,11 +2,12 @@
 
 use super::constants::constant;
 use super::rng::Rng;
+use super::structures::{self, fields};
 use crate::opcode::Edition;
 use crate::opcode::Op;
 use crate::program::{Instr, Mark, Program};
 use crate::reader::ENTRY;
-use crate::types::{NUMBERS, SIX};
+use crate::types::{NULL, NUMBERS, POINTER_TO, STRUCTURE};
 
 /// Changes one operand, opcode, label, type or constant.
 pub fn change(rng: &mut Rng, program: &mut Program) {
@@ -19,6 +20,7 @@ pub fn change(rng: &mut Rng, program: &mut Program) {
         10 | 11 => label(rng, program),
         12 => parameters(rng, program),
         13 => returns(rng, program),
+        14 if !program.structures.is_empty() && rng.percent(60) => structure(rng, program),
         14 => constant_type(rng, program),
         _ => call_or_jump(rng, program),
     }
@@ -145,7 +147,12 @@ fn parameters(rng: &mut Rng, program: &mut Program) {
     let n = rng.below(program.functions.len());
     // a pointer in edition 1 is 7, which is wanted now and then
     let old = program.edition == Edition::One && !rng.one_in(4);
-    let types: &[u8] = if old { &NUMBERS } else { &SIX };
+    let types = if old {
+        NUMBERS.to_vec()
+    } else {
+        wrong_types(rng, program)
+    };
+    let types = &types;
     let list = &mut program.functions[n].parameters;
     match rng.below(4) {
         0 if list.len() < 8 => list.push(rng.pick(types)),
@@ -159,12 +166,44 @@ fn parameters(rng: &mut Rng, program: &mut Program) {
     }
 }
 
+/// Types of parameters, in edition 4 now and then one that is no such type.
+fn wrong_types(rng: &mut Rng, program: &Program) -> Vec<u8> {
+    let edition = match program.edition {
+        Edition::One => Edition::Three,
+        edition => edition,
+    };
+    let count = program.structures.len();
+    let mut types = structures::parameters(edition, count);
+    if program.edition.has_heap() && rng.one_in(3) {
+        types = vec![NULL, POINTER_TO | (STRUCTURE + count as u8), 0x9A, 0xCA];
+    }
+    types
+}
+
 fn returns(rng: &mut Rng, program: &mut Program) {
     if program.functions.is_empty() {
         return opcode(rng, program);
     }
     let n = rng.below(program.functions.len());
-    program.functions[n].returns = rng.pick(&[0, 3, 4, 6]);
+    let count = program.structures.len();
+    let returns = structures::returns(rng, program.edition, count);
+    program.functions[n].returns = if program.edition.has_heap() && rng.one_in(3) {
+        rng.pick(&[0x80, 0x83, 0x86, 0x8A, 0x8A + count as u8, 0x99])
+    } else {
+        returns
+    };
+}
+
+/// Other fields, a field more or less, or a structure more or less.
+fn structure(rng: &mut Rng, program: &mut Program) {
+    let n = rng.below(program.structures.len());
+    match rng.below(5) {
+        0 => program.structures[n] = fields(rng),
+        1 if program.structures[n].len() < 8 => program.structures[n].push(rng.pick(&NUMBERS)),
+        2 if program.structures[n].len() > 1 => drop(program.structures[n].pop()),
+        3 => drop(program.structures.pop()),
+        _ => program.structures[n].reverse(),
+    }
 }
 
 fn constant_type(rng: &mut Rng, program: &mut Program) {

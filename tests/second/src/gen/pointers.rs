@@ -3,13 +3,18 @@
 use super::constants::pool;
 use super::loose::instrs;
 use super::rng::Rng;
-use crate::opcode::Op;
+use crate::opcode::{Edition, Op};
 use crate::program::{Mark, Program, Routine};
 use crate::reader::ENTRY;
 use crate::types::{NUMBERS, POINTER_TO};
 
-pub fn program(rng: &mut Rng) -> Program {
+pub fn program(rng: &mut Rng, edition: Edition) -> Program {
     let mut program = Program {
+        edition: if edition.has_heap() {
+            Edition::Four
+        } else {
+            Edition::Three
+        },
         constants: pool(rng, 0),
         ..Program::default()
     };

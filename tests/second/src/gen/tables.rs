@@ -6,10 +6,10 @@ use super::damage;
 use super::rng::Rng;
 use crate::hex;
 use crate::memory::{Lent, WriteMemory};
-use crate::opcode::Op;
+use crate::opcode::{Edition, Op};
 use crate::reader::{
-    read, CONSTANT, ENTRY, FUNCTION, HEADER, LABEL, LONGEST, MAX_CODE, MAX_CONSTANTS,
-    MAX_FUNCTIONS, MAX_LABELS,
+    header, read, CONSTANT, ENTRY, FUNCTION, HEADER, LABEL, LONGEST, MAX_CODE, MAX_CONSTANTS,
+    MAX_FUNCTIONS, MAX_LABELS, MAX_STRUCTURES, STRUCTURE_RECORD,
 };
 use crate::rules::Rules;
 use crate::types::NUMBERS;
@@ -24,6 +24,7 @@ pub struct Owned {
     pub constants: Vec<u8>,
     pub functions: Vec<u8>,
     pub labels: Vec<u8>,
+    pub structures: Vec<u8>,
     pub code: Vec<u8>,
     pub entry_length: u32,
 }
@@ -36,6 +37,7 @@ impl Default for Owned {
             constants: Vec::new(),
             functions: Vec::new(),
             labels: Vec::new(),
+            structures: Vec::new(),
             code: Vec::new(),
             entry_length: 0,
         }
@@ -60,14 +62,18 @@ impl Owned {
     /// The sections of a file, by the counts in its header; they must lie within it.
     pub fn cut(file: &[u8]) -> Owned {
         let count = |at| word(file, at) as usize;
-        let (constants, rest) = file[HEADER..].split_at(CONSTANT * count(8));
+        let edition = word(file, 0);
+        let known = Edition::from_word(Rules::PLAIN, edition);
+        let (constants, rest) = file[known.map_or(HEADER, header)..].split_at(CONSTANT * count(8));
         let (functions, rest) = rest.split_at(FUNCTION * count(16));
-        let (labels, code) = rest.split_at(LABEL * count(24));
+        let (labels, rest) = rest.split_at(LABEL * count(24));
+        let (code, structures) = rest.split_at(count(32));
         Owned {
-            edition: word(file, 0),
+            edition,
             constants: constants.to_vec(),
             functions: functions.to_vec(),
             labels: labels.to_vec(),
+            structures: structures.to_vec(),
             code: code.to_vec(),
             entry_length: word(file, 40),
         }
@@ -79,6 +85,7 @@ impl Owned {
             constants: &self.constants,
             functions: &self.functions,
             labels: &self.labels,
+            structures: &self.structures,
             code: &self.code,
             entry_length: self.entry_length,
         }
@@ -87,7 +94,8 @@ impl Owned {
     /// The bytes of all tables, and of a header.
     pub fn length(&self) -> usize {
         let records = self.constants.len() + self.functions.len() + self.labels.len();
-        HEADER + records + self.code.len()
+        let known = Edition::from_word(Rules::PLAIN, self.edition);
+        known.map_or(HEADER, header) + records + self.code.len() + self.structures.len()
     }
 
     pub fn memory(&self, out: &[u8], shift: usize) -> WriteMemory {
@@ -96,6 +104,7 @@ impl Owned {
             constants: Lent::new(&self.constants, shift),
             functions: Lent::new(&self.functions, shift + 1),
             labels: Lent::new(&self.labels, shift + 2),
+            structures: Lent::new(&self.structures, shift + 5),
             code: Lent::new(&self.code, shift + 3),
             entry_length: self.entry_length,
             out: Lent::new(out, shift + 4),
@@ -114,7 +123,10 @@ impl WriteCase {
         }
         if rng.one_in(12) {
             // the other edition, or none, or one that is only so in its low bits
-            tables.edition = rng.pick(&[1, 3, 0, 2, 2, 4, 257, 0x0001_0003, 0xFFFF_FFFF]);
+            tables.edition = rng.pick(&[1, 3, 4, 4, 0, 2, 2, 5, 257, 0x0001_0003, 0xFFFF_FFFF]);
+        }
+        if rng.one_in(25) {
+            foreign(&mut rng, &mut tables);
         }
         let len = output(&mut rng, tables.length());
         let out = rng.bytes(len);
@@ -134,12 +146,13 @@ impl WriteCase {
     /// The tables and the output's length, enough to repeat the write by hand.
     pub fn describe(&self) -> String {
         format!(
-            "edition {}, constants \"{}\", functions \"{}\", labels \"{}\", code \"{}\", entry length {}, \
-             output of {} bytes",
+            "edition {}, constants \"{}\", functions \"{}\", labels \"{}\", structures \"{}\", \
+             code \"{}\", entry length {}, output of {} bytes",
             self.tables.edition,
             hex::encode(&self.tables.constants),
             hex::encode(&self.tables.functions),
             hex::encode(&self.tables.labels),
+            hex::encode(&self.tables.structures),
             hex::encode(&self.tables.code),
             self.tables.entry_length,
             self.out.len()
@@ -179,10 +192,11 @@ fn good(rng: &mut Rng) -> Owned {
 
 /// A table that ends in part of a record.
 fn part(rng: &mut Rng, tables: &mut Owned) {
-    let (table, record) = match rng.below(3) {
+    let (table, record) = match rng.below(4) {
         0 => (&mut tables.constants, CONSTANT),
         1 => (&mut tables.functions, FUNCTION),
-        _ => (&mut tables.labels, LABEL),
+        2 => (&mut tables.labels, LABEL),
+        _ => (&mut tables.structures, STRUCTURE_RECORD),
     };
     let bytes = rng.range(1, record - 1);
     if rng.percent(50) {
@@ -191,6 +205,14 @@ fn part(rng: &mut Rng, tables: &mut Owned) {
         let zero = rng.percent(50);
         table.extend(rng.bytes(bytes).iter().map(|&b| if zero { 0 } else { b }));
     }
+}
+
+/// A structure where the edition may have none, or part of one.
+fn foreign(rng: &mut Rng, tables: &mut Owned) {
+    let mut record = vec![0; STRUCTURE_RECORD];
+    record[..3].copy_from_slice(&[2, 3, 6]);
+    record.truncate(rng.pick(&[1, 11, 12, 12, 12]));
+    tables.structures.extend(record);
 }
 
 /// Counts and code length at their limits or one over, with part of a record now and then.
@@ -202,18 +224,14 @@ fn limits(rng: &mut Rng) -> Owned {
     };
     let (constants, functions) = (count(MAX_CONSTANTS), count(MAX_FUNCTIONS));
     let (labels, code) = (count(MAX_LABELS), count(MAX_CODE).max(functions + 1));
+    let structures = count(MAX_STRUCTURES);
     let edition = edition(rng);
-    let byte = |op: Op| op.byte(edition).expect("an opcode of both editions");
+    let byte = |op: Op| op.byte(edition).expect("an opcode of all editions");
     let mut tables = Owned {
         edition: edition.word(),
         ..Owned::default()
     };
-    for _ in 0..constants {
-        let ty = rng.pick(&NUMBERS);
-        let constant = constant(rng, ty);
-        tables.constants.extend(constant.ty.to_le_bytes());
-        tables.constants.extend(constant.payload.to_le_bytes());
-    }
+    tables.constants = numbers(rng, constants);
     // an entry of `neg` alone, functions of `ret` alone
     let entry = code - functions;
     tables.entry_length = entry as u32;
@@ -230,10 +248,25 @@ fn limits(rng: &mut Rng) -> Owned {
         let place = rng.pick(&[0, any, entry - 1]);
         tables.labels.extend((place as u32).to_le_bytes());
     }
+    if edition.has_heap() {
+        tables.structures = [8, 6, 4, 3, 6, 4, 3, 6, 4, 0, 0, 0].repeat(structures);
+    }
     if rng.one_in(4) {
         part(rng, &mut tables);
     }
     tables
+}
+
+/// This many constants.
+fn numbers(rng: &mut Rng, count: usize) -> Vec<u8> {
+    let mut bytes = Vec::new();
+    for _ in 0..count {
+        let ty = rng.pick(&NUMBERS);
+        let constant = constant(rng, ty);
+        bytes.extend(constant.ty.to_le_bytes());
+        bytes.extend(constant.payload.to_le_bytes());
+    }
+    bytes
 }
 
 /// Any bytes.
@@ -247,6 +280,7 @@ fn random(rng: &mut Rng) -> Owned {
         constants: bytes(40),
         functions: bytes(50),
         labels: bytes(30),
+        structures: bytes(16),
         code: bytes(20),
         entry_length: rng.below(24) as u32,
     }

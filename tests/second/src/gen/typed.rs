@@ -1,8 +1,9 @@
 //! Well-typed programs of several functions.
 
-use super::body::{types, Body, Shared, Signature};
+use super::body::{Body, Shared, Signature};
 use super::constants::pool;
 use super::rng::Rng;
+use super::structures;
 use crate::judge::Lists;
 use crate::opcode::{Edition, Op};
 use crate::program::{Instr, Mark, Program, Routine};
@@ -31,34 +32,38 @@ pub fn size(rng: &mut Rng) -> Size {
     }
 }
 
-pub fn signature(rng: &mut Rng, edition: Edition) -> Signature {
+/// A signature of a module with this many structures.
+pub fn signature(rng: &mut Rng, edition: Edition, structures: usize) -> Signature {
     let count = rng.pick(&[0, 0, 1, 1, 2, 2, 3, 4, 8]);
     let parameters = (0..count)
         .map(|_| {
             if rng.percent(70) {
                 rng.pick(&NUMBERS)
             } else {
-                rng.pick(types(edition))
+                rng.pick(&structures::parameters(edition, structures))
             }
         })
         .collect();
-    (parameters, rng.pick(&[0, 3, 4, 6]))
+    (parameters, structures::returns(rng, edition, structures))
 }
 
 pub fn program(rng: &mut Rng, edition: Edition, size: Size) -> Program {
     let extra = rng.range(0, 8);
+    let structures = structures::declared(rng, edition);
     let shared = Shared {
         edition,
         ops: edition.ops(),
         constants: pool(rng, extra),
         signatures: (0..size.functions)
-            .map(|_| signature(rng, edition))
+            .map(|_| signature(rng, edition, structures.len()))
             .collect(),
+        structures,
     };
     let mut builder = Builder {
         program: Program {
             edition,
             constants: shared.constants.clone(),
+            structures: shared.structures.clone(),
             ..Program::default()
         },
         places: Vec::new(),

@@ -189,7 +189,7 @@ fn refusals() -> Vec<Stated> {
         stated
     };
     let mut cases = vec![good()];
-    for edition in [0, 2, 4, 5, 255, 257, 0x0001_0000, 0x0100_0001, 0xFFFF_FFFF] {
+    for edition in [0, 2, 5, 6, 255, 257, 0x0001_0000, 0x0100_0001, 0xFFFF_FFFF] {
         let mut file = file(plain, 0, 3, FUNCTION);
         file[..4].copy_from_slice(&u32::to_le_bytes(edition));
         cases.push(refused(&format!("edition {edition}"), file, room, 2));

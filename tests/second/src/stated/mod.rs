@@ -1,6 +1,6 @@
 //! Checks with their answers stated: module, room before, and what the paper says of number,
 //! body and the whole room afterwards. They are written out from the paper, not computed.
-//! `writes` and `formulas` have the same for writes and formula lines.
+//! `runs`, `writes` and `formulas` have the same for runs, writes and formula lines.
 
 mod bodies;
 mod calls;
@@ -11,6 +11,9 @@ mod instructions;
 mod joins;
 mod labels;
 mod refusals;
+pub mod runs;
+pub mod structures;
+mod tables;
 pub mod writes;
 
 use crate::asm;
@@ -51,6 +54,7 @@ pub fn all() -> Vec<Stated> {
     all.extend(instructions::cases());
     all.extend(refusals::cases());
     all.extend(editions::cases());
+    all.extend(structures::cases());
     all
 }
 

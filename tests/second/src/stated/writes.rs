@@ -1,6 +1,7 @@
 //! Writes with their answers stated: tables, the output's length, and what document 02's A1
 //! says of number, length and the whole output afterwards.
 
+use super::tables;
 use crate::compare::write_difference;
 use crate::gen::tables::Owned;
 use crate::hex;
@@ -52,10 +53,11 @@ pub fn all() -> Vec<StatedWrite> {
     all.extend(first_number());
     all.extend(outputs());
     all.extend(editions());
+    all.extend(tables::cases());
     all
 }
 
-fn bytes(text: &str) -> Vec<u8> {
+pub(super) fn bytes(text: &str) -> Vec<u8> {
     hex::decode(text).expect("hex digits")
 }
 
@@ -71,7 +73,7 @@ fn w1() -> Owned {
 
 /// Two constants, two functions and two labels: an int 7, a long 5; the entry of two `push`, a
 /// function of an int and a pointer to long that returns its first, one that only returns.
-fn base() -> Owned {
+pub(super) fn base() -> Owned {
     Owned {
         edition: 3,
         constants: bytes("03000000 07000000 00000000 04000000 05000000 00000000"),
@@ -82,6 +84,7 @@ fn base() -> Owned {
         labels: bytes("FFFFFFFF 05000000 00000000 0A000000"),
         code: bytes("0100000000 0101000000 0300000000 28 28"),
         entry_length: 10,
+        ..Owned::default()
     }
 }
 
@@ -89,19 +92,25 @@ fn base() -> Owned {
 const BASE_HEADER: &str = "03000000 91000000 02000000 30000000 02000000 48000000
     02000000 70000000 11000000 80000000 0A000000 00000000";
 
-fn joined(header: &str, tables: &Owned) -> Vec<u8> {
+pub(super) fn joined(header: &str, tables: &Owned) -> Vec<u8> {
     let sections = [
         &tables.constants,
         &tables.functions,
         &tables.labels,
         &tables.code,
+        &tables.structures,
     ];
     let mut file = bytes(header);
     file.extend(sections.into_iter().flatten());
     file
 }
 
-fn stated(name: &str, tables: Owned, out: usize, answer: Result<Vec<u8>, u32>) -> StatedWrite {
+pub(super) fn stated(
+    name: &str,
+    tables: Owned,
+    out: usize,
+    answer: Result<Vec<u8>, u32>,
+) -> StatedWrite {
     StatedWrite {
         name: name.to_string(),
         tables,
@@ -111,7 +120,7 @@ fn stated(name: &str, tables: Owned, out: usize, answer: Result<Vec<u8>, u32>) -
 }
 
 /// A refusal, though the output is long enough.
-fn refused(number: u32, name: &str, tables: Owned) -> StatedWrite {
+pub(super) fn refused(number: u32, name: &str, tables: Owned) -> StatedWrite {
     stated(name, tables, 40_000, Err(number))
 }
 
@@ -143,7 +152,7 @@ fn written() -> Vec<StatedWrite> {
 
 /// This many constants, functions and labels, and bytes of code; a function is one `ret`, the
 /// entry `neg` to the code's end.
-fn counts(constants: usize, functions: usize, labels: usize, code: usize) -> Owned {
+pub(super) fn counts(constants: usize, functions: usize, labels: usize, code: usize) -> Owned {
     let entry = code - functions;
     let mut tables = Owned {
         constants: bytes("04000000 FFFFFFFF FFFFFFFF").repeat(constants),
@@ -350,6 +359,12 @@ fn outputs() -> Vec<StatedWrite> {
     all
 }
 
+/// The tables for another edition.
+pub(super) fn with(mut tables: Owned, edition: u32) -> Owned {
+    tables.edition = edition;
+    tables
+}
+
 /// The base for edition 1: the same code in its numbers, and a long in the pointer's place.
 fn old() -> Owned {
     let mut tables = base();
@@ -359,13 +374,9 @@ fn old() -> Owned {
     tables
 }
 
-/// "A1, told which, writes either"; "2, now A1's too, means neither 1 nor 3".
+/// "A1, told which, writes either"; "2, now A1's too".
 fn editions() -> Vec<StatedWrite> {
     let header = BASE_HEADER.replacen("03000000", "01000000", 1);
-    let with = |mut tables: Owned, edition| {
-        tables.edition = edition;
-        tables
-    };
     let empty = "01000000 30000000 00000000 30000000 00000000 30000000
         00000000 30000000 00000000 30000000 00000000 00000000";
     let mut all = vec![
@@ -381,7 +392,17 @@ fn editions() -> Vec<StatedWrite> {
         refused(8, "edition 3, code of edition 1", with(old(), 3)),
         refused(7, "edition 1, a pointer parameter", with(base(), 1)),
     ];
-    for edition in [0, 2, 4, 257, 259, 0x0001_0000, 0x0100_0003, 0xFFFF_FFFF] {
+    for edition in [
+        0,
+        2,
+        5,
+        257,
+        259,
+        260,
+        0x0001_0000,
+        0x0100_0003,
+        0xFFFF_FFFF,
+    ] {
         all.push(refused(
             2,
             &format!("edition {edition}"),
@@ -400,9 +421,9 @@ fn editions() -> Vec<StatedWrite> {
         "edition 2, 1,025 constants",
         with(counts(1025, 0, 0, 1), 2),
     ));
-    let mut part = with(base(), 4);
+    let mut part = with(base(), 5);
     part.labels.push(0);
-    all.push(refused(2, "edition 4, part of a label", part));
+    all.push(refused(2, "edition 5, part of a label", part));
     // each opcode byte, as the entry: those of both editions, of one, of none
     for byte in 0..=255u8 {
         for edition in [1, 3] {

@@ -3,6 +3,7 @@
 
 use second::asm;
 use second::check::{check, Checked};
+use second::heap::LentHeap;
 use second::reader::ENTRY;
 use second::rules::Rules;
 use second::run::{run, Call, LentStack, Ran};
@@ -38,18 +39,19 @@ pub fn run_file(
         payloads: &mut payloads,
         types: &mut types,
     };
-    match run(Rules::PLAIN, file, call, stack) {
+    let heap = LentHeap {
+        cells: &mut [0xEE; 8 * 20],
+        blocks: &mut [0xEE; 24 * 20],
+    };
+    match run(Rules::PLAIN, file, call, stack, heap) {
         Ran::Refused(number) => Err(number),
         Ran::Ended {
             outcome,
             steps,
             height,
         } => {
-            let rest = payloads[8 * height..].iter().chain(&types[height..]);
-            assert!(
-                rest.clone().all(|&byte| byte == 0),
-                "slots above the height"
-            );
+            let mut rest = payloads[8 * height..].iter().chain(&types[height..]);
+            assert!(rest.all(|&byte| byte == 0), "slots above the height");
             let slot = |n: usize| (types[n], payload(&payloads, 8 * n));
             Ok((outcome, steps, (0..height).map(slot).collect()))
         }
