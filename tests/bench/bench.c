@@ -27,6 +27,13 @@ static Lent lent[SIDES];
 // How many calls are compared and counted: a recipe's depend on its arguments.
 static uint32_t counted_calls(int i) { return rows[i].kind == RECIPE ? 1000 : 1; }
 
+// What a turn's figures are divided by: pairs, steps or calls.
+static double units(int i, int s, uint32_t calls) {
+    if (rows[i].pairs)
+        return (double)calls * rows[i].pairs;
+    return rows[i].kind == RUN || rows[i].kind == HEAP ? (double)lent[s].all_steps : calls;
+}
+
 // ---- comparing
 
 // Are all that both were lent and gave the same after a turn, and the answers those that are wanted?
@@ -89,7 +96,7 @@ static double timed(int s, int i, uint32_t calls) {
 }
 
 // Rounds over all rows, so that a noisy moment of the machine does not meet one row alone. A turn takes a millisecond
-// or more. smallest: seconds a step of a run, and a call of the others.
+// or more. smallest: seconds a unit.
 static int time_all(int rounds, double smallest[ROWS][SIDES]) {
     uint32_t calls[ROWS];
     for (int i = 0; i < ROWS; i++) {
@@ -104,7 +111,8 @@ static int time_all(int rounds, double smallest[ROWS][SIDES]) {
                 lend(&lent[s]);
             for (int k = 0; k < SIDES; k++) {
                 int s = (r + k) % SIDES;
-                double t = timed(s, i, calls[i]) / (rows[i].kind == RUN ? lent[s].all_steps : calls[i]);
+                double t = timed(s, i, calls[i]);
+                t /= units(i, s, calls[i]);
                 smallest[i][s] = t < smallest[i][s] ? t : smallest[i][s];
             }
             if (!same_row(i))
@@ -115,8 +123,10 @@ static int time_all(int rounds, double smallest[ROWS][SIDES]) {
 
 // ---- machine instructions
 
+// Pairs are known of whole runs.
 static void counted_turn(int i, int s) {
-    turn(sides[s], &rows[i], &files[i], counted_calls(i), counted_steps, SEED, &lent[s]);
+    uint64_t allowance = rows[i].pairs ? whole : counted_steps;
+    turn(sides[s], &rows[i], &files[i], counted_calls(i), allowance, SEED, &lent[s]);
 }
 
 // Instructions between a call of the row's function and its return, by callgrind on a program that does the turn. Its
@@ -139,16 +149,17 @@ static double counted(const char *program, const char *directory, int i, int s) 
         exit(2);
     }
     counted_turn(i, s);
-    return (double)count / (rows[i].kind == RUN ? lent[s].all_steps : counted_calls(i));
+    return (double)count / units(i, s, counted_calls(i));
 }
 
 // ---- the table
 
-// Of a row in edition 1: the ratios to edition 3, of the library and of the C; 1 if the library's is over its limit.
-static int print_editions(int i, double figures[ROWS][SIDES], int limits) {
-    double ratio = figures[i][LIBRARY] / figures[i - 1][LIBRARY], limit = groups[rows[i].kind].edition_limit;
+// Of a row that is the one before it again: the ratios to that, of the library and of the C; 1 if the library's is over
+// its limit.
+static int print_again(int i, double figures[ROWS][SIDES], int limits) {
+    double ratio = figures[i][LIBRARY] / figures[i - 1][LIBRARY], limit = groups[rows[i].kind].again_limit;
     int over = limit > 0 && ratio > limit;
-    printf("  %.2f of edition 3", ratio);
+    printf("  %.2f of %s", ratio, rows[i].kind == HEAP ? "fewer blocks" : "edition 3");
     if (limits && limit > 0)
         printf(", limit %.2f%s", limit, over ? " OVER" : "");
     printf(" (C %.2f)", figures[i][BASELINE] / figures[i - 1][BASELINE]);
@@ -159,7 +170,7 @@ static int print_editions(int i, double figures[ROWS][SIDES], int limits) {
 static int limited(void) {
     int count = ROWS;
     for (int i = 0; i < ROWS; i++)
-        count += rows[i].again && groups[rows[i].kind].edition_limit > 0;
+        count += rows[i].again && groups[rows[i].kind].again_limit > 0;
     return count;
 }
 
@@ -174,7 +185,7 @@ static int print(const char *what, double scale, double figures[ROWS][SIDES], in
             printf("%s%-48s %10s %10s  ratio%s\n", i ? "\n" : "", title, "library", "C", limits ? "  limit" : "");
         }
         double ours = scale * figures[i][LIBRARY], c = scale * figures[i][BASELINE], ratio = ours / c;
-        int decimals = rows[i].kind == RUN ? 2 : 1;
+        int decimals = rows[i].kind == RUN || rows[i].kind == HEAP ? 2 : 1;
         printf("  %-46s %10.*f %10.*f  %5.2f", rows[i].name, decimals, ours, decimals, c, ratio);
         double limit = limit_of(&rows[i]);
         if (limits)
@@ -182,7 +193,7 @@ static int print(const char *what, double scale, double figures[ROWS][SIDES], in
         else if (has_line(&rows[i]))
             printf("  of at most %.0f%s", most_time(&rows[i]), ours > most_time(&rows[i]) ? "  OVER" : "");
         if (rows[i].again)
-            over += print_editions(i, figures, limits);
+            over += print_again(i, figures, limits);
         printf("\n");
         over += ratio > limit;
     }

@@ -35,9 +35,13 @@ const char *called(const Side *side, const Row *row) {
 
 void lend(Lent *lent) { memset(lent, 0xA5, sizeof *lent); }
 
-static void run_entry(const Side *side, const Row *row, const File *module, uint64_t allowance, Lent *lent) {
-    lent->answers |= side->run(module->file, module->length, LIMPETSKEIN_ENTRY, NULL, 0, NULL, 0, allowance,
-                               lent->payloads + GUARD, 8 * row->slots, lent->types + GUARD, row->slots, &lent->steps,
+// A run on the row's slots and cells. Where it has no cells, no heap is lent.
+static void run(const Side *side, const Row *row, const File *module, uint32_t function, const uint8_t *types,
+                const uint8_t *payloads, uint32_t arguments, uint64_t allowance, Lent *lent) {
+    lent->answers |= side->run(module->file, module->length, function, types, arguments, payloads, 8 * arguments,
+                               allowance, lent->payloads + GUARD, 8 * row->slots, lent->types + GUARD, row->slots,
+                               row->cells ? lent->heap + GUARD : NULL, LIMPETSKEIN_CELL * row->cells,
+                               row->cells ? lent->blocks + GUARD : NULL, LIMPETSKEIN_BLOCK * row->cells, &lent->steps,
                                &lent->height);
     lent->all_steps += lent->steps;
 }
@@ -47,17 +51,14 @@ static void run_recipe(const Side *side, const Row *row, const File *module, uin
                        Lent *lent) {
     static const uint8_t types[3] = {LIMPETSKEIN_INT, LIMPETSKEIN_INT, LIMPETSKEIN_INT};
     uint8_t channels[24] = {[0] = random >> 24, [8] = random >> 16, [16] = random >> 8};
-    lent->answers |= side->run(module->file, module->length, 0, types, 3, channels, 24, allowance,
-                               lent->payloads + GUARD, 8 * row->slots, lent->types + GUARD, row->slots, &lent->steps,
-                               &lent->height);
-    lent->all_steps += lent->steps;
+    run(side, row, module, 0, types, channels, 3, allowance, lent);
     lent->all_values += lent->payloads[GUARD] | lent->payloads[GUARD + 1] << 8;
 }
 
 // A run of a function that does not exist: 12, after the whole module was read.
 static void open_only(const Side *side, const File *module, Lent *lent) {
     lent->answers |= side->run(module->file, module->length, LIMPETSKEIN_ENTRY - 1, NULL, 0, NULL, 0, 1, NULL, 0, NULL,
-                               0, &lent->steps, &lent->height);
+                               0, NULL, 0, NULL, 0, &lent->steps, &lent->height);
 }
 
 static uint32_t word(const File *module, size_t at) {
@@ -68,11 +69,12 @@ static uint32_t word(const File *module, size_t at) {
 // The module's own sections, by the offsets in its header.
 static void write_again(const Side *side, const File *module, Lent *lent) {
     size_t constants = word(module, 12), functions = word(module, 20), labels = word(module, 28);
-    size_t code = word(module, 36);
+    size_t code = word(module, 36), structures = code + word(module, 32);
     const uint8_t *file = module->file;
     lent->answers |= side->write(word(module, 0), file + constants, functions - constants, file + functions,
-                                 labels - functions, file + labels, code - labels, file + code, module->length - code,
-                                 word(module, 40), lent->out + GUARD, LIMPETSKEIN_LONGEST_MODULE, &lent->written);
+                                 labels - functions, file + labels, code - labels, file + structures,
+                                 module->length - structures, file + code, structures - code, word(module, 40),
+                                 lent->out + GUARD, LIMPETSKEIN_LONGEST_MODULE, &lent->written);
 }
 
 void compile(const Side *side, const File *line, size_t room, Lent *lent) {
@@ -86,7 +88,8 @@ void turn(const Side *side, const Row *row, const File *file, uint32_t calls, ui
     for (uint32_t i = 0; i < calls; i++) {
         switch (row->kind) {
         case RUN:
-            run_entry(side, row, file, allowance, lent);
+        case HEAP:
+            run(side, row, file, LIMPETSKEIN_ENTRY, NULL, NULL, 0, allowance, lent);
             break;
         case RECIPE:
             seed = seed * 1664525u + 1013904223u;

@@ -30,10 +30,13 @@ void load(const char *directory, const Row *row, File *file);
 
 enum { GUARD = 64, ROOM = LIMPETSKEIN_MOST_LABELS * LIMPETSKEIN_ROOM_PER_LABEL };
 
+enum { CELLS = LIMPETSKEIN_CELL * LIMPETSKEIN_MOST_CELLS, BLOCKS = LIMPETSKEIN_BLOCK * LIMPETSKEIN_MOST_CELLS };
+
 // All that a side is lent, with bytes around that must stay, and all that it gives.
 typedef struct {
     uint8_t payloads[GUARD + 8 * LIMPETSKEIN_MOST_SLOTS + GUARD], types[GUARD + LIMPETSKEIN_MOST_SLOTS + GUARD];
     uint8_t room[GUARD + ROOM + GUARD], out[GUARD + LIMPETSKEIN_LONGEST_MODULE + GUARD];
+    uint8_t heap[GUARD + CELLS + GUARD], blocks[GUARD + BLOCKS + GUARD];
     uint64_t steps, height, all_steps, all_values, written;
     uint32_t body, answers;
 } Lent;

@@ -14,8 +14,8 @@ enum { LABELS, NONE, BOTH, PAIRS = 2, ROUNDS = 1000 };
 static const double most_seconds = 1;
 
 static const Row pairs[PAIRS][BOTH] = {
-    {{"one-byte instructions", "last-labels", OPENING, 0, 0, 0}, {"", "no-labels", OPENING, 0, 0, 0}},
-    {{"five-byte instructions", "last-labels-wide", OPENING, 0, 0, 0}, {"", "no-labels-wide", OPENING, 0, 0, 0}},
+    {{"one-byte instructions", "last-labels", .kind = OPENING}, {"", "no-labels", .kind = OPENING}},
+    {{"five-byte instructions", "last-labels-wide", .kind = OPENING}, {"", "no-labels-wide", .kind = OPENING}},
 };
 
 static File files[BOTH];

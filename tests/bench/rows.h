@@ -4,27 +4,29 @@
 
 #include <stdint.h>
 
-typedef enum { RUN, RECIPE, CHECK, OPENING, WRITE, FORMULA, REFUSED, KINDS } Kind;
+typedef enum { RUN, RECIPE, HEAP, CHECK, OPENING, WRITE, FORMULA, REFUSED, KINDS } Kind;
 
-// What the rows of a kind have in common. limit: the most machine instructions, as a ratio to C. edition_limit: the
-// most in edition 1, as a ratio to edition 3; 0 where that ratio has no limit.
+// What the rows of a kind have in common. limit: the most machine instructions, as a ratio to C. again_limit: the most
+// of a row that is the one before it again, as a ratio to that row; 0 where this has no limit.
 typedef struct {
     const char *name, *unit;
-    double limit, edition_limit;
+    double limit, again_limit;
     uint32_t answer;
 } Group;
 
 // A row: its module, or the name of its line; the slots that are lent; a limit of its own, or 0. again: it is the row
-// before it in edition 1, the same program with the same instructions.
+// before it in edition 1, the same program with the same instructions; on a heap, with more blocks. cells: those that
+// are lent. pairs: of new and delete, in a call; 0 where something else is measured.
 typedef struct {
     const char *name, *module;
     Kind kind;
     uint32_t slots;
     double limit;
     int again;
+    uint32_t cells, pairs;
 } Row;
 
-enum { ROWS = 37 };
+enum { ROWS = 43 };
 
 extern const Group groups[KINDS];
 extern const Row rows[ROWS];

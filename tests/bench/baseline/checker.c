@@ -21,6 +21,9 @@ static inline int is_same(const uint8_t *record, const State *s) {
     return _mm_movemask_epi8(x) == 0xFFFF;
 }
 
+// 83, 84 or 86: neither null nor a structure's.
+static inline int points_to_number(uint8_t type) { return type > POINTER_TO && type <= (POINTER_TO | DOUBLE); }
+
 #define FAIL return 0
 #define SAVE (s.bytes[LOCAL_COUNT] = (uint8_t)locals, s.bytes[OPERAND_COUNT] = (uint8_t)operands)
 #define OPERAND read32(m->code + place + 1)
@@ -107,13 +110,13 @@ static int type_body(const Module *m, uint8_t *room, uint32_t body, uint32_t sta
             place += 5;
             continue;
         case TLOAD:
-            if (!operands || operand[operands - 1] < POINTER_TO)
+            if (!operands || !points_to_number(operand[operands - 1]))
                 FAIL;
             operand[operands - 1] &= TARGET;
             place++;
             continue;
         case TSTORE:
-            if (operands < 2 || operand[operands - 2] < POINTER_TO ||
+            if (operands < 2 || !points_to_number(operand[operands - 2]) ||
                 (operand[operands - 2] & TARGET) != operand[operands - 1])
                 FAIL;
             operand[operands - 1] = operand[operands - 2] = 0;
@@ -150,7 +153,7 @@ static int type_body(const Module *m, uint8_t *room, uint32_t body, uint32_t sta
             place++;
             continue;
         case INC: case DEC:
-            if (!operands || operand[operands - 1] < POINTER_TO)
+            if (!operands || !points_to_number(operand[operands - 1]))
                 FAIL;
             operand[--operands] = 0;
             place++;
@@ -166,7 +169,10 @@ static int type_body(const Module *m, uint8_t *room, uint32_t body, uint32_t sta
             place++;
             continue;
         case CMP: case ICMP:
-            if (operands < 2 || operand[operands - 1] != operand[operands - 2])
+            if (operands < 2)
+                FAIL;
+            if (operand[operands - 1] != operand[operands - 2] &&
+                (m->edition != 4 || operand[operands - 1] < POINTER_TO || operand[operands - 2] < POINTER_TO))
                 FAIL;
             operand[--operands] = 0;
             operand[operands - 1] = INT;
@@ -230,6 +236,37 @@ static int type_body(const Module *m, uint8_t *room, uint32_t body, uint32_t sta
             operand[operands - 1] = op == TOI ? INT : op == TOL ? LONG : DOUBLE;
             place++;
             continue;
+        case NULL_POINTER:
+            if (operands >= MOST_OPERANDS)
+                FAIL;
+            operand[operands++] = POINTER_TO;
+            place++;
+            continue;
+        case NEW:
+            n = OPERAND;
+            if (operands >= MOST_OPERANDS || !type_width(m, n))
+                FAIL;
+            operand[operands++] = (uint8_t)(POINTER_TO | n);
+            place += 5;
+            continue;
+        case DELETE:
+            if (!operands || operand[operands - 1] < POINTER_TO)
+                FAIL;
+            operand[--operands] = 0;
+            place++;
+            continue;
+        case FLEA: {
+            n = OPERAND;
+            if (!operands || operand[operands - 1] < POINTER_TO + LIMPETSKEIN_FIRST_STRUCTURE)
+                FAIL;
+            const uint8_t *fields =
+                m->structures + STRUCTURE * (operand[operands - 1] - POINTER_TO - LIMPETSKEIN_FIRST_STRUCTURE);
+            if (n >= fields[0])
+                FAIL;
+            operand[operands - 1] = fields[1 + n] | POINTER_TO;
+            place += 5;
+            continue;
+        }
         }
         __builtin_unreachable(); // the reader met no other opcode
     }

@@ -3,7 +3,7 @@
 #include <emmintrin.h>
 
 #include "baseline.h"
-#include "module.h"
+#include "heap.h"
 
 // A frame. Those that wait also have where they go on, and what the running one has in registers.
 typedef struct {
@@ -146,26 +146,33 @@ static inline uint64_t double_to_long(double v) {
     }
 
 // What a pointer names is counted up or down.
-#define COUNT(name, op)                                                     \
-    name: {                                                                 \
-        NEED_ONE;                                                           \
-        if (unlikely(TOP_TYPE != POINTER))                                  \
-            RAISE(POINTER_NOTPOINTER);                                      \
-        uint64_t slot = read64(TOP);                                        \
-        if (unlikely(slot >= (size_t)(tp - types) - 1))                     \
-            RAISE(POINTER_UNKNOWNADDRESS);                                  \
-        uint8_t type = types[slot];                                         \
-        if (likely(type == INT))                                            \
-            write64(PAYLOAD(slot), (uint32_t)(read32(PAYLOAD(slot)) op 1)); \
-        else if (type == DOUBLE)                                            \
-            write_double(PAYLOAD(slot), read_double(PAYLOAD(slot)) op 1.0); \
-        else if (type == LONG)                                              \
-            write64(PAYLOAD(slot), read64(PAYLOAD(slot)) op 1);             \
-        else                                                                \
-            RAISE(POINTER_INVALIDFORPOINTER);                               \
-        DROP(1);                                                            \
-        pc++;                                                               \
-        NEXT;                                                               \
+#define COUNT(name, op)                                   \
+    name: {                                               \
+        NEED_ONE;                                         \
+        if (unlikely(TOP_TYPE != POINTER))                \
+            RAISE(POINTER_NOTPOINTER);                    \
+        uint64_t slot = read64(TOP);                      \
+        uint8_t *cell = PAYLOAD(slot);                    \
+        uint32_t type;                                    \
+        if (unlikely(slot >= (size_t)(tp - types) - 1)) { \
+            Number number = heap_number(&blocks, slot);   \
+            if (unlikely(answer = number.answer))         \
+                goto raised;                              \
+            cell = number.cell;                           \
+            type = number.type;                           \
+        } else                                            \
+            type = types[slot];                           \
+        if (likely(type == INT))                          \
+            write64(cell, (uint32_t)(read32(cell) op 1)); \
+        else if (type == DOUBLE)                          \
+            write_double(cell, read_double(cell) op 1.0); \
+        else if (type == LONG)                            \
+            write64(cell, read64(cell) op 1);             \
+        else                                              \
+            RAISE(POINTER_INVALIDFORPOINTER);             \
+        DROP(1);                                          \
+        pc++;                                             \
+        NEXT;                                             \
     }
 
 // The top operand itself is counted up or down: edition 1, which has no pointers.
@@ -209,7 +216,8 @@ static inline uint64_t double_to_long(double v) {
 uint32_t baseline_run(const uint8_t *module, size_t module_len, uint32_t function, const uint8_t *arg_types,
                       size_t arg_types_len, const uint8_t *arg_payloads, size_t arg_payloads_len, uint64_t allowance,
                       uint8_t *const payloads, size_t payloads_len, uint8_t *const types, size_t types_len,
-                      uint64_t *steps, uint64_t *height) {
+                      uint8_t *heap, size_t heap_len, uint8_t *table, size_t table_len, uint64_t *steps,
+                      uint64_t *height) {
     static const void *const instruction[64] = {
         [PUSH] = &&push, [POP] = &&pop, [LOAD] = &&load, [STORE] = &&store, [LEA] = &&lea, [TLOAD] = &&tload,
         [TSTORE] = &&tstore, [COPY] = &&copy, [SWAP] = &&swap, [ADD] = &&add, [SUB] = &&sub, [MUL] = &&mul,
@@ -217,10 +225,12 @@ uint32_t baseline_run(const uint8_t *module, size_t module_len, uint32_t functio
         [DEC] = &&dec, [AND] = &&and, [OR] = &&or, [XOR] = &&xor, [NOT] = &&not, [SHL] = &&shl, [SAL] = &&sal,
         [SHR] = &&shr, [SAR] = &&sar, [CMP] = &&cmp, [ICMP] = &&icmp, [JMP] = &&jmp, [JE] = &&je, [JNE] = &&jne,
         [JA] = &&ja, [JAE] = &&jae, [JB] = &&jb, [JBE] = &&jbe, [CALL] = &&call, [RET] = &&ret, [TOI] = &&toi,
-        [TOL] = &&tol, [TOD] = &&tod, [0] = &&no_opcode, [6] = &&no_opcode, [INC_TOP] = &&inc_top, [DEC_TOP] = &&dec_top,
-        [0x2D] = &&no_opcode, [0x2F ... 63] = &&no_opcode};
+        [TOL] = &&tol, [TOD] = &&tod, [FLEA] = &&flea, [NULL_POINTER] = &&null_pointer, [NEW] = &&new,
+        [DELETE] = &&delete, [INC_TOP] = &&inc_top, [DEC_TOP] = &&dec_top, [0] = &&no_opcode, [0x2D] = &&no_opcode,
+        [0x2F] = &&no_opcode, [0x33 ... 63] = &&no_opcode};
 
     Frame frames[MOST_FRAMES];
+    Heap blocks;
     uint64_t starts[BITMAP];
     uint8_t translated[LONGEST_CODE];
     Module m;
@@ -265,6 +275,7 @@ uint32_t baseline_run(const uint8_t *module, size_t module_len, uint32_t functio
         if (unlikely(bad))
             return LIMPETSKEIN_BAD_ARGUMENTS;
         if (unlikely(n > capacity)) {
+            heap_start(&blocks, &m, heap, heap_len, table, table_len);
             answer = LIMPETSKEIN_STACK_OVERFLOW;
             goto out;
         }
@@ -279,6 +290,7 @@ uint32_t baseline_run(const uint8_t *module, size_t module_len, uint32_t functio
         pc = code + read32(f);
         end = pc + read32(f + 4);
     }
+    heap_start(&blocks, &m, heap, heap_len, table, table_len);
     frame->body = function;
     frame->bottom = 0;
     // payload and type of the first free slot; types of the frame's first operand and of the slot past the capacity
@@ -353,8 +365,15 @@ tload: {
     if (unlikely(TOP_TYPE != POINTER))
         RAISE(POINTER_NOTPOINTER);
     uint64_t slot = read64(TOP);
-    if (unlikely(slot >= (size_t)(tp - types) - 1))
-        RAISE(POINTER_UNKNOWNADDRESS);
+    if (unlikely(slot >= (size_t)(tp - types) - 1)) {
+        Number number = heap_number(&blocks, slot);
+        if (unlikely(answer = number.answer))
+            goto raised;
+        write64(TOP, read64(number.cell));
+        TOP_TYPE = (uint8_t)number.type;
+        pc++;
+        NEXT;
+    }
     write64(TOP, read64(PAYLOAD(slot)));
     TOP_TYPE = types[slot];
     pc++;
@@ -365,8 +384,17 @@ tstore: {
     if (unlikely(SECOND_TYPE != POINTER))
         RAISE(POINTER_NOTPOINTER);
     uint64_t slot = read64(SECOND);
-    if (unlikely(slot >= (size_t)(tp - types) - 2))
-        RAISE(POINTER_UNKNOWNADDRESS);
+    if (unlikely(slot >= (size_t)(tp - types) - 2)) {
+        Number number = heap_number(&blocks, slot);
+        if (unlikely(answer = number.answer))
+            goto raised;
+        if (unlikely(number.type != TOP_TYPE))
+            RAISE(STACK_DIFFERENTTYPE);
+        write64(number.cell, read64(TOP));
+        DROP(2);
+        pc++;
+        NEXT;
+    }
     if (unlikely(types[slot] != TOP_TYPE))
         RAISE(STACK_DIFFERENTTYPE);
     write64(PAYLOAD(slot), read64(TOP));
@@ -507,10 +535,11 @@ ret: {
         RAISE(FUNCTION_TOPOFCALLSTACK);
     if (returns) {
         NEED_ONE;
-        if (unlikely(TOP_TYPE != returns))
+        uint8_t kind = returns >= POINTER_TO ? POINTER : returns;
+        if (unlikely(TOP_TYPE != kind))
             RAISE(STACK_DIFFERENTTYPE);
         write64(PAYLOAD(bottom), read64(TOP));
-        types[bottom] = returns;
+        types[bottom] = kind;
         sp = PAYLOAD(bottom + 1);
         tp = types + bottom + 1;
     } else {
@@ -563,6 +592,48 @@ tod: {
         RAISE(POINTER_INVALIDFORPOINTER);
     TOP_TYPE = DOUBLE;
     pc++;
+    NEXT;
+}
+
+null_pointer:
+    NEED_SLOT;
+    write64(sp, LIMPETSKEIN_NULL);
+    *tp = POINTER;
+    GROW;
+    pc++;
+    NEXT;
+new: {
+    uint32_t type = OPERAND, width = type_width(&m, type);
+    if (unlikely(!width))
+        RAISE(TYPE_OUTOFRANGE);
+    NEED_SLOT;
+    write64(sp, heap_new(&blocks, type, width));
+    *tp = POINTER;
+    GROW;
+    pc += 5;
+    NEXT;
+}
+delete: {
+    NEED_ONE;
+    if (unlikely(TOP_TYPE != POINTER))
+        RAISE(POINTER_NOTPOINTER);
+    uint64_t address = read64(TOP);
+    if (unlikely(address != LIMPETSKEIN_NULL && !heap_delete(&blocks, address)))
+        RAISE(POINTER_UNKNOWNADDRESS);
+    DROP(1);
+    pc++;
+    NEXT;
+}
+flea: {
+    uint32_t field = OPERAND;
+    NEED_ONE;
+    if (unlikely(TOP_TYPE != POINTER))
+        RAISE(POINTER_NOTPOINTER);
+    Address address = heap_field(&blocks, read64(TOP), (size_t)(tp - types) - 1, field);
+    if (unlikely(answer = address.answer))
+        goto raised;
+    write64(TOP, address.address);
+    pc += 5;
     NEXT;
 }
 

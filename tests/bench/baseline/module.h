@@ -18,7 +18,7 @@ enum { MOST_LOCALS = 16, MOST_OPERANDS = 32, MOST_FRAMES = 64 };
 enum { BITMAP = LONGEST_CODE / 64 + 1 };
 
 // Lengths of the file's header and of the records of its sections.
-enum { HEADER = 48, CONSTANT = 12, FUNCTION = 20, LABEL = 8 };
+enum { HEADER = 48, HEADER_4 = 56, CONSTANT = 12, FUNCTION = 20, LABEL = 8, STRUCTURE = 12 };
 
 // In a function's record, after its place and its length in the code.
 enum { PARAMETERS = 8, RETURNS = 9, PARAMETER_TYPES = 10 };
@@ -31,10 +31,10 @@ enum { POINTER_TO = 0x80, TARGET = 0x7F };
 #define ENTRY LIMPETSKEIN_ENTRY
 
 enum {
-    PUSH = 0x01, POP, LOAD, STORE, LEA,
+    PUSH = 0x01, POP, LOAD, STORE, LEA, FLEA,
     TLOAD = 0x07, TSTORE, COPY, SWAP, ADD, SUB, MUL, IMUL, DIV, IDIV, MOD, IMOD, NEG, INC, DEC, AND, OR, XOR, NOT,
     SHL, SAL, SHR, SAR, CMP, ICMP, JMP, JE, JNE, JA, JAE, JB, JBE, CALL, RET,
-    TOI = 0x2B, TOL = 0x2C, TOD = 0x2E
+    TOI = 0x2B, TOL = 0x2C, TOD = 0x2E, NULL_POINTER = 0x30, NEW, DELETE
 };
 
 // What inc and dec of edition 1 become: numbers that no file has.
@@ -44,6 +44,8 @@ enum { INC_TOP = 0x29, DEC_TOP = 0x2A };
 typedef struct {
     const uint8_t *constants, *functions, *labels, *code;
     uint32_t constant_count, function_count, label_count, code_length, entry_length;
+    uint32_t edition, structure_count; // edition 4 has structures
+    const uint8_t *structures;
 } Module;
 
 static inline uint32_t read32(const uint8_t *at) {
@@ -56,6 +58,14 @@ static inline uint64_t read64(const uint8_t *at) {
     uint64_t v;
     memcpy(&v, at, 8);
     return v;
+}
+
+// The cells of a block of this type; 0 where there is no such type.
+static inline uint32_t type_width(const Module *m, uint32_t type) {
+    if (type == INT || type == LONG || type == DOUBLE)
+        return 1;
+    uint32_t i = type - LIMPETSKEIN_FIRST_STRUCTURE;
+    return i < m->structure_count ? m->structures[STRUCTURE * i] : 0;
 }
 
 static inline int has_bit(const uint64_t *bitmap, uint32_t place) {
@@ -71,5 +81,8 @@ uint32_t test_sections(const Module *module, uint64_t *starts);
 
 // The same of edition 1; the module's code is then the translated one.
 uint32_t test_old_sections(Module *module, uint8_t *translated);
+
+// The same of edition 4.
+uint32_t test_new_sections(const Module *module);
 
 #endif

@@ -14,6 +14,10 @@ enum { SHORT_CODE = 1024 };
 #define WIDE_OPCODES 0x000000FF0000003Aull
 #define OPCODES 0x000059FFFFFFFFBEull
 
+// The same of edition 4.
+#define NEW_WIDE_OPCODES (WIDE_OPCODES | 1ull << FLEA | 1ull << NEW)
+#define NEW_OPCODES (OPCODES | NEW_WIDE_OPCODES | 1ull << NULL_POINTER | 1ull << DELETE)
+
 // Types of constants, as bits. A function may also return nothing, 0.
 #define NUMBER_TYPES (1u << INT | 1u << LONG | 1u << DOUBLE)
 
@@ -48,10 +52,9 @@ static INLINE uint32_t test_labels(const Module *m, const uint8_t *starts) {
     return 0;
 }
 
-// Rows 8 and 9. A processor learns the branches when the same module comes again. Its bytes would make a large frame of
-// the caller's.
-static __attribute__((noinline)) uint32_t test_short_code(const Module *m) {
-    uint8_t starts[SHORT_CODE + 1];
+// Rows 8 and 9, of code with these opcodes, of which these take an operand. starts: a byte for each place. A processor
+// learns the branches when the same module comes again.
+static INLINE uint32_t walk_code(const Module *m, uint8_t *starts, uint64_t opcodes, uint64_t wide, uint32_t last) {
     uint32_t place = 0, end = m->entry_length;
     const uint8_t *at = m->functions;
     if (m->label_count)
@@ -59,14 +62,14 @@ static __attribute__((noinline)) uint32_t test_short_code(const Module *m) {
     for (uint32_t i = 0;; i++, at += FUNCTION) {
         while (place < end) {
             uint32_t op = m->code[place];
-            if (unlikely(op > TOD))
+            if (unlikely(op > last))
                 return LIMPETSKEIN_BAD_CODE;
             starts[place] = 1;
-            if (WIDE_OPCODES >> op & 1) {
+            if (wide >> op & 1) {
                 __asm__("" : "+r"(place)); // keeps this a branch
                 place += 5;
             } else {
-                if (unlikely(!(OPCODES >> op & 1)))
+                if (unlikely(!(opcodes >> op & 1)))
                     return LIMPETSKEIN_BAD_CODE;
                 place += 1;
             }
@@ -78,6 +81,12 @@ static __attribute__((noinline)) uint32_t test_short_code(const Module *m) {
         end += read32(at + 4);
     }
     return test_labels(m, starts);
+}
+
+// Its bytes would make a large frame of the caller's.
+static __attribute__((noinline)) uint32_t test_short_code(const Module *m) {
+    uint8_t starts[SHORT_CODE + 1];
+    return walk_code(m, starts, OPCODES, WIDE_OPCODES, TOD);
 }
 
 // ---- longer code
@@ -180,20 +189,25 @@ static INLINE uint32_t test_long_code(const Module *m, uint64_t *starts) {
 
 // ---- sections
 
-// Rows 6 and 7.
-static INLINE uint32_t test_records(const Module *m) {
+// Row 6.
+static INLINE uint32_t has_bad_constant(const Module *m) {
     const uint8_t *at = m->constants;
     uint32_t bad = 0;
     for (uint32_t i = 0; i < m->constant_count; i++, at += CONSTANT) {
         uint32_t type = read32(at);
         bad |= (type > DOUBLE) | !(NUMBER_TYPES >> (type & 31) & 1) | ((type == INT) & (read32(at + 8) != 0));
     }
-    if (unlikely(bad))
+    return bad;
+}
+
+// Rows 6 and 7.
+static INLINE uint32_t test_records(const Module *m) {
+    if (unlikely(has_bad_constant(m)))
         return LIMPETSKEIN_BAD_CONSTANT;
 
     // bodies follow each other from the entry's end to the code's
-    uint32_t end = m->entry_length;
-    at = m->functions;
+    uint32_t end = m->entry_length, bad = 0;
+    const uint8_t *at = m->functions;
     for (uint32_t i = 0; i < m->function_count; i++, at += FUNCTION) {
         uint32_t start = read32(at), body_length = read32(at + 4), parameters = at[PARAMETERS], returns = at[RETURNS];
         uint64_t types = read64(at + PARAMETER_TYPES);
@@ -271,29 +285,101 @@ __attribute__((noinline)) uint32_t test_old_sections(Module *m, uint8_t *transla
     return refusal;
 }
 
+// ---- edition 4
+
+static uint32_t is_good_structure(const uint8_t *at) {
+    uint32_t count = at[0], bad = count - 1 >= 8;
+    for (uint32_t i = 0; i < 8; i++) {
+        uint32_t type = at[1 + i];
+        bad |= i < count ? (type > DOUBLE) | !(NUMBER_TYPES >> (type & 31) & 1) : type != 0;
+    }
+    return !(bad | at[9] | at[10] | at[11]);
+}
+
+static uint32_t is_structure_pointer(const Module *m, uint32_t type) {
+    return type - POINTER_TO - LIMPETSKEIN_FIRST_STRUCTURE < m->structure_count;
+}
+
+static uint32_t is_number(uint32_t type) { return type <= DOUBLE && NUMBER_TYPES >> type & 1; }
+
+static uint32_t is_good_signature(const Module *m, const uint8_t *at) {
+    uint32_t count = at[PARAMETERS], returns = at[RETURNS];
+    uint32_t bad = (count > 8) | !(returns == 0 || is_number(returns) || is_structure_pointer(m, returns));
+    for (uint32_t i = 0; i < 8; i++) {
+        uint32_t type = at[PARAMETER_TYPES + i];
+        uint32_t is_good = is_number(type) || is_structure_pointer(m, type);
+        is_good |= type >= POINTER_TO && is_number(type & TARGET);
+        bad |= i < count ? !is_good : type != 0;
+    }
+    return !(bad | at[18] | at[19]);
+}
+
+__attribute__((noinline)) uint32_t test_new_sections(const Module *m) {
+    uint8_t starts[LONGEST_CODE];
+    if (unlikely(has_bad_constant(m)))
+        return LIMPETSKEIN_BAD_CONSTANT;
+    for (uint32_t i = 0; i < m->structure_count; i++)
+        if (unlikely(!is_good_structure(m->structures + STRUCTURE * i)))
+            return LIMPETSKEIN_BAD_CONSTANT;
+    uint32_t end = m->entry_length;
+    const uint8_t *at = m->functions;
+    for (uint32_t i = 0; i < m->function_count; i++, at += FUNCTION) {
+        uint32_t body_length = read32(at + 4);
+        if (unlikely(read32(at) != end || body_length - 1 >= LONGEST_CODE || !is_good_signature(m, at)))
+            return LIMPETSKEIN_BAD_FUNCTION;
+        end += body_length;
+        if (unlikely(end > m->code_length))
+            return LIMPETSKEIN_BAD_FUNCTION;
+    }
+    if (unlikely(end != m->code_length))
+        return LIMPETSKEIN_BAD_FUNCTION;
+    return walk_code(m, starts, NEW_OPCODES, NEW_WIDE_OPCODES, DELETE);
+}
+
 // ---- opening
+
+// Rows 3 to 5, or 0 and where the sections are. The edition is a constant in each caller.
+static INLINE uint32_t find_sections(const uint8_t *file, size_t length, uint32_t edition, Module *m) {
+    if (unlikely(read32(file + 4) != length))
+        return LIMPETSKEIN_OTHER_LENGTH;
+    uint32_t nc = read32(file + 8), nf = read32(file + 16), nl = read32(file + 24);
+    uint32_t code_length = read32(file + 32), entry_length = read32(file + 40);
+    uint32_t header = edition == 4 ? HEADER_4 : HEADER, nz = edition == 4 ? read32(file + 48) : 0;
+    if (unlikely((nc > MOST_CONSTANTS) | (nf > MOST_FUNCTIONS) | (nl > LIMPETSKEIN_MOST_LABELS) |
+                 (nz > LIMPETSKEIN_MOST_STRUCTURES) | (code_length > LONGEST_CODE) | (read32(file + 44) != 0)))
+        return LIMPETSKEIN_OVER_LIMIT;
+    uint32_t functions = header + CONSTANT * nc, labels = functions + FUNCTION * nf, code_at = labels + LABEL * nl;
+    uint32_t structures = code_at + code_length, structures_at = edition == 4 ? read32(file + 52) : structures;
+    if (unlikely((read32(file + 12) != header) | (read32(file + 20) != functions) | (read32(file + 28) != labels) |
+                 (read32(file + 36) != code_at) | (structures_at != structures) |
+                 (structures + STRUCTURE * nz != length) | (entry_length > code_length)))
+        return LIMPETSKEIN_NOT_PACKED;
+    *m = (Module){file + header, file + functions, file + labels, file + code_at, nc, nf, nl, code_length,
+                  entry_length,  edition,          nz,            file + structures};
+    return 0;
+}
+
+static __attribute__((noinline)) uint32_t open_old(const uint8_t *file, size_t length, Module *m, uint8_t *translated) {
+    uint32_t refusal = find_sections(file, length, 1, m);
+    return unlikely(refusal) ? refusal : test_old_sections(m, translated);
+}
+
+static __attribute__((noinline)) uint32_t open_new(const uint8_t *file, size_t length, Module *m) {
+    if (unlikely(length < HEADER_4))
+        return LIMPETSKEIN_TOO_SHORT;
+    uint32_t refusal = find_sections(file, length, 4, m);
+    return unlikely(refusal) ? refusal : test_new_sections(m);
+}
 
 uint32_t open_module(const uint8_t *file, size_t length, Module *module, uint64_t *starts, uint8_t *translated) {
     if (unlikely(length < HEADER))
         return LIMPETSKEIN_TOO_SHORT;
     uint32_t edition = read32(file);
-    if (unlikely(edition != 3 && edition != 1))
-        return LIMPETSKEIN_OTHER_EDITION;
-    if (unlikely(read32(file + 4) != length))
-        return LIMPETSKEIN_OTHER_LENGTH;
-    uint32_t nc = read32(file + 8), nf = read32(file + 16), nl = read32(file + 24);
-    uint32_t code_length = read32(file + 32), entry_length = read32(file + 40);
-    if (unlikely((nc > MOST_CONSTANTS) | (nf > MOST_FUNCTIONS) | (nl > LIMPETSKEIN_MOST_LABELS) |
-                 (code_length > LONGEST_CODE) | (read32(file + 44) != 0)))
-        return LIMPETSKEIN_OVER_LIMIT;
-    uint32_t functions = HEADER + CONSTANT * nc, labels = functions + FUNCTION * nf, code_at = labels + LABEL * nl;
-    if (unlikely((read32(file + 12) != HEADER) | (read32(file + 20) != functions) | (read32(file + 28) != labels) |
-                 (read32(file + 36) != code_at) | (code_at + code_length != length) | (entry_length > code_length)))
-        return LIMPETSKEIN_NOT_PACKED;
-    Module m = {file + HEADER, file + functions, file + labels, file + code_at, nc, nf, nl, code_length, entry_length};
-    uint32_t refusal = likely(edition == 3) ? test_records_and_code(&m, starts) : test_old_sections(&m, translated);
-    if (unlikely(refusal))
-        return refusal;
-    *module = m;
-    return 0;
+    if (unlikely(edition != 3)) {
+        if (edition == 1)
+            return open_old(file, length, module, translated);
+        return edition == 4 ? open_new(file, length, module) : LIMPETSKEIN_OTHER_EDITION;
+    }
+    uint32_t refusal = find_sections(file, length, 3, module);
+    return unlikely(refusal) ? refusal : test_records_and_code(module, starts);
 }

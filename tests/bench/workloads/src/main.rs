@@ -1,5 +1,6 @@
 //! Writes the modules that the benchmark runs, checks and opens: `workloads DIRECTORY`.
 
+mod heap;
 mod large;
 mod small;
 
@@ -10,7 +11,8 @@ fn main() {
         eprintln!("usage: workloads DIRECTORY");
         std::process::exit(2);
     };
-    for (name, file) in small::modules().into_iter().chain(large::modules()) {
+    let modules = [small::modules(), large::modules(), heap::modules()];
+    for (name, file) in modules.into_iter().flatten() {
         let path = Path::new(&directory).join(name).with_extension("lsk");
         if let Err(error) = std::fs::write(&path, file) {
             eprintln!("{}: {error}", path.display());
