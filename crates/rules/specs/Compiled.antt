@@ -30,10 +30,10 @@ abbrev pub GivesValue : Option ℕ → Ran → Type 0
 GivesValue (some v) x = (runNumber (x .answer) ≡ done) × (valueOut (x .answer) (x .stack) ≡ some (slot 3 v))
 GivesValue none x = runNumber (x .answer) ≡ arithmetic-divide-by-zero
 
--- the run of function 0 of the file s gives the value of the line's reading
-abbrev pub Evaluates : List ℕ → List ℕ → ℕ → ℕ → ℕ → ℕ → Lent → LentHeap → Type 0
-Evaluates line s r g b allowance x y =
-    (t : Tree) × Line line t × GivesValue (value (parameters r g b) t) (runModule s 0 (threeInts r g b) allowance x y)
+-- the run of function 0 of the file s, for any scan, gives the value of the line's reading
+abbrev pub Evaluates : List ℕ → List ℕ → ℕ → ℕ → ℕ → ℕ → ℕ → Lent → LentHeap → Type 0
+Evaluates line s r g b scan allowance x y =
+    (t : Tree) × Line line t × GivesValue (value (parameters r g b) t) (runModule s 0 (threeInts r g b) scan allowance x y)
 
 pub record Compiles : Type 0 where
   -- the reading that is computed is the grammar's
@@ -46,5 +46,5 @@ pub record Compiles : Type 0 where
   pub accepted : (line out : List ℕ) (n : ℕ) → formula line out .answer ≡ Written n → (room : List ℕ) → IsAccepted (take n (formula line out .output)) room
   -- "run with allowance 257 and 35 slots, or more, it gives the reading's value in wrapping unsigned ints, or 24 where a quotient is by zero"
   pub gives : (line out : List ℕ) (n : ℕ) → formula line out .answer ≡ Written n
-      → (r g b : ℕ) → r < 2 ^ 32 → g < 2 ^ 32 → b < 2 ^ 32 → (allowance : ℕ) (x : Lent) (y : LentHeap) → 257 ≤ allowance → 35 ≤ capacity x
-      → Evaluates line (take n (formula line out .output)) r g b allowance x y
+      → (r g b : ℕ) → r < 2 ^ 32 → g < 2 ^ 32 → b < 2 ^ 32 → (scan allowance : ℕ) (x : Lent) (y : LentHeap) → 257 ≤ allowance → 35 ≤ capacity x
+      → Evaluates line (take n (formula line out .output)) r g b scan allowance x y

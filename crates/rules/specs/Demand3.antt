@@ -16,7 +16,7 @@ use Rattle.rules.specs.Heap.{LentHeap, heapCapacity}
 use Rattle.rules.specs.Machine.{Memory, State, Next, goes, finishes, advance, Outcome, outcome, run}
 use Rattle.rules.specs.Typing.{Lists, Typing, Consistent, WellTyped, Reached}
 use Rattle.rules.specs.Check.{recordBytes}
-use Rattle.rules.specs.Answers.{CheckAnswer, Untyped, checkNumber, check, runNumber, runRefusal, runModule, startState, arguments}
+use Rattle.rules.specs.Answers.{CheckAnswer, Untyped, checkNumber, check, runNumber, runRefusal, scanRefusal, runModule, startState, arguments}
 
 -- ---- the first part: "what the checker accepts"
 
@@ -127,9 +127,10 @@ pub record Demand3 : Type 0 where
   pub same-lists : (m : Module) (b : Body) (p : ℕ) → Reached m b p → (T U : Typing) → Consistent m b T → Consistent m b U → T p ≡ U p
   -- "Take any accepted module, run from its entry or from any function without pointer parameters on any arguments that
   -- document 01 admits. Whatever the allowance and the lent stack, this run can only finish, use up its allowance, overflow
-  -- the stack or divide by zero"; or compare with a NaN (02, A2); or, in edition 4, follow a pointer to no live block, or null (A6). (With a pointer parameter, or with arguments that are not admitted, the run is refused: 13.)
-  pub ends : (s room : List ℕ) → IsAccepted s room → (f : ℕ) (args : Lent) → runRefusal s f args ≡ 0
-      → (n : ℕ) (x : Lent) (y : LentHeap) → End (read s .edition) (runNumber (runModule s f args n x y .answer))
+  -- the stack or divide by zero"; or compare with a NaN (02, A2); or, in edition 4, follow a pointer to no live block, or null (A6). (With a pointer parameter, or with arguments that are not admitted, the run is
+  -- refused: 13; 17 is "no run in demand 3's sense" (A7).)
+  pub ends : (s room : List ℕ) → IsAccepted s room → (f : ℕ) (args : Lent) (scan : ℕ) → scanRefusal s f args scan ≡ 0
+      → (n : ℕ) (x : Lent) (y : LentHeap) → End (read s .edition) (runNumber (runModule s f args scan n x y .answer))
   -- "Take any call made in such a run, at whatever depth. At every moment from that call to its return, or to the run's end
   -- where it doesn't return, each slot below the called frame has the type and payload that it had at the call. The only
   -- exceptions are the slots named by that call's own pointer arguments." (A run whose arguments don't fit makes no call.)

@@ -109,7 +109,7 @@ wordsUp (x ∷ xs) = bytes 8 x ++ wordsUp xs
 pub computed : List Row → List Ran
 unfolding runHeapNow
 computed [] = []
-computed (r ∷ rs) = runHeapNow (recipe (r .code)) 0xffffffff (record { payloads = []; types = [] }) 100 (scratch 6) (scratchHeap 4) ∷ computed rs
+computed (r ∷ rs) = runHeapNow (recipe (r .code)) 0xffffffff (record { payloads = []; types = [] }) 0 100 (scratch 6) (scratchHeap 4) ∷ computed rs
 
 pub expected : List Row → List Ran
 expected [] = []
@@ -180,7 +180,7 @@ ends = (NEW 3 ++ (COPY ++ (DELETE ++ TLOAD))) ∷ (NEW 10 ++ (NEW 10 ++ (NEW 10 
 pub numbers : List (List ℕ) → List ℕ
 unfolding runHeapNow
 numbers [] = []
-numbers (c ∷ cs) = runNumber (runHeapNow (recipe c) 0xffffffff (record { payloads = []; types = [] }) 100 (scratch 6) (scratchHeap 4) .answer) ∷ numbers cs
+numbers (c ∷ cs) = runNumber (runHeapNow (recipe c) 0xffffffff (record { payloads = []; types = [] }) 0 100 (scratch 6) (scratchHeap 4) .answer) ∷ numbers cs
 
 pub ends-table : (answers ends ≡ every Accepted ends) × (numbers ends ≡ 33 ∷ 36 ∷ 36 ∷ 33 ∷ [])
 unfolding answers every numbers ends
@@ -190,7 +190,7 @@ ends-table = (refl, refl)
 
 -- these cells and this table, all 9, after `new` of a long and of structure 10
 abbrev after : ℕ → ℕ → Ran
-after n k = runHeapNow (recipe (NEW 4 ++ NEW 10)) 0xffffffff (lent []) 9 (scratch 6) (record { cells = nines n; table = nines k })
+after n k = runHeapNow (recipe (NEW 4 ++ NEW 10)) 0xffffffff (lent []) 0 9 (scratch 6) (record { cells = nines n; table = nines k })
 
 abbrev holding : List ℕ → List ℕ → LentHeap
 holding cs ts = record { cells = cs; table = ts }
@@ -201,10 +201,10 @@ pub lent-table :
     × (after 23 99 .heap ≡ holding (zeros 16 ++ nines 7) (bytes 8 1 ++ (bytes 8 0 ++ (bytes 8 4 ++ (zeros 24 ++ nines 51)))))
     × (after 41 80 .heap ≡ holding (zeros 24 ++ nines 17) (bytes 8 1 ++ (bytes 8 0 ++ (bytes 8 4 ++ (bytes 8 2 ++ (bytes 8 1 ++ (bytes 8 10 ++ (zeros 24 ++ nines 8))))))))
     -- other editions clear it too; a refused run changes nothing; one whose arguments don't fit clears it
-    × (runHeapNow (file [] [] [] []) 0xffffffff (lent []) 0 (scratch 1) (scratchHeap 2) .heap ≡ holding (zeros 16 ++ nines 1) (zeros 48 ++ nines 1))
-    × (runHeapNow (recipe []) 9 (lent []) 9 (scratch 1) (scratchHeap 1) .heap ≡ scratchHeap 1)
-    × (runHeapNow (recipe []) 2 (lent ((7, 0) ∷ [])) 9 (scratch 1) (scratchHeap 1) .heap ≡ scratchHeap 1)
-    × (runHeapNow (file4 [] (function (3 ∷ []) 0 RET ∷ []) [] [] []) 0 (lent ((3, 1) ∷ [])) 9 (scratch 0) (scratchHeap 1) .heap ≡ holding (zeros 8 ++ nines 1) (zeros 24 ++ nines 1))
+    × (runHeapNow (file [] [] [] []) 0xffffffff (lent []) 0 0 (scratch 1) (scratchHeap 2) .heap ≡ holding (zeros 16 ++ nines 1) (zeros 48 ++ nines 1))
+    × (runHeapNow (recipe []) 9 (lent []) 0 9 (scratch 1) (scratchHeap 1) .heap ≡ scratchHeap 1)
+    × (runHeapNow (recipe []) 2 (lent ((7, 0) ∷ [])) 0 9 (scratch 1) (scratchHeap 1) .heap ≡ scratchHeap 1)
+    × (runHeapNow (file4 [] (function (3 ∷ []) 0 RET ∷ []) [] [] []) 0 (lent ((3, 1) ∷ [])) 0 9 (scratch 0) (scratchHeap 1) .heap ≡ holding (zeros 8 ++ nines 1) (zeros 24 ++ nines 1))
 unfolding runHeapNow
 lent-table = (refl, refl, refl, refl, refl, refl, refl, refl)
 
@@ -255,7 +255,7 @@ sixteen = shapes ++ (shapes ++ (shapes ++ (shapes ++ (shapes ++ (shapes ++ (shap
 
 -- where the structures are: the header, 3 constants, 3 functions, 5 bytes of the entry, 6 + 1 + 6 of the functions
 abbrev at-structures : ℕ
-at-structures = 56 + 36 + 60 + 5 + 13
+at-structures = 56 + 36 + 72 + 5 + 13
 
 pub files : List (List ℕ × ℕ)
 files =
@@ -269,7 +269,7 @@ files =
     ∷ (set whole (at-structures + 12) 0, 6) ∷ (set whole (at-structures + 13) 5, 6) ∷ (set (set whole (at-structures + 10) 1) 101 140, 6) ∷ (set whole (at-structures + 8) 3, 6) ∷ (file4 [] [] [] [] ((3 ∷ 4 ∷ 6 ∷ 3 ∷ 4 ∷ 6 ∷ 3 ∷ 4 ∷ []) ∷ []), 0)
     -- 7: return types and parameters; structure 12 is not declared
     ∷ (set whole 101 139, 0) ∷ (set whole 101 140, 7) ∷ (set whole 101 137, 7) ∷ (set whole 101 131, 7) ∷ (set whole 101 128, 7) ∷ (set whole 101 202, 7) ∷ (set whole 101 6, 0)
-    ∷ (set whole 122 139, 0) ∷ (set whole 122 140, 7) ∷ (set whole 122 137, 7) ∷ (set whole 122 128, 7) ∷ (set whole 122 195, 7) ∷ (set whole 122 134, 0)
+    ∷ (set whole 126 139, 0) ∷ (set whole 126 140, 7) ∷ (set whole 126 137, 7) ∷ (set whole 126 128, 7) ∷ (set whole 126 195, 7) ∷ (set whole 126 134, 0)
     -- sixteen structures, 99 hex the last
     ∷ (file4 [] (function (153 ∷ []) 153 (LOAD 0 ++ RET) ∷ []) [] [] sixteen, 0) ∷ (file4 [] (function (154 ∷ []) 0 RET ∷ []) [] [] sixteen, 7)
     -- 8: `top`, 2F, is left out; edition 3 has none of these; an operand is not read from the structures

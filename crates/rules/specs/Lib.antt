@@ -20,6 +20,8 @@ pub mod Demand3
 pub mod Ends
 pub mod Claims
 pub mod Saved
+pub mod Converting
+pub mod Converted
 pub mod Files
 pub mod Grammar
 pub mod Reading
@@ -33,6 +35,7 @@ pub mod Refusals
 pub mod Editions
 pub mod Heaps
 pub mod Writings
+pub mod Profiles
 pub mod Formulas
 pub mod Typings
 pub mod Values

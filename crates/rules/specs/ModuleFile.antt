@@ -5,7 +5,7 @@ use mathlib.Core.List.{List, _∷_}
 use lib.ListN.{length}
 use lib.Dec.{ltb, eqb}
 use Rattle.rules.specs.Bytes.{word, cut}
-use Rattle.rules.specs.Tables.{Bodies, Tables, bodies, tables, differs, headerSize, unknownEdition, overLimits, firstOf, contentTests, Module, moduleOf}
+use Rattle.rules.specs.Tables.{Bodies, Tables, bodies, tables, differs, headerSize, functionSize, unknownEdition, overLimits, firstOf, contentTests, Module, moduleOf}
 
 -- ---- header: "| 0, 4 | edition, 3; total length |" and so on, the same in edition 1 (02, A5); "Edition 4 has a 56-byte header (words 48
 -- and 52: structure count, at most 16, and offset; shorter is 1)" (02, A6)
@@ -40,7 +40,7 @@ abbrev pub functionsAt : List ℕ → ℕ
 functionsAt s = constantsAt s + 12 * constants s
 
 abbrev pub labelsAt : List ℕ → ℕ
-labelsAt s = functionsAt s + 20 * functions s
+labelsAt s = functionsAt s + functionSize (edition s) * functions s
 
 abbrev pub codeAt : List ℕ → ℕ
 codeAt s = labelsAt s + 8 * labels s
@@ -53,7 +53,7 @@ abbrev pub constantsIn : List ℕ → List ℕ
 constantsIn s = cut s (constantsAt s) (12 * constants s)
 
 abbrev pub functionsIn : List ℕ → List ℕ
-functionsIn s = cut s (functionsAt s) (20 * functions s)
+functionsIn s = cut s (functionsAt s) (functionSize (edition s) * functions s)
 
 abbrev pub labelsIn : List ℕ → List ℕ
 labelsIn s = cut s (labelsAt s) (8 * labels s)

@@ -1,4 +1,5 @@
--- 01, Module file; Answers by number, 2, 4 and 6 to 9; 02, A1: "constant, function and label tables, code and entry length"; A6: structures.
+-- 01, Module file; Answers by number, 2, 4 and 6 to 9; 02, A1: "constant, function and label tables, code and entry length"; A6: structures;
+-- A7: profiles.
 -- The rows of the table of refusals that look into the sections, and the module that these are. Reader and writer share all of it.
 use Prim.Native.Nat.{ℕ, zero, suc, _+_, _*_, _-_, _/_}
 use mathlib.Core.Bool.{Bool, true, false, not, _&&_, _||_, cond}
@@ -32,13 +33,17 @@ bodies e fs zs code n = record { edition = e; functions = fs; structures = zs; c
 abbrev pub tables : ℕ → List ℕ → List ℕ → List ℕ → List ℕ → List ℕ → ℕ → Tables
 tables e cs fs ls zs code n = record { constants = cs; labels = ls; bodies = bodies e fs zs code n }
 
--- "Constant, 12 bytes", "Function, 20 bytes", "Label, 8 bytes", "12-byte structure records" (02, A6): how many whole records a table
--- has, and where they stand
+-- "Function, 20 bytes"; "Each function record of edition 4 .. gets one more word at its end" (02, A7)
+abbrev pub functionSize : ℕ → ℕ
+functionSize e = cond (eqb e 4) 24 20
+
+-- "Constant, 12 bytes", "Label, 8 bytes", "12-byte structure records" (02, A6): how many whole records a table has, and where they
+-- stand; functions are those of an edition
 abbrev pub constantCount : List ℕ → ℕ
 constantCount cs = length cs / 12
 
-abbrev pub functionCount : List ℕ → ℕ
-functionCount fs = length fs / 20
+abbrev pub functionCount : ℕ → List ℕ → ℕ
+functionCount e fs = length fs / functionSize e
 
 abbrev pub labelCount : List ℕ → ℕ
 labelCount ls = length ls / 8
@@ -49,8 +54,8 @@ structureCount zs = length zs / 12
 abbrev pub constantAt : ℕ → ℕ
 constantAt i = 12 * i
 
-abbrev pub functionAt : ℕ → ℕ
-functionAt i = 20 * i
+abbrev pub functionAt : ℕ → ℕ → ℕ
+functionAt e i = functionSize e * i
 
 abbrev pub labelAt : ℕ → ℕ
 labelAt i = 8 * i
@@ -140,7 +145,7 @@ badParam e z s a j = oddParam e z (ltb j (byte s (a + 8))) (byte s (a + 10 + j))
 -- before function i ends, the lengths summed without wrapping
 unfoldable pub endBefore : Bodies → ℕ → ℕ
 endBefore b zero = b .entry
-endBefore b (suc i) = endBefore b i + word 4 (b .functions) (functionAt i + 4)
+endBefore b (suc i) = endBefore b i + word 4 (b .functions) (functionAt (b .edition) i + 4)
 
 -- the record at byte a, of a body that must start at the place `from`: "start, length (≥ 1), parameter count (0 to 8,
 -- one byte), return type, .., two zero bytes"
@@ -150,12 +155,13 @@ badRecord e z s a from =
     || some-below 8 (badParam e z s a) || differs (byte s (a + 18)) 0 || differs (byte s (a + 19)) 0
 
 unfoldable pub badFunction : Bodies → ℕ → Bool
-badFunction b i = badRecord (b .edition) (structureCount (b .structures)) (b .functions) (functionAt i) (endBefore b i)
+badFunction b i = badRecord (b .edition) (structureCount (b .structures)) (b .functions) (functionAt (b .edition) i) (endBefore b i)
 
 -- "and fill the section"
 unfoldable pub badFunctions : Bodies → Bool
 badFunctions b =
-    some-below (functionCount (b .functions)) (badFunction b) || differs (endBefore b (functionCount (b .functions))) (length (b .code))
+    some-below (functionCount (b .edition) (b .functions)) (badFunction b)
+    || differs (endBefore b (functionCount (b .edition) (b .functions))) (length (b .code))
 
 -- ---- 8: "an unknown opcode, or an instruction crossing its body's end"
 
@@ -185,20 +191,20 @@ crossed b i = differs (dueIn b (endBefore b i)) 0
 
 unfoldable pub badCode : Bodies → Bool
 badCode b =
-    some-below (length (b .code)) (unknownAt (b .edition) (b .code)) || some-below (suc (functionCount (b .functions))) (crossed b)
+    some-below (length (b .code)) (unknownAt (b .edition) (b .code)) || some-below (suc (functionCount (b .edition) (b .functions))) (crossed b)
 
 -- ---- 9: "a label with no such owner, or not on an instruction start of its owner"
 
--- place p lies in the body of owner o, of these function records and this entry length: "function number, or FFFFFFFF for the
--- entry". A body's end is no place in it.
-unfoldable pub owns : List ℕ → ℕ → ℕ → ℕ → Bool
-owns fs n o p =
+-- place p lies in the body of owner o, of these function records of edition e and this entry length: "function number, or FFFFFFFF for
+-- the entry". A body's end is no place in it.
+unfoldable pub owns : ℕ → List ℕ → ℕ → ℕ → ℕ → Bool
+owns e fs n o p =
     (eqb o 0xffffffff && ltb p n)
-    || (ltb o (functionCount fs) && leb (word 4 fs (functionAt o)) p && ltb p (word 4 fs (functionAt o) + word 4 fs (functionAt o + 4)))
+    || (ltb o (functionCount e fs) && leb (word 4 fs (functionAt e o)) p && ltb p (word 4 fs (functionAt e o) + word 4 fs (functionAt e o + 4)))
 
 unfoldable pub badLabel : Bodies → List ℕ → ℕ → Bool
 badLabel b ls i =
-    not (owns (b .functions) (b .entry) (word 4 ls (labelAt i)) (word 4 ls (labelAt i + 4)) && eqb (dueIn b (word 4 ls (labelAt i + 4))) 0)
+    not (owns (b .edition) (b .functions) (b .entry) (word 4 ls (labelAt i)) (word 4 ls (labelAt i + 4)) && eqb (dueIn b (word 4 ls (labelAt i + 4))) 0)
 
 unfoldable pub badLabels : Bodies → List ℕ → Bool
 badLabels b ls = some-below (labelCount ls) (badLabel b ls)
@@ -237,12 +243,14 @@ eqBody entry (fn k) = false
 eqBody (fn j) entry = false
 eqBody (fn j) (fn k) = eqb j k
 
--- its places go from `start` up to `end`; parameters topmost first, so the last one first; no result for return type 0
+-- its places go from `start` up to `end`; parameters topmost first, so the last one first; no result for return type 0; "the profile it
+-- was made for, 0 for any" (02, A7)
 pub record Function : Type 0 where
   pub start : ℕ
   pub end : ℕ
   pub params : List Ty
   pub result : Option Ty
+  pub profile : ℕ
 
 -- edition: whose rules hold; structure: the fields of a structure by its type number, from 10 on, the last one first; isPlace: "its
 -- places (instruction starts, its end)", of a body; extent: the code's length
@@ -266,9 +274,20 @@ paramsFrom s a (suc n) = tyOf (byte s (a + n)) ∷ paramsFrom s a n
 abbrev pub resultOf : ℕ → Option Ty
 resultOf t = cond (eqb t 0) none (some (tyOf t))
 
-unfoldable pub functionOf : List ℕ → ℕ → Function
-functionOf s a =
-    record { start = word 4 s a; end = word 4 s a + word 4 s (a + 4); params = paramsFrom s (a + 10) (byte s (a + 8)); result = resultOf (byte s (a + 9)) }
+-- other editions than 4 have no such word
+abbrev pub profileAt : ℕ → List ℕ → ℕ → ℕ
+profileAt e s a = cond (eqb e 4) (word 4 s (a + 20)) 0
+
+-- the record at byte a
+unfoldable pub functionOf : ℕ → List ℕ → ℕ → Function
+functionOf e s a =
+    record {
+      start = word 4 s a;
+      end = word 4 s a + word 4 s (a + 4);
+      params = paramsFrom s (a + 10) (byte s (a + 8));
+      result = resultOf (byte s (a + 9));
+      profile = profileAt e s a;
+    }
 
 -- the type of a field. A file that can be read has no other number there: refusal 6
 abbrev pub fieldOf : ℕ → Num
@@ -295,11 +314,11 @@ codeOf e code p = instructionOf (opcodeAt e code p) (word 4 code (p + 1))
 -- where a body starts and ends
 abbrev pub bodyStart : Bodies → Body → ℕ
 bodyStart b entry = 0
-bodyStart b (fn k) = word 4 (b .functions) (functionAt k)
+bodyStart b (fn k) = word 4 (b .functions) (functionAt (b .edition) k)
 
 abbrev pub bodyEnd : Bodies → Body → ℕ
 bodyEnd b entry = b .entry
-bodyEnd b (fn k) = word 4 (b .functions) (functionAt k) + word 4 (b .functions) (functionAt k + 4)
+bodyEnd b (fn k) = word 4 (b .functions) (functionAt (b .edition) k) + word 4 (b .functions) (functionAt (b .edition) k + 4)
 
 unfoldable pub placeIn : Bodies → Body → ℕ → Bool
 placeIn b x p = leb (bodyStart b x) p && leb p (bodyEnd b x) && eqb (dueIn b p) 0
@@ -310,7 +329,7 @@ moduleOf t =
       edition = t .bodies .edition;
       structure = λ k. within (leb 10 k && ltb k (10 + structureCount (t .bodies .structures))) (structureOf (t .bodies .structures) (k - 10));
       constant = λ k. within (ltb k (constantCount (t .constants))) (constantOf (t .constants) k);
-      function = λ k. within (ltb k (functionCount (t .bodies .functions))) (functionOf (t .bodies .functions) (functionAt k));
+      function = λ k. within (ltb k (functionCount (t .bodies .edition) (t .bodies .functions))) (functionOf (t .bodies .edition) (t .bodies .functions) (functionAt (t .bodies .edition) k));
       label = λ k. within (ltb k (labelCount (t .labels))) (labelOf (t .labels) k);
       code = codeOf (t .bodies .edition) (t .bodies .code);
       entryEnd = t .bodies .entry;

@@ -10,7 +10,7 @@ pub use Rattle.rules.specs.declared.WriteAnswer.{WriteAnswer}
 pub use Rattle.rules.specs.declared.WriteAnswer.the-variants.{Unwritten, Written}
 use Rattle.rules.specs.Bytes.{words}
 use Rattle.rules.specs.Numbers.{done, output-too-short}
-use Rattle.rules.specs.Tables.{Tables, constantCount, functionCount, labelCount, structureCount, differs, headerSize, unknownEdition, overLimits, firstOf, contentTests}
+use Rattle.rules.specs.Tables.{Tables, functionSize, constantCount, functionCount, labelCount, structureCount, differs, headerSize, unknownEdition, overLimits, firstOf, contentTests}
 
 -- ---- the file of these tables: "A header of counts and offsets, then four sections without gaps", and structures as the last
 
@@ -19,7 +19,7 @@ abbrev pub headerWords : ℕ → ℕ → ℕ → ℕ → ℕ → ℕ → ℕ →
 headerWords e h c f l n z entry =
     e ∷ (h + c + f + l + n + z)
     ∷ (c / 12) ∷ h
-    ∷ (f / 20) ∷ (h + c)
+    ∷ (f / functionSize e) ∷ (h + c)
     ∷ (l / 8) ∷ (h + c + f)
     ∷ n ∷ (h + c + f + l)
     ∷ entry ∷ 0
@@ -43,13 +43,13 @@ fileOf t = headerOf t ++ (t .constants ++ (t .bodies .functions ++ (t .labels ++
 -- 4: "a count or the code length is over its limit". A count is that of whole records.
 unfoldable pub tooMany : Tables → Bool
 tooMany t =
-    overLimits (t .bodies .edition) (constantCount (t .constants)) (functionCount (t .bodies .functions)) (labelCount (t .labels)) (length (t .bodies .code))
+    overLimits (t .bodies .edition) (constantCount (t .constants)) (functionCount (t .bodies .edition) (t .bodies .functions)) (labelCount (t .labels)) (length (t .bodies .code))
     (structureCount (t .bodies .structures))
 
 -- 5: "part of a record at a table's end", or "the entry is longer than the code"
 unfoldable pub broken : Tables → Bool
 broken t =
-    differs (length (t .constants) % 12) 0 || differs (length (t .bodies .functions) % 20) 0 || differs (length (t .labels) % 8) 0
+    differs (length (t .constants) % 12) 0 || differs (length (t .bodies .functions) % functionSize (t .bodies .edition)) 0 || differs (length (t .labels) % 8) 0
     || differs (length (t .bodies .structures) % 12) 0 || ltb (length (t .bodies .code)) (t .bodies .entry)
 
 -- 2, 4 to 9; 0 where none holds. 3 cannot: the total length is the writer's own

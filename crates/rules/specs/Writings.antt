@@ -6,7 +6,7 @@ use lib.ListN.{take, set}
 use Rattle.rules.specs.Bytes.{zeros}
 use Rattle.rules.specs.Tables.{Tables, tables}
 use Rattle.rules.specs.Writing.{writeNumber, Unwritten, Written, wrote}
-use Rattle.rules.specs.Files.{PUSH, ADD, LOAD, RET, constantBytes, functionBytes, labelBytes, function, structureBytes, nines, file, file4}
+use Rattle.rules.specs.Files.{PUSH, ADD, LOAD, RET, constantBytes, functionBytes, functionBytes4, labelBytes, function, functionFor, structureBytes, nines, file, file4}
 use Rattle.rules.specs.Samples.{w1}
 use Rattle.rules.specs.Evaluate.{writeNow}
 
@@ -19,6 +19,10 @@ sum = PUSH 0 ++ (PUSH 1 ++ ADD)
 -- one function of one int to int after an empty entry
 abbrev one : List ℕ
 one = functionBytes 0 (function (3 ∷ []) 3 (LOAD 0 ++ RET) ∷ [])
+
+-- the same in edition 4, made for profile 7
+abbrev one4 : List ℕ
+one4 = functionBytes4 0 (functionFor 7 (3 ∷ []) 3 (LOAD 0 ++ RET) ∷ [])
 
 -- tables, the length of the output, and the number that is answered
 pub rows : List (Tables × (ℕ × ℕ))
@@ -38,8 +42,11 @@ rows =
     -- A6: 56 bytes of header, structures last; 4 for more than 16, and for one in another edition; 5 for part of a record, also there; 6, 7
     ∷ (tables 4 numbers [] [] [] sum 11, (91, 0)) ∷ (tables 4 numbers [] [] [] sum 11, (90, 16)) ∷ (tables 4 numbers [] [] (structureBytes ((3 ∷ []) ∷ [])) sum 11, (103, 0)) ∷ (tables 4 numbers [] [] (structureBytes ((3 ∷ []) ∷ [])) sum 11, (102, 16))
     ∷ (tables 4 [] [] [] (zeros 204) [] 0, (0, 4)) ∷ (tables 4 [] [] [] (zeros 203) [] 0, (0, 5)) ∷ (tables 3 numbers [] [] (structureBytes ((3 ∷ []) ∷ [])) sum 11, (200, 4)) ∷ (tables 1 numbers [] [] (zeros 12) sum 11, (200, 4)) ∷ (tables 3 numbers [] [] (zeros 11) sum 11, (200, 5))
-    ∷ (tables 2 numbers [] [] (zeros 12) sum 11, (200, 2)) ∷ (tables 4 numbers [] [] (zeros 12) sum 11, (0, 6)) ∷ (tables 4 [] (set one 10 138) [] [] (LOAD 0 ++ RET) 0, (0, 7)) ∷ (tables 4 [] (set one 10 138) [] (structureBytes ((3 ∷ []) ∷ [])) (LOAD 0 ++ RET) 0, (94, 0))
+    ∷ (tables 2 numbers [] [] (zeros 12) sum 11, (200, 2)) ∷ (tables 4 numbers [] [] (zeros 12) sum 11, (0, 6)) ∷ (tables 4 [] (set one4 10 138) [] [] (LOAD 0 ++ RET) 0, (0, 7)) ∷ (tables 4 [] (set one4 10 138) [] (structureBytes ((3 ∷ []) ∷ [])) (LOAD 0 ++ RET) 0, (98, 0))
     ∷ (tables 4 [] [] [] [] (0x30 ∷ []) 1, (57, 0)) ∷ (tables 3 [] [] [] [] (0x30 ∷ []) 1, (57, 8))
+    -- A7: records of 24 bytes, with any profile; 20 are part of one; 129 are too many
+    ∷ (tables 4 [] one4 [] [] (LOAD 0 ++ RET) 0, (86, 0)) ∷ (tables 4 [] one4 [] [] (LOAD 0 ++ RET) 0, (85, 16)) ∷ (tables 4 [] (set one4 23 255) [] [] (LOAD 0 ++ RET) 0, (86, 0)) ∷ (tables 4 [] (set one4 19 1) [] [] (LOAD 0 ++ RET) 0, (86, 7))
+    ∷ (tables 4 [] one [] [] (LOAD 0 ++ RET) 0, (86, 5)) ∷ (tables 3 [] one4 [] [] (LOAD 0 ++ RET) 0, (86, 5)) ∷ (tables 4 [] (zeros 3096) [] [] [] 0, (0, 4)) ∷ (tables 4 [] (zeros 3095) [] [] [] 0, (0, 5))
     ∷ []
 
 pub computed : List (Tables × (ℕ × ℕ)) → List ℕ
@@ -75,6 +82,6 @@ unfolding writeNow
 same-file = refl
 
 pub same-file4 :
-    writeNow (tables 4 numbers one (labelBytes ((0, 0) ∷ [])) (structureBytes ((3 ∷ 6 ∷ []) ∷ (4 ∷ []) ∷ [])) (LOAD 0 ++ RET) 0) (nines 139) ≡ wrote (Written 138) (file4 ((3, 7) ∷ (3, 5) ∷ []) (function (3 ∷ []) 3 (LOAD 0 ++ RET) ∷ []) ((0, 0) ∷ []) [] ((3 ∷ 6 ∷ []) ∷ (4 ∷ []) ∷ []) ++ nines 1)
+    writeNow (tables 4 numbers one4 (labelBytes ((0, 0) ∷ [])) (structureBytes ((3 ∷ 6 ∷ []) ∷ (4 ∷ []) ∷ [])) (LOAD 0 ++ RET) 0) (nines 143) ≡ wrote (Written 142) (file4 ((3, 7) ∷ (3, 5) ∷ []) (functionFor 7 (3 ∷ []) 3 (LOAD 0 ++ RET) ∷ []) ((0, 0) ∷ []) [] ((3 ∷ 6 ∷ []) ∷ (4 ∷ []) ∷ []) ++ nines 1)
 unfolding writeNow
 same-file4 = refl
