@@ -17,7 +17,7 @@ use Rattle.rules.specs.Stack.{slot, Lent, capacity, slotAt, slotsOf, payloadByt
 use Rattle.rules.specs.Instructions.{num}
 use Rattle.rules.specs.Heap.{LentHeap, heapCapacity}
 use Rattle.rules.specs.Machine.{Outcome, run}
-use Rattle.rules.specs.Answers.{topSlot, arguments, runRefusal, outcomeOf, ran, runModule}
+use Rattle.rules.specs.Answers.{topSlot, arguments, runRefusal, scanRefusal, outcomeOf, ran, runModule}
 use Rattle.rules.specs.Demand3.{IsAccepted}
 use Rattle.rules.specs.Grammar.{Tree, Line, depth}
 use Rattle.rules.specs.Reading.{reading}
@@ -81,18 +81,23 @@ module _ (t : Tree) (w : Proper t) (few : count t ≤ 256) where
     started =
         rw (readable .0, file-holds .is-function, arguments-are r g b hr hg hb, ltb-yes r 4294967296 hr, ltb-yes g 4294967296 hg, ltb-yes b 4294967296 hb) refl
 
-    ran-is : (A : ℕ) (x : Lent) (y : LentHeap) → 3 ≤ capacity x
-        → runModule (fileFor t) 0 (threeInts r g b) A x y ≡ ran (run (read (fileFor t)) (capacity x) A 0 (here (heapCapacity y) (file-holds .stop) 0 (three r g b))) x y
-    unfolding runModule outcomeOf
-    ran-is A x y c = rw (started, arguments-are r g b hr hg hb, leb-yes 3 (capacity x) c, file-holds .is-function) refl
+    -- for any scan
+    scanned : (scan : ℕ) → scanRefusal (fileFor t) 0 (threeInts r g b) scan ≡ 0
+    unfolding scanRefusal
+    scanned scan = rw (started, file-holds .is-function) refl
 
-    tree-gives : need t ≤ 32 → (A : ℕ) (x : Lent) (y : LentHeap) → 257 ≤ A → 35 ≤ capacity x
-        → GivesValue (value (parameters r g b) t) (runModule (fileFor t) 0 (threeInts r g b) A x y)
-    tree-gives n A x y l c =
+    ran-is : (scan A : ℕ) (x : Lent) (y : LentHeap) → 3 ≤ capacity x
+        → runModule (fileFor t) 0 (threeInts r g b) scan A x y ≡ ran (run (read (fileFor t)) (capacity x) A 0 (here (heapCapacity y) (file-holds .stop) 0 (three r g b))) x y
+    unfolding runModule outcomeOf
+    ran-is scan A x y c = rw (scanned scan, arguments-are r g b hr hg hb, leb-yes 3 (capacity x) c, file-holds .is-function) refl
+
+    tree-gives : need t ≤ 32 → (scan A : ℕ) (x : Lent) (y : LentHeap) → 257 ≤ A → 35 ≤ capacity x
+        → GivesValue (value (parameters r g b) t) (runModule (fileFor t) 0 (threeInts r g b) scan A x y)
+    tree-gives n scan A x y l c =
         let h : Holds (read (fileFor t)) t = file-holds in
-        rw (ran-is A x y (omega arith))
+        rw (ran-is scan A x y (omega arith))
         (gives (value (parameters r g b) t) (value-fits (parameters r g b) (three-small r g b hr hg hb) t w) x y (omega arith) (heapCapacity y) (run (read (fileFor t)) (capacity x) A 0 (here (heapCapacity y) (h .stop) 0 (three r g b)))
-        (code-runs (read (fileFor t)) (capacity x) (heapCapacity y) (h .stop) (record { start = 0; end = h .stop; params = locals; result = some (num int) }) (h .is-function) refl r g b hr hg hb t A w (h .laid) (h .pool) (omega arith) (omega (arith, postfix-count t 0))))
+        (code-runs (read (fileFor t)) (capacity x) (heapCapacity y) (h .stop) (record { start = 0; end = h .stop; params = locals; result = some (num int); profile = 0 }) (h .is-function) refl r g b hr hg hb t A w (h .laid) (h .pool) (omega arith) (omega (arith, postfix-count t 0))))
 
 -- ---- lines
 
@@ -137,7 +142,7 @@ compiles =
       unique = λ s t u a b. unique a b;
       unique-within = λ d s t u a b. unique (a .line) (b .line);
       accepted = λ line out n e room. let c = compiled-as line out n e in rw (c .file) (tree-accepted (c .tree) (spells-proper (c .derived)) (c .few) (c .narrow) room);
-      gives = λ line out n e r g b hr hg hb A x y l k.
+      gives = λ line out n e r g b hr hg hb scan A x y l k.
           let c = compiled-as line out n e in
-          rw (c .file) (c .tree, c .derived, tree-gives (c .tree) (spells-proper (c .derived)) (c .few) r g b hr hg hb (c .narrow) A x y l k);
+          rw (c .file) (c .tree, c .derived, tree-gives (c .tree) (spells-proper (c .derived)) (c .few) r g b hr hg hb (c .narrow) scan A x y l k);
     }

@@ -279,7 +279,7 @@ module _ (t : Tree) (w : Proper t) (few : count t ≤ 256) where
       let h = int-at (numbers t) (numbers-fit t w) i l in
       rw (q, c, ltb-yes i (length (numbers t)) l, h .type-byte, h .payload) refl)
 
-  function-held : moduleOf (formulaTables t) .function 0 ≡ some (record { start = 0; end = length (codeBytes t); params = locals; result = some (num int) })
+  function-held : moduleOf (formulaTables t) .function 0 ≡ some (record { start = 0; end = length (codeBytes t); params = locals; result = some (num int); profile = 0 })
   unfolding moduleOf functionOf word
   function-held = let n : 0 + length (codeBytes t) ≡ length (codeBytes t) = omega arith in rw (length-word, n) refl
 

@@ -28,7 +28,7 @@ pub record Holds (m : Module) (t : Tree) : Type 0 where
   pub stop : ℕ
   pub laid : Laid m stop 0 (steps t)
   pub pool : Pool m 0 (numbers t)
-  pub is-function : m .function 0 ≡ some (record { start = 0; end = stop; params = locals; result = some (num int) })
+  pub is-function : m .function 0 ≡ some (record { start = 0; end = stop; params = locals; result = some (num int); profile = 0 })
   pub no-other : (k : ℕ) → m .function (suc k) ≡ none
   pub entry-ends : m .entryEnd ≡ 0
   pub entry-place : m .isPlace entry 0 ≡ true

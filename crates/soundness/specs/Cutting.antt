@@ -1,6 +1,6 @@
 -- A file cut into its tables: what the header's rows leave, and that the tables of a file that can be read are good.
-use mathlib.Core.Path.{_≡_, _∙_, subst}
-use Prim.Native.Nat.{ℕ, zero, suc, _+_, _*_, _%_, _≤_, _<_}
+use mathlib.Core.Path.{_≡_, ap, _∙_, subst}
+use Prim.Native.Nat.{ℕ, zero, suc, _+_, _*_, _/_, _%_, _≤_, _<_}
 use native.Mathlib.Omega.{arith}
 use mathlib.Core.Bool.{Bool, true, false, _&&_}
 use mathlib.Core.List.{List, [], _∷_}
@@ -8,11 +8,12 @@ use lib.ListN.{length, getD, take, drop, length-drop}
 use lib.Seq.{length-take-le, getD-drop}
 use lib.Dec.{ltb, eqb}
 use Rattle.rules.specs.Bytes.{word, cut}
-use Rattle.rules.specs.Tables.{differs, overLimits, firstOf, contentTests, constantCount, functionCount, labelCount, structureCount, badConstants, badStructures, badFunctions}
+use Rattle.rules.specs.Tables.{differs, functionSize, overLimits, firstOf, contentTests, constantCount, functionCount, labelCount, structureCount, badConstants, badStructures, badFunctions}
 use Rattle.rules.specs.ModuleFile.{edition, constants, functions, labels, codeLength, entryLength, structures, constantsAt, functionsAt, labelsAt, codeAt, structuresAt, constantsIn, functionsIn, labelsIn, codeIn, structuresIn, bodiesIn, tablesIn, short, otherEdition, otherTotal, overLimit, notPacked, refusal}
 use Rattle.rules.specs.Writing.{tooMany, broken, tableRefusal}
 use Rattle.rules.specs.Claims.{AreBytes}
 use Rattle.soundness.specs.Tests.{ltb-isnt, ltb-no, and-not, or-neither}
+use Rattle.soundness.specs.Functions.{count-records, no-rest, count-most}
 use Rattle.soundness.specs.Readable.{AllFalse, none-first, same-numbers, good-tables}
 
 -- ---- a part of a list
@@ -39,8 +40,8 @@ pub bytes-cut : (s : List ℕ) (a n : ℕ) → AreBytes s → AreBytes (cut s a 
 bytes-cut s a n h i = bytes-take n i (drop a s) (λ j. rw (getD-drop a s j 0) (h (a + j)))
 
 -- the counts are at most those of the header, also in a file that can't be read
-pub function-count-le : (s : List ℕ) → functionCount (functionsIn s) ≤ functions s
-function-count-le s = let h : length (functionsIn s) ≤ 20 * functions s = length-cut-le s (functionsAt s) (20 * functions s) in omega arith
+pub function-count-le : (s : List ℕ) → functionCount (edition s) (functionsIn s) ≤ functions s
+function-count-le s = count-most (edition s) (length (functionsIn s)) (functions s) (length-cut-le s (functionsAt s) (functionSize (edition s) * functions s))
 
 pub label-count-le : (s : List ℕ) → labelCount (labelsIn s) ≤ labels s
 label-count-le s = let h : length (labelsIn s) ≤ 8 * labels s = length-cut-le s (labelsAt s) (8 * labels s) in omega arith
@@ -98,8 +99,8 @@ module _ (s : List ℕ) (e : refusal s ≡ 0) where
   pub constants-length : length (constantsIn s) ≡ 12 * constants s
   constants-length = let w : structuresAt s + 12 * structures s ≡ length s = packed .whole in length-cut s (constantsAt s) (12 * constants s) (omega arith)
 
-  pub functions-length : length (functionsIn s) ≡ 20 * functions s
-  functions-length = let w : structuresAt s + 12 * structures s ≡ length s = packed .whole in length-cut s (functionsAt s) (20 * functions s) (omega arith)
+  pub functions-length : length (functionsIn s) ≡ functionSize (edition s) * functions s
+  functions-length = let w : structuresAt s + 12 * structures s ≡ length s = packed .whole in length-cut s (functionsAt s) (functionSize (edition s) * functions s) (omega arith)
 
   pub labels-length : length (labelsIn s) ≡ 8 * labels s
   labels-length = let w : structuresAt s + 12 * structures s ≡ length s = packed .whole in length-cut s (labelsAt s) (8 * labels s) (omega arith)
@@ -113,8 +114,8 @@ module _ (s : List ℕ) (e : refusal s ≡ 0) where
   pub constant-count : constantCount (constantsIn s) ≡ constants s
   constant-count = let h : length (constantsIn s) ≡ 12 * constants s = constants-length in omega arith
 
-  pub function-count : functionCount (functionsIn s) ≡ functions s
-  function-count = let h : length (functionsIn s) ≡ 20 * functions s = functions-length in omega arith
+  pub function-count : functionCount (edition s) (functionsIn s) ≡ functions s
+  function-count = ap (λ n. n / functionSize (edition s)) functions-length ∙ count-records (edition s) (functions s)
 
   pub label-count : labelCount (labelsIn s) ≡ labels s
   label-count = let h : length (labelsIn s) ≡ 8 * labels s = labels-length in omega arith
@@ -131,7 +132,7 @@ module _ (s : List ℕ) (e : refusal s ≡ 0) where
   unfolding broken
   not-broken =
       let c : length (constantsIn s) % 12 ≡ 0 = let h : length (constantsIn s) ≡ 12 * constants s = constants-length in omega arith in
-      let f : length (functionsIn s) % 20 ≡ 0 = let h : length (functionsIn s) ≡ 20 * functions s = functions-length in omega arith in
+      let f : length (functionsIn s) % functionSize (edition s) ≡ 0 = ap (λ n. n % functionSize (edition s)) functions-length ∙ no-rest (edition s) (functions s) in
       let l : length (labelsIn s) % 8 ≡ 0 = let h : length (labelsIn s) ≡ 8 * labels s = labels-length in omega arith in
       let z : length (structuresIn s) % 12 ≡ 0 = let h : length (structuresIn s) ≡ 12 * structures s = structures-length in omega arith in
       rw (c, f, l, z, code-length) (ltb-no (codeLength s) (entryLength s) (packed .inside))
@@ -151,7 +152,7 @@ module _ (s : List ℕ) (e : refusal s ≡ 0) where
   pub functions-good : badFunctions (bodiesIn s) ≡ false
   functions-good = good-tables (tablesIn s) good-file .good .seventh
 
-  pub few-functions : functionCount (functionsIn s) ≤ 128
+  pub few-functions : functionCount (edition s) (functionsIn s) ≤ 128
   few-functions = good-tables (tablesIn s) good-file .good .few-functions
 
   pub little-code : length (codeIn s) ≤ 16384

@@ -14,6 +14,7 @@ pub mod Forced
 pub mod Walks
 pub mod Records
 pub mod Numbering
+pub mod Functions
 pub mod Readable
 pub mod Translated
 pub mod Cutting

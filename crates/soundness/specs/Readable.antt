@@ -12,7 +12,7 @@ use lib.Dec.{ltb, leb, eqb}
 use Rattle.soundness.specs.Names.{Num, Instruction, push, load, store, lea, one, two, tload, tstore, bump, jmp, branch, call, ret, null, new, delete, flea, count, copy, convert, swap, int, long, double}
 use Rattle.rules.specs.Bytes.{byte, word, number, some-below}
 use Rattle.rules.specs.Instructions.{struct, Ty, ptr, typeByte, tyOf, Opcode, absent, bare, wide, fromZero, fromAdd, edition1, edition3, opcodes, opcodeOf, isAbsent, operandBytes, instructionOf, size}
-use Rattle.rules.specs.Tables.{Bodies, Tables, constantCount, functionCount, labelCount, structureCount, constantAt, functionAt, labelAt, structureAt, differs, unknownEdition, structureLimit, oddConstant, badConstant, badConstants, numberType, badField, badStructureRecord, badStructure, badStructures, structureType, oddReturn, pointerType, oddParam, badParam, badRecord, badFunction, badFunctions, endBefore, opcodeAt, dueAfter, due, dueIn, unknownAt, crossed, badCode, owns, badLabel, badLabels, firstOf, contentTests, Body, entry, fn, bodyOf, Function, Module, paramsFrom, resultOf, functionOf, fieldsFrom, structureOf, labelOf, codeOf, bodyStart, bodyEnd, placeIn, moduleOf}
+use Rattle.rules.specs.Tables.{Bodies, Tables, functionSize, constantCount, functionCount, labelCount, structureCount, constantAt, functionAt, labelAt, structureAt, differs, unknownEdition, structureLimit, oddConstant, badConstant, badConstants, numberType, badField, badStructureRecord, badStructure, badStructures, structureType, oddReturn, pointerType, oddParam, badParam, badRecord, badFunction, badFunctions, endBefore, opcodeAt, dueAfter, due, dueIn, unknownAt, crossed, badCode, owns, badLabel, badLabels, firstOf, contentTests, Body, entry, fn, bodyOf, Function, Module, paramsFrom, resultOf, functionOf, fieldsFrom, structureOf, labelOf, codeOf, bodyStart, bodyEnd, placeIn, moduleOf}
 use Rattle.rules.specs.Writing.{tooMany, broken, tableRefusal}
 use Rattle.rules.specs.Typing.{startOf, endOf}
 use Rattle.rules.specs.Claims.{dueFrom}
@@ -152,11 +152,11 @@ structure-limit e = decide (eqb e 4) (λ y. rw y (omega arith)) (λ y. rw y (ome
 -- a body that exists
 abbrev pub Has : Bodies → Body → Type 0
 Has B entry = Unit {0}
-Has B (fn k) = k < functionCount (B .functions)
+Has B (fn k) = k < functionCount (B .edition) (B .functions)
 
 -- what rows 4, 5, 7 and 8 leave of the bodies
 pub record Good (B : Bodies) : Type 0 where
-  pub few-functions : functionCount (B .functions) ≤ 128
+  pub few-functions : functionCount (B .edition) (B .functions) ≤ 128
   pub few-structures : structureCount (B .structures) ≤ 16
   pub little-code : length (B .code) ≤ 16384
   pub inside : B .entry ≤ length (B .code)
@@ -169,7 +169,7 @@ pub record GoodTables (t : Tables) : Type 0 where
   pub few-constants : constantCount (t .constants) ≤ 1024
   pub few-labels : labelCount (t .labels) ≤ 256
   pub whole-constants : length (t .constants) % 12 ≡ 0
-  pub whole-functions : length (t .bodies .functions) % 20 ≡ 0
+  pub whole-functions : length (t .bodies .functions) % functionSize (t .bodies .edition) ≡ 0
   pub whole-labels : length (t .labels) % 8 ≡ 0
   pub whole-structures : length (t .bodies .structures) % 12 ≡ 0
   pub few-allowed : structureCount (t .bodies .structures) ≤ structureLimit (t .bodies .edition)
@@ -187,24 +187,25 @@ good-tables t e =
     let N : ℕ = length (t .bodies .code) in
     let Z : ℕ = length (t .bodies .structures) in
     let most : ℕ = structureLimit (t .bodies .edition) in
+    let each : ℕ = functionSize (t .bodies .edition) in
     let tests : List Bool = unknownEdition (t .bodies .edition) ∷ false ∷ tooMany t ∷ broken t ∷ contentTests t in
     let f : AllFalse tests = none-first 1 tests e in
     let r : AllFalse (tooMany t ∷ broken t ∷ contentTests t) = f .1 .1 in
     let o : _ × (ltb most (Z / 12) ≡ false) = or-neither _ (ltb most (Z / 12)) (r .0) in
     let x : _ × (ltb 16384 N ≡ false) = or-neither _ (ltb 16384 N) (o .0) in
     let y : _ × (ltb 256 (L / 8) ≡ false) = or-neither _ (ltb 256 (L / 8)) (x .0) in
-    let z : (ltb 1024 (C / 12) ≡ false) × (ltb 128 (F / 20) ≡ false) = or-neither (ltb 1024 (C / 12)) (ltb 128 (F / 20)) (y .0) in
+    let z : (ltb 1024 (C / 12) ≡ false) × (ltb 128 (F / each) ≡ false) = or-neither (ltb 1024 (C / 12)) (ltb 128 (F / each)) (y .0) in
     let u : _ × (ltb N (t .bodies .entry) ≡ false) = or-neither _ (ltb N (t .bodies .entry)) (r .1 .0) in
     let q : _ × (differs (Z % 12) 0 ≡ false) = or-neither _ (differs (Z % 12) 0) (u .0) in
     let v : _ × (differs (L % 8) 0 ≡ false) = or-neither _ (differs (L % 8) 0) (q .0) in
-    let w : (differs (C % 12) 0 ≡ false) × (differs (F % 20) 0 ≡ false) = or-neither (differs (C % 12) 0) (differs (F % 20) 0) (v .0) in
+    let w : (differs (C % 12) 0 ≡ false) × (differs (F % each) 0 ≡ false) = or-neither (differs (C % 12) 0) (differs (F % each) 0) (v .0) in
     let k : (badConstants (t .constants) ≡ false) × (badStructures (t .bodies .structures) ≡ false) = or-neither (badConstants (t .constants)) (badStructures (t .bodies .structures)) (r .1 .1 .0) in
     record {
       known = known-edition (t .bodies .edition) (f .0);
       few-constants = ltb-isnt 1024 (C / 12) (z .0);
       few-labels = ltb-isnt 256 (L / 8) (y .1);
       whole-constants = same-numbers (C % 12) 0 (w .0);
-      whole-functions = same-numbers (F % 20) 0 (w .1);
+      whole-functions = same-numbers (F % each) 0 (w .1);
       whole-labels = same-numbers (L % 8) 0 (v .1);
       whole-structures = same-numbers (Z % 12) 0 (q .1);
       few-allowed = ltb-isnt most (Z / 12) (o .1);
@@ -213,7 +214,7 @@ good-tables t e =
       ninth = r .1 .1 .1 .1 .1 .0;
       good =
           record {
-            few-functions = ltb-isnt 128 (F / 20) (z .1);
+            few-functions = ltb-isnt 128 (F / each) (z .1);
             few-structures = let a : Z / 12 ≤ most = ltb-isnt most (Z / 12) (o .1) in let b : most ≤ 16 = structure-limit (t .bodies .edition) in omega arith;
             little-code = ltb-isnt 16384 N (x .1);
             inside = ltb-isnt N (t .bodies .entry) (u .1);
@@ -257,20 +258,20 @@ module _ (B : Bodies) (g : badFunctions B ≡ false) where
   abbrev Z : ℕ
   Z = structureCount (B .structures)
 
-  good-functions : (some-below (functionCount (B .functions)) (badFunction B) ≡ false) × (differs (endBefore B (functionCount (B .functions))) (length (B .code)) ≡ false)
+  good-functions : (some-below (functionCount (B .edition) (B .functions)) (badFunction B) ≡ false) × (differs (endBefore B (functionCount (B .edition) (B .functions))) (length (B .code)) ≡ false)
   unfolding badFunctions
-  good-functions = or-neither (some-below (functionCount (B .functions)) (badFunction B)) (differs (endBefore B (functionCount (B .functions))) (length (B .code))) g
+  good-functions = or-neither (some-below (functionCount (B .edition) (B .functions)) (badFunction B)) (differs (endBefore B (functionCount (B .edition) (B .functions))) (length (B .code))) g
 
-  pub fills : endBefore B (functionCount (B .functions)) ≡ length (B .code)
-  fills = same-numbers (endBefore B (functionCount (B .functions))) (length (B .code)) (good-functions .1)
+  pub fills : endBefore B (functionCount (B .edition) (B .functions)) ≡ length (B .code)
+  fills = same-numbers (endBefore B (functionCount (B .edition) (B .functions))) (length (B .code)) (good-functions .1)
 
-  record-parts : (k : ℕ) → k < functionCount (B .functions)
-      → (differs (word 4 (B .functions) (functionAt k)) (endBefore B k) ≡ false) × (ltb 8 (byte (B .functions) (functionAt k + 8)) ≡ false) × (oddReturn Z (byte (B .functions) (functionAt k + 9)) ≡ false)
-      × (some-below 8 (badParam (B .edition) Z (B .functions) (functionAt k)) ≡ false)
+  record-parts : (k : ℕ) → k < functionCount (B .edition) (B .functions)
+      → (differs (word 4 (B .functions) (functionAt (B .edition) k)) (endBefore B k) ≡ false) × (ltb 8 (byte (B .functions) (functionAt (B .edition) k + 8)) ≡ false) × (oddReturn Z (byte (B .functions) (functionAt (B .edition) k + 9)) ≡ false)
+      × (some-below 8 (badParam (B .edition) Z (B .functions) (functionAt (B .edition) k)) ≡ false)
   unfolding badFunction badRecord
   record-parts k h =
-      let a : ℕ = functionAt k in
-      let f : badFunction B k ≡ false = none-below (functionCount (B .functions)) (badFunction B) (good-functions .0) k h in
+      let a : ℕ = functionAt (B .edition) k in
+      let f : badFunction B k ≡ false = none-below (functionCount (B .edition) (B .functions)) (badFunction B) (good-functions .0) k h in
       let x : _ × (some-below 8 (badParam (B .edition) Z (B .functions) a) ≡ false) =
       or-neither _ (some-below 8 (badParam (B .edition) Z (B .functions) a)) (or-neither _ (differs (byte (B .functions) (a + 18)) 0) (or-neither _ (differs (byte (B .functions) (a + 19)) 0) f .0) .0) in
       let y : _ × (oddReturn Z (byte (B .functions) (a + 9)) ≡ false) = or-neither _ (oddReturn Z (byte (B .functions) (a + 9))) (x .0) in
@@ -278,30 +279,30 @@ module _ (B : Bodies) (g : badFunctions B ≡ false) where
       (or-neither (differs (word 4 (B .functions) a) (endBefore B k)) (eqb (word 4 (B .functions) (a + 4)) 0) (z .0) .0, z .1, y .1, x .1)
 
   -- a function starts where the body before it ends
-  pub starts-after : (k : ℕ) → k < functionCount (B .functions) → word 4 (B .functions) (functionAt k) ≡ endBefore B k
-  starts-after k h = same-numbers (word 4 (B .functions) (functionAt k)) (endBefore B k) (record-parts k h .0)
+  pub starts-after : (k : ℕ) → k < functionCount (B .edition) (B .functions) → word 4 (B .functions) (functionAt (B .edition) k) ≡ endBefore B k
+  starts-after k h = same-numbers (word 4 (B .functions) (functionAt (B .edition) k)) (endBefore B k) (record-parts k h .0)
 
-  pub few-parameters : (k : ℕ) → k < functionCount (B .functions) → byte (B .functions) (functionAt k + 8) ≤ 8
-  few-parameters k h = ltb-isnt 8 (byte (B .functions) (functionAt k + 8)) (record-parts k h .1)
+  pub few-parameters : (k : ℕ) → k < functionCount (B .edition) (B .functions) → byte (B .functions) (functionAt (B .edition) k + 8) ≤ 8
+  few-parameters k h = ltb-isnt 8 (byte (B .functions) (functionAt (B .edition) k + 8)) (record-parts k h .1)
 
-  pub result-type : (k : ℕ) → k < functionCount (B .functions) → (byte (B .functions) (functionAt k + 9) ≡ 0) ⊎ ResultByte (structureCount (B .structures)) (byte (B .functions) (functionAt k + 9))
-  result-type k h = return-type Z (byte (B .functions) (functionAt k + 9)) (record-parts k h .2)
+  pub result-type : (k : ℕ) → k < functionCount (B .edition) (B .functions) → (byte (B .functions) (functionAt (B .edition) k + 9) ≡ 0) ⊎ ResultByte (structureCount (B .structures)) (byte (B .functions) (functionAt (B .edition) k + 9))
+  result-type k h = return-type Z (byte (B .functions) (functionAt (B .edition) k + 9)) (record-parts k h .2)
 
-  pub parameter-byte : (k j : ℕ) → k < functionCount (B .functions) → j < byte (B .functions) (functionAt k + 8) → ParameterByte (structureCount (B .structures)) (byte (B .functions) (functionAt k + 10 + j))
+  pub parameter-byte : (k j : ℕ) → k < functionCount (B .edition) (B .functions) → j < byte (B .functions) (functionAt (B .edition) k + 8) → ParameterByte (structureCount (B .structures)) (byte (B .functions) (functionAt (B .edition) k + 10 + j))
   unfolding badParam
   parameter-byte k j h l =
-      let few : byte (B .functions) (functionAt k + 8) ≤ 8 = few-parameters k h in
-      param-type (B .edition) Z (ltb j (byte (B .functions) (functionAt k + 8))) (byte (B .functions) (functionAt k + 10 + j)) (ltb-yes j (byte (B .functions) (functionAt k + 8)) l)
-      (none-below 8 (badParam (B .edition) Z (B .functions) (functionAt k)) (record-parts k h .3) j (omega arith))
+      let few : byte (B .functions) (functionAt (B .edition) k + 8) ≤ 8 = few-parameters k h in
+      param-type (B .edition) Z (ltb j (byte (B .functions) (functionAt (B .edition) k + 8))) (byte (B .functions) (functionAt (B .edition) k + 10 + j)) (ltb-yes j (byte (B .functions) (functionAt (B .edition) k + 8)) l)
+      (none-below 8 (badParam (B .edition) Z (B .functions) (functionAt (B .edition) k)) (record-parts k h .3) j (omega arith))
 
-  pub parameter-type : (k j : ℕ) → k < functionCount (B .functions) → j < byte (B .functions) (functionAt k + 8) → typeByte (tyOf (byte (B .functions) (functionAt k + 10 + j))) ≡ byte (B .functions) (functionAt k + 10 + j)
-  parameter-type k j h l = byte-back Z (byte (B .functions) (functionAt k + 10 + j)) (parameter-byte k j h l)
+  pub parameter-type : (k j : ℕ) → k < functionCount (B .edition) (B .functions) → j < byte (B .functions) (functionAt (B .edition) k + 8) → typeByte (tyOf (byte (B .functions) (functionAt (B .edition) k + 10 + j))) ≡ byte (B .functions) (functionAt (B .edition) k + 10 + j)
+  parameter-type k j h l = byte-back Z (byte (B .functions) (functionAt (B .edition) k + 10 + j)) (parameter-byte k j h l)
 
-  pub unused-parameter : (k j : ℕ) → k < functionCount (B .functions) → byte (B .functions) (functionAt k + 8) ≤ j → j < 8 → byte (B .functions) (functionAt k + 10 + j) ≡ 0
+  pub unused-parameter : (k j : ℕ) → k < functionCount (B .edition) (B .functions) → byte (B .functions) (functionAt (B .edition) k + 8) ≤ j → j < 8 → byte (B .functions) (functionAt (B .edition) k + 10 + j) ≡ 0
   unfolding badParam
   unused-parameter k j h l m =
-      let x : oddParam (B .edition) Z (ltb j (byte (B .functions) (functionAt k + 8))) (byte (B .functions) (functionAt k + 10 + j)) ≡ false = none-below 8 (badParam (B .edition) Z (B .functions) (functionAt k)) (record-parts k h .3) j m in
-      same-numbers (byte (B .functions) (functionAt k + 10 + j)) 0 (rw (ltb-no j (byte (B .functions) (functionAt k + 8)) l) at x)
+      let x : oddParam (B .edition) Z (ltb j (byte (B .functions) (functionAt (B .edition) k + 8))) (byte (B .functions) (functionAt (B .edition) k + 10 + j)) ≡ false = none-below 8 (badParam (B .edition) Z (B .functions) (functionAt (B .edition) k)) (record-parts k h .3) j m in
+      same-numbers (byte (B .functions) (functionAt (B .edition) k + 10 + j)) 0 (rw (ltb-no j (byte (B .functions) (functionAt (B .edition) k + 8)) l) at x)
 
 -- ---- structures
 
@@ -333,9 +334,9 @@ good-shape zs g i h =
 -- ---- code
 
 module _ (B : Bodies) (g : Good B) where
-  good-code : (some-below (length (B .code)) (unknownAt (B .edition) (B .code)) ≡ false) × (some-below (suc (functionCount (B .functions))) (crossed B) ≡ false)
+  good-code : (some-below (length (B .code)) (unknownAt (B .edition) (B .code)) ≡ false) × (some-below (suc (functionCount (B .edition) (B .functions))) (crossed B) ≡ false)
   unfolding badCode
-  good-code = or-neither (some-below (length (B .code)) (unknownAt (B .edition) (B .code))) (some-below (suc (functionCount (B .functions))) (crossed B)) (g .eighth)
+  good-code = or-neither (some-below (length (B .code)) (unknownAt (B .edition) (B .code))) (some-below (suc (functionCount (B .edition) (B .functions))) (crossed B)) (g .eighth)
 
   -- an instruction begins at a known opcode
   known-opcode : (p : ℕ) → p < length (B .code) → dueIn B p ≡ 0 → isAbsent (opcodeAt (B .edition) (B .code) p) ≡ false
@@ -345,9 +346,9 @@ module _ (B : Bodies) (g : Good B) where
       decide (isAbsent (opcodeAt (B .edition) (B .code) p)) (λ y. let z : true ≡ false = rw (d, y) at x in false-true (sym z)) (λ y. y)
 
   -- no instruction crosses a body's end
-  cut-at-end : (i : ℕ) → i ≤ functionCount (B .functions) → dueIn B (endBefore B i) ≡ 0
+  cut-at-end : (i : ℕ) → i ≤ functionCount (B .edition) (B .functions) → dueIn B (endBefore B i) ≡ 0
   unfolding crossed
-  cut-at-end i h = same-numbers (dueIn B (endBefore B i)) 0 (none-below (suc (functionCount (B .functions))) (crossed B) (good-code .1) i (omega arith))
+  cut-at-end i h = same-numbers (dueIn B (endBefore B i)) 0 (none-below (suc (functionCount (B .edition) (B .functions))) (crossed B) (good-code .1) i (omega arith))
 
   -- ---- bodies
 
@@ -366,23 +367,23 @@ module _ (B : Bodies) (g : Good B) where
   unfolding endBefore
   end-zero = refl
 
-  end-of : (k : ℕ) → k < functionCount (B .functions) → word 4 (B .functions) (functionAt k) + word 4 (B .functions) (functionAt k + 4) ≡ endBefore B (suc k)
+  end-of : (k : ℕ) → k < functionCount (B .edition) (B .functions) → word 4 (B .functions) (functionAt (B .edition) k) + word 4 (B .functions) (functionAt (B .edition) k + 4) ≡ endBefore B (suc k)
   unfolding endBefore
-  end-of k h = ap (λ z. z + word 4 (B .functions) (functionAt k + 4)) (starts-after B (g .seventh) k h)
+  end-of k h = ap (λ z. z + word 4 (B .functions) (functionAt (B .edition) k + 4)) (starts-after B (g .seventh) k h)
 
   ends-well : (b : Body) → Has B b → EndsWell b
   ends-well entry h = record { cut = subst (λ w. dueIn B w ≡ 0) end-zero (cut-at-end 0 (omega arith)); inside = g .inside; starts-cut = due-zero; ordered = omega arith }
   ends-well (fn k) h =
-      let q : word 4 (B .functions) (functionAt k) + word 4 (B .functions) (functionAt k + 4) ≡ endBefore B (suc k) = end-of k h in
-      let r : endBefore B (suc k) ≤ endBefore B (functionCount (B .functions)) = ends-rise B (suc k) (functionCount (B .functions)) h in
-      let f : endBefore B (functionCount (B .functions)) ≡ length (B .code) = fills B (g .seventh) in
+      let q : word 4 (B .functions) (functionAt (B .edition) k) + word 4 (B .functions) (functionAt (B .edition) k + 4) ≡ endBefore B (suc k) = end-of k h in
+      let r : endBefore B (suc k) ≤ endBefore B (functionCount (B .edition) (B .functions)) = ends-rise B (suc k) (functionCount (B .edition) (B .functions)) h in
+      let f : endBefore B (functionCount (B .edition) (B .functions)) ≡ length (B .code) = fills B (g .seventh) in
       record { cut = rw q (cut-at-end (suc k) h); inside = omega arith; starts-cut = rw (starts-after B (g .seventh) k h) (cut-at-end k (omega arith)); ordered = omega arith }
 
   -- what lies before the end of an earlier body does not lie in function k
-  before : (i k q : ℕ) → k < functionCount (B .functions) → i ≤ k → q < endBefore B i → word 4 (B .functions) (functionAt k) ≤ q → ⊥
+  before : (i k q : ℕ) → k < functionCount (B .edition) (B .functions) → i ≤ k → q < endBefore B i → word 4 (B .functions) (functionAt (B .edition) k) ≤ q → ⊥
   before i k q h l v u =
       let r : endBefore B i ≤ endBefore B k = ends-rise B i k l in
-      let w : word 4 (B .functions) (functionAt k) ≡ endBefore B k = starts-after B (g .seventh) k h in omega arith
+      let w : word 4 (B .functions) (functionAt (B .edition) k) ≡ endBefore B k = starts-after B (g .seventh) k h in omega arith
 
   -- bodies are packed, so a place that is no end lies in one body only
   same-body : (b c : Body) → Has B b → Has B c → (q : ℕ) → bodyStart B b ≤ q → q < bodyEnd B b → bodyStart B c ≤ q → q < bodyEnd B c → b ≡ c
@@ -394,7 +395,7 @@ module _ (B : Bodies) (g : Good B) where
       (λ y. absurd (decide (ltb j k) (λ z. later j k q h l (ltb-is j k z) v u′)
       (λ z. later k j q l h (let n : j ≢ k = eqb-isnt j k y in let o : k ≤ j = ltb-isnt j k z in omega arith) v′ u)))
     where
-      later : (j k q : ℕ) → j < functionCount (B .functions) → k < functionCount (B .functions) → j < k → q < bodyEnd B (fn j) → bodyStart B (fn k) ≤ q → ⊥
+      later : (j k q : ℕ) → j < functionCount (B .edition) (B .functions) → k < functionCount (B .edition) (B .functions) → j < k → q < bodyEnd B (fn j) → bodyStart B (fn k) ≤ q → ⊥
       later j k q h l o v u = before (suc j) k q l o (subst (λ x. q < x) (end-of j h) v) u
 
 -- ---- instructions
@@ -586,28 +587,28 @@ module _ (t : Tables) (e : tableRefusal t ≡ 0) where
       let y : (leb (bodyStart (t .bodies) b) p ≡ true) × (leb p (bodyEnd (t .bodies) b) ≡ true) = and-both (leb (bodyStart (t .bodies) b) p) (leb p (bodyEnd (t .bodies) b)) (x .0) in
       (leb-is (bodyStart (t .bodies) b) p (y .0), leb-is p (bodyEnd (t .bodies) b) (y .1), eqb-is (dueIn (t .bodies) p) 0 (x .1))
 
-  function-is : (k : ℕ) (F : Function) → moduleOf t .function k ≡ some F → (k < functionCount (t .bodies .functions)) × (functionOf (t .bodies .functions) (functionAt k) ≡ F)
+  function-is : (k : ℕ) (F : Function) → moduleOf t .function k ≡ some F → (k < functionCount (t .bodies .edition) (t .bodies .functions)) × (functionOf (t .bodies .edition) (t .bodies .functions) (functionAt (t .bodies .edition) k) ≡ F)
   unfolding moduleOf
   function-is k F q =
-      decide (ltb k (functionCount (t .bodies .functions))) (λ y. (ltb-is k (functionCount (t .bodies .functions)) y, some-inj (functionOf (t .bodies .functions) (functionAt k)) F (rw y at q))) (λ y. none-some (rw y at q))
+      decide (ltb k (functionCount (t .bodies .edition) (t .bodies .functions))) (λ y. (ltb-is k (functionCount (t .bodies .edition) (t .bodies .functions)) y, some-inj (functionOf (t .bodies .edition) (t .bodies .functions) (functionAt (t .bodies .edition) k)) F (rw y at q))) (λ y. none-some (rw y at q))
 
   -- the body exists where it has an end, and this is the end
   pub end-is : (b : Body) (q : ℕ) → endOf (moduleOf t) b ≡ some q → Has (t .bodies) b × (bodyEnd (t .bodies) b ≡ q)
   unfolding moduleOf functionOf
   end-is entry q h = (tt, some-inj (t .bodies .entry) q h)
   end-is (fn k) q h =
-      decide (ltb k (functionCount (t .bodies .functions))) (λ y. (ltb-is k (functionCount (t .bodies .functions)) y, some-inj (bodyEnd (t .bodies) (fn k)) q (rw y at h))) (λ y. none-some (rw y at h))
+      decide (ltb k (functionCount (t .bodies .edition) (t .bodies .functions))) (λ y. (ltb-is k (functionCount (t .bodies .edition) (t .bodies .functions)) y, some-inj (bodyEnd (t .bodies) (fn k)) q (rw y at h))) (λ y. none-some (rw y at h))
 
   pub has-end : (b : Body) → Has (t .bodies) b → endOf (moduleOf t) b ≡ some (bodyEnd (t .bodies) b)
   unfolding moduleOf functionOf
   has-end entry h = refl
-  has-end (fn k) h = rw (ltb-yes k (functionCount (t .bodies .functions)) h)
+  has-end (fn k) h = rw (ltb-yes k (functionCount (t .bodies .edition) (t .bodies .functions)) h)
 
   pub start-is : (b : Body) (x : ℕ × List Ty) → startOf (moduleOf t) b ≡ some x → Has (t .bodies) b × (bodyStart (t .bodies) b ≡ x .0)
   unfolding moduleOf functionOf
   start-is entry x h = (tt, ap (λ (z : ℕ × List Ty). z .0) (some-inj (0, []) x h))
   start-is (fn k) x h =
-      decide (ltb k (functionCount (t .bodies .functions))) (λ y. (ltb-is k (functionCount (t .bodies .functions)) y, ap (λ (z : ℕ × List Ty). z .0) (some-inj (bodyStart (t .bodies) (fn k), paramsFrom (t .bodies .functions) (functionAt k + 10) (byte (t .bodies .functions) (functionAt k + 8))) x (rw y at h))))
+      decide (ltb k (functionCount (t .bodies .edition) (t .bodies .functions))) (λ y. (ltb-is k (functionCount (t .bodies .edition) (t .bodies .functions)) y, ap (λ (z : ℕ × List Ty). z .0) (some-inj (bodyStart (t .bodies) (fn k), paramsFrom (t .bodies .functions) (functionAt (t .bodies .edition) k + 10) (byte (t .bodies .functions) (functionAt (t .bodies .edition) k + 8))) x (rw y at h))))
       (λ y. none-some (rw y at h))
 
   next-place : (b : Body) (p : ℕ) → Has (t .bodies) b → placeIn (t .bodies) b p ≡ true → p < bodyEnd (t .bodies) b → (i : Instruction) × (codeOf (t .bodies .edition) (t .bodies .code) p ≡ some i) × (placeIn (t .bodies) b (p + size i) ≡ true)
@@ -641,10 +642,10 @@ module _ (t : Tables) (e : tableRefusal t ≡ 0) where
                 (due-inside (t .bodies .edition) (t .bodies .code) p d 4 (omega arith))),
           )
 
-  good-label : (i : ℕ) → i < labelCount (t .labels) → (owns (t .bodies .functions) (t .bodies .entry) (word 4 (t .labels) (labelAt i)) (word 4 (t .labels) (labelAt i + 4)) ≡ true) × (dueIn (t .bodies) (word 4 (t .labels) (labelAt i + 4)) ≡ 0)
+  good-label : (i : ℕ) → i < labelCount (t .labels) → (owns (t .bodies .edition) (t .bodies .functions) (t .bodies .entry) (word 4 (t .labels) (labelAt i)) (word 4 (t .labels) (labelAt i + 4)) ≡ true) × (dueIn (t .bodies) (word 4 (t .labels) (labelAt i + 4)) ≡ 0)
   unfolding badLabels badLabel
   good-label i h =
-      let o : Bool = owns (t .bodies .functions) (t .bodies .entry) (word 4 (t .labels) (labelAt i)) (word 4 (t .labels) (labelAt i + 4)) in
+      let o : Bool = owns (t .bodies .edition) (t .bodies .functions) (t .bodies .entry) (word 4 (t .labels) (labelAt i)) (word 4 (t .labels) (labelAt i + 4)) in
       let d : Bool = eqb (dueIn (t .bodies) (word 4 (t .labels) (labelAt i + 4))) 0 in
       let x : (o ≡ true) × (d ≡ true) = and-both o d (not-false (o && d) (none-below (labelCount (t .labels)) (badLabel (t .bodies) (t .labels)) (good-tables t e .ninth) i h)) in
       (x .0, eqb-is (dueIn (t .bodies) (word 4 (t .labels) (labelAt i + 4))) 0 (x .1))
@@ -664,25 +665,25 @@ module _ (t : Tables) (e : tableRefusal t ≡ 0) where
       of-entry = eqb o 0xffffffff && ltb p (t .bodies .entry)
 
       of-function : Bool
-      of-function = ltb o (functionCount (t .bodies .functions)) && leb (word 4 (t .bodies .functions) (functionAt o)) p && ltb p (word 4 (t .bodies .functions) (functionAt o) + word 4 (t .bodies .functions) (functionAt o + 4))
+      of-function = ltb o (functionCount (t .bodies .edition) (t .bodies .functions)) && leb (word 4 (t .bodies .functions) (functionAt (t .bodies .edition) o)) p && ltb p (word 4 (t .bodies .functions) (functionAt (t .bodies .edition) o) + word 4 (t .bodies .functions) (functionAt (t .bodies .edition) o + 4))
 
       in-body : (a c : Bool) → of-entry ≡ a → of-function ≡ c → (a || c) ≡ true → Has (t .bodies) (bodyOf o) × (bodyStart (t .bodies) (bodyOf o) ≤ p) × (p < bodyEnd (t .bodies) (bodyOf o))
       in-body true c u v w =
           let x : (eqb o 0xffffffff ≡ true) × (ltb p (t .bodies .entry) ≡ true) = and-both (eqb o 0xffffffff) (ltb p (t .bodies .entry)) u in
           rw (x .0) (tt, omega arith, ltb-is p (t .bodies .entry) (x .1))
       in-body false true u v w =
-          let x : ((ltb o (functionCount (t .bodies .functions)) && leb (word 4 (t .bodies .functions) (functionAt o)) p) ≡ true) × (ltb p (word 4 (t .bodies .functions) (functionAt o) + word 4 (t .bodies .functions) (functionAt o + 4)) ≡ true) =
-          and-both (ltb o (functionCount (t .bodies .functions)) && leb (word 4 (t .bodies .functions) (functionAt o)) p) (ltb p (word 4 (t .bodies .functions) (functionAt o) + word 4 (t .bodies .functions) (functionAt o + 4))) v in
-          let z : (ltb o (functionCount (t .bodies .functions)) ≡ true) × (leb (word 4 (t .bodies .functions) (functionAt o)) p ≡ true) = and-both (ltb o (functionCount (t .bodies .functions))) (leb (word 4 (t .bodies .functions) (functionAt o)) p) (x .0) in
-          let k : o < functionCount (t .bodies .functions) = ltb-is o (functionCount (t .bodies .functions)) (z .0) in
-          let few : functionCount (t .bodies .functions) ≤ 128 = good .few-functions in
+          let x : ((ltb o (functionCount (t .bodies .edition) (t .bodies .functions)) && leb (word 4 (t .bodies .functions) (functionAt (t .bodies .edition) o)) p) ≡ true) × (ltb p (word 4 (t .bodies .functions) (functionAt (t .bodies .edition) o) + word 4 (t .bodies .functions) (functionAt (t .bodies .edition) o + 4)) ≡ true) =
+          and-both (ltb o (functionCount (t .bodies .edition) (t .bodies .functions)) && leb (word 4 (t .bodies .functions) (functionAt (t .bodies .edition) o)) p) (ltb p (word 4 (t .bodies .functions) (functionAt (t .bodies .edition) o) + word 4 (t .bodies .functions) (functionAt (t .bodies .edition) o + 4))) v in
+          let z : (ltb o (functionCount (t .bodies .edition) (t .bodies .functions)) ≡ true) × (leb (word 4 (t .bodies .functions) (functionAt (t .bodies .edition) o)) p ≡ true) = and-both (ltb o (functionCount (t .bodies .edition) (t .bodies .functions))) (leb (word 4 (t .bodies .functions) (functionAt (t .bodies .edition) o)) p) (x .0) in
+          let k : o < functionCount (t .bodies .edition) (t .bodies .functions) = ltb-is o (functionCount (t .bodies .edition) (t .bodies .functions)) (z .0) in
+          let few : functionCount (t .bodies .edition) (t .bodies .functions) ≤ 128 = good .few-functions in
           rw (eqb-other o 0xffffffff (omega arith))
-          (k, leb-is (word 4 (t .bodies .functions) (functionAt o)) p (z .1), ltb-is p (word 4 (t .bodies .functions) (functionAt o) + word 4 (t .bodies .functions) (functionAt o + 4)) (x .1))
+          (k, leb-is (word 4 (t .bodies .functions) (functionAt (t .bodies .edition) o)) p (z .1), ltb-is p (word 4 (t .bodies .functions) (functionAt (t .bodies .edition) o) + word 4 (t .bodies .functions) (functionAt (t .bodies .edition) o + 4)) (x .1))
       in-body false false u v w = false-true w
 
       inside : k < labelCount (t .labels) → _≡_ {A = Body × ℕ} (bodyOf o, p) (b, q) → Has (t .bodies) b × (bodyStart (t .bodies) b ≤ q) × (q < bodyEnd (t .bodies) b) × (dueIn (t .bodies) q ≡ 0)
       inside l z =
-          let g : (owns (t .bodies .functions) (t .bodies .entry) o p ≡ true) × (dueIn (t .bodies) p ≡ 0) = good-label k l in
+          let g : (owns (t .bodies .edition) (t .bodies .functions) (t .bodies .entry) o p ≡ true) × (dueIn (t .bodies) p ≡ 0) = good-label k l in
           let x : Has (t .bodies) (bodyOf o) × (bodyStart (t .bodies) (bodyOf o) ≤ p) × (p < bodyEnd (t .bodies) (bodyOf o)) = in-body of-entry of-function refl refl (g .0) in
           subst (λ (y : Body × ℕ). Has (t .bodies) (y .0) × (bodyStart (t .bodies) (y .0) ≤ y .1) × (y .1 < bodyEnd (t .bodies) (y .0)) × (dueIn (t .bodies) (y .1) ≡ 0)) z (x .0, x .1, x .2, g .1)
 
@@ -722,9 +723,9 @@ module _ (t : Tables) (e : tableRefusal t ≡ 0) where
   unfolding moduleOf
   cut-apart b p q i h k l c = apart (t .bodies .edition) (t .bodies .code) p q i (place-is b p h .2) (place-is b q k .2) l c
 
-  params-few : (k : ℕ) → k < functionCount (t .bodies .functions) → length (functionOf (t .bodies .functions) (functionAt k) .params) ≤ 8
+  params-few : (k : ℕ) → k < functionCount (t .bodies .edition) (t .bodies .functions) → length (functionOf (t .bodies .edition) (t .bodies .functions) (functionAt (t .bodies .edition) k) .params) ≤ 8
   unfolding functionOf
-  params-few k h = rw (params-length (t .bodies .functions) (functionAt k + 10) (byte (t .bodies .functions) (functionAt k + 8))) (few-parameters (t .bodies) (good .seventh) k h)
+  params-few k h = rw (params-length (t .bodies .functions) (functionAt (t .bodies .edition) k + 10) (byte (t .bodies .functions) (functionAt (t .bodies .edition) k + 8))) (few-parameters (t .bodies) (good .seventh) k h)
 
   -- a structure that is declared, by its type number
   pub structure-is : (k : ℕ) (fs : List Num) → moduleOf t .structure k ≡ some fs → (10 ≤ k) × (k - 10 < structureCount (t .bodies .structures)) × (structureOf (t .bodies .structures) (k - 10) ≡ fs)
@@ -746,7 +747,7 @@ module _ (t : Tables) (e : tableRefusal t ≡ 0) where
       let x : (10 ≤ k) × (k - 10 < structureCount zs) × (structureOf zs (k - 10) ≡ fs) = structure-is k fs q in
       subst (λ (z : List Num). length z ≤ 8) (x .2) (rw (fields-length zs (a + 1) (byte zs a)) (good-shape zs (good-tables t e .shapes) (k - 10) (x .1) .few-fields))
 
-  returns-free : (k : ℕ) → k < functionCount (t .bodies .functions) → (u : Ty) → functionOf (t .bodies .functions) (functionAt k) .result ≡ some u → Free u
+  returns-free : (k : ℕ) → k < functionCount (t .bodies .edition) (t .bodies .functions) → (u : Ty) → functionOf (t .bodies .edition) (t .bodies .functions) (functionAt (t .bodies .edition) k) .result ≡ some u → Free u
   unfolding functionOf
   returns-free k h u q = go (result-type (t .bodies) (good .seventh) k h) q
     where
@@ -754,7 +755,7 @@ module _ (t : Tables) (e : tableRefusal t ≡ 0) where
       z = structureCount (t .bodies .structures)
 
       x : ℕ
-      x = byte (t .bodies .functions) (functionAt k + 9)
+      x = byte (t .bodies .functions) (functionAt (t .bodies .edition) k + 9)
 
       go : (x ≡ 0) ⊎ ResultByte z x → resultOf x ≡ some u → Free u
       go (inl y) r = none-some (rw y at r)
@@ -773,11 +774,11 @@ module _ (t : Tables) (e : tableRefusal t ≡ 0) where
             let z : bodyEnd (t .bodies) b ≡ q = y .1 in next-place b p (y .0) k (omega arith);
         lands = label-place;
         few-params = λ k F h.
-            let y : (k < functionCount (t .bodies .functions)) × (functionOf (t .bodies .functions) (functionAt k) ≡ F) = function-is k F h in
+            let y : (k < functionCount (t .bodies .edition) (t .bodies .functions)) × (functionOf (t .bodies .edition) (t .bodies .functions) (functionAt (t .bodies .edition) k) ≡ F) = function-is k F h in
             subst (λ (G : Function). length (G .params) ≤ 8) (y .1) (params-few k (y .0));
         few-fields = fields-few;
         returns = λ k F u h q.
-            let y : (k < functionCount (t .bodies .functions)) × (functionOf (t .bodies .functions) (functionAt k) ≡ F) = function-is k F h in
+            let y : (k < functionCount (t .bodies .edition) (t .bodies .functions)) × (functionOf (t .bodies .edition) (t .bodies .functions) (functionAt (t .bodies .edition) k) ≡ F) = function-is k F h in
             returns-free k (y .0) u (ap (λ (G : Function). G .result) (y .1) ∙ q);
         native = λ p i h. native-code (t .bodies .edition) (t .bodies .code) p i h;
       }

@@ -9,7 +9,7 @@ use lib.ListN.{length, getD, take, drop, length-append, length-drop, take-append
 use lib.Seq.{take-at, drop-at, take-all, take-add, drop-drop}
 use lib.Dec.{ltb, eqb}
 use Rattle.rules.specs.Bytes.{bytes, words, word, cut}
-use Rattle.rules.specs.Tables.{Tables, differs, headerSize, unknownEdition, firstOf, contentTests, constantCount, functionCount, labelCount, structureCount}
+use Rattle.rules.specs.Tables.{Tables, differs, headerSize, functionSize, unknownEdition, firstOf, contentTests, constantCount, functionCount, labelCount, structureCount}
 use Rattle.rules.specs.ModuleFile.{edition, constants, functions, labels, codeLength, entryLength, structures, constantsAt, functionsAt, labelsAt, codeAt, structuresAt, constantsIn, functionsIn, labelsIn, codeIn, structuresIn, tablesIn, short, otherEdition, otherTotal, overLimit, notPacked, refusal}
 use Rattle.rules.specs.Writing.{fileLength, headerWords, fileOf, tooMany, broken, tableRefusal, writeNumber, wrote, writeWith, write}
 use Rattle.rules.specs.Numbers.{done, output-too-short}
@@ -19,6 +19,7 @@ use Rattle.memory.proofs.Words.{number-bytes}
 use Rattle.memory.proofs.Copies.{word-bytes}
 use Rattle.soundness.specs.Names.{Unwritten, Written}
 use Rattle.soundness.specs.Tests.{decide, eqb-is, eqb-same, eqb-other, ltb-no, false-true, or-neither}
+use Rattle.soundness.specs.Functions.{count-under, length-most, records-fill, records-whole}
 use Rattle.soundness.specs.Readable.{same-numbers, KnownEdition, Good, GoodTables, good-tables}
 use Rattle.soundness.specs.Cutting.{Packed, packed, constants-length, functions-length, labels-length, code-length, structures-length, constant-count, function-count, label-count, structure-count, good-file}
 
@@ -36,18 +37,18 @@ differs-iff a b c d f g =
     decide (eqb a b) (λ y. let e : a ≡ b = eqb-is a b y in differs-same a b e ∙ sym (differs-same c d (f e)))
     (λ y. ap not y ∙ sym (decide (eqb c d) (λ z. differs-same c d (eqb-is c d z) ∙ sym (differs-same a b (g (eqb-is c d z))) ∙ ap not y) (λ z. ap not z)))
 
--- row 5 of the file against row 5 of the tables, as numbers: header size H, lengths C, F, L, N, Z of the tables, entry length E; where g
+-- row 5 of the file against row 5 of the tables, as numbers: function records of R bytes; header size H, lengths C, F, L, N, Z of the tables, entry length E; where g
 -- holds, the header's last word W is the place of the structures
-module _ (H C F L N Z E W : ℕ) (g : Bool) (last : g ≡ true → W ≡ H + C + F + L + N) where
+module _ (R H C F L N Z E W : ℕ) (fill : F % R ≡ 0 → R * (F / R) ≡ F) (full : R * (F / R) ≡ F → F % R ≡ 0) (g : Bool) (last : g ≡ true → W ≡ H + C + F + L + N) where
   abbrev loose : Bool
   loose =
-      differs H H || differs (H + C) (H + 12 * (C / 12)) || differs (H + C + F) (H + 12 * (C / 12) + 20 * (F / 20))
-      || differs (H + C + F + L) (H + 12 * (C / 12) + 20 * (F / 20) + 8 * (L / 8))
-      || (g && differs W (H + 12 * (C / 12) + 20 * (F / 20) + 8 * (L / 8) + N))
-      || differs (H + 12 * (C / 12) + 20 * (F / 20) + 8 * (L / 8) + N + 12 * (Z / 12)) (H + C + F + L + N + Z) || ltb N E
+      differs H H || differs (H + C) (H + 12 * (C / 12)) || differs (H + C + F) (H + 12 * (C / 12) + R * (F / R))
+      || differs (H + C + F + L) (H + 12 * (C / 12) + R * (F / R) + 8 * (L / 8))
+      || (g && differs W (H + 12 * (C / 12) + R * (F / R) + 8 * (L / 8) + N))
+      || differs (H + 12 * (C / 12) + R * (F / R) + 8 * (L / 8) + N + 12 * (Z / 12)) (H + C + F + L + N + Z) || ltb N E
 
   abbrev parted : Bool
-  parted = differs (C % 12) 0 || differs (F % 20) 0 || differs (L % 8) 0 || differs (Z % 12) 0 || ltb N E
+  parted = differs (C % 12) 0 || differs (F % R) 0 || differs (L % 8) 0 || differs (Z % 12) 0 || ltb N E
 
   same-row : loose ≡ parted
   same-row = at-c (differs (C % 12) 0) refl
@@ -58,38 +59,42 @@ module _ (H C F L N Z E W : ℕ) (g : Bool) (last : g ≡ true → W ≡ H + C +
       c-test : differs (H + C) (H + 12 * (C / 12)) ≡ differs (C % 12) 0
       c-test = differs-iff (H + C) (H + 12 * (C / 12)) (C % 12) 0 (λ e. omega arith) (λ e. omega arith)
 
-      f-test : C % 12 ≡ 0 → differs (H + C + F) (H + 12 * (C / 12) + 20 * (F / 20)) ≡ differs (F % 20) 0
-      f-test c = differs-iff (H + C + F) (H + 12 * (C / 12) + 20 * (F / 20)) (F % 20) 0 (λ e. omega arith) (λ e. omega arith)
+      f-test : C % 12 ≡ 0 → differs (H + C + F) (H + 12 * (C / 12) + R * (F / R)) ≡ differs (F % R) 0
+      f-test c = differs-iff (H + C + F) (H + 12 * (C / 12) + R * (F / R)) (F % R) 0 (λ e. full (omega arith)) (λ e. let q : R * (F / R) ≡ F = fill e in omega arith)
 
-      l-test : C % 12 ≡ 0 → F % 20 ≡ 0 → differs (H + C + F + L) (H + 12 * (C / 12) + 20 * (F / 20) + 8 * (L / 8)) ≡ differs (L % 8) 0
-      l-test c f = differs-iff (H + C + F + L) (H + 12 * (C / 12) + 20 * (F / 20) + 8 * (L / 8)) (L % 8) 0 (λ e. omega arith) (λ e. omega arith)
+      l-test : C % 12 ≡ 0 → F % R ≡ 0 → differs (H + C + F + L) (H + 12 * (C / 12) + R * (F / R) + 8 * (L / 8)) ≡ differs (L % 8) 0
+      l-test c f =
+          let q : R * (F / R) ≡ F = fill f in
+          differs-iff (H + C + F + L) (H + 12 * (C / 12) + R * (F / R) + 8 * (L / 8)) (L % 8) 0 (λ e. omega arith) (λ e. omega arith)
 
-      w-test : C % 12 ≡ 0 → F % 20 ≡ 0 → L % 8 ≡ 0 → (g && differs W (H + 12 * (C / 12) + 20 * (F / 20) + 8 * (L / 8) + N)) ≡ false
+      w-test : C % 12 ≡ 0 → F % R ≡ 0 → L % 8 ≡ 0 → (g && differs W (H + 12 * (C / 12) + R * (F / R) + 8 * (L / 8) + N)) ≡ false
       w-test c f l =
           decide g
           (λ y. let q : W ≡ H + C + F + L + N = last y in
-          rw y (differs-same W (H + 12 * (C / 12) + 20 * (F / 20) + 8 * (L / 8) + N) (omega arith)))
+          let r : R * (F / R) ≡ F = fill f in
+          rw y (differs-same W (H + 12 * (C / 12) + R * (F / R) + 8 * (L / 8) + N) (omega arith)))
           (λ y. rw y refl)
 
-      z-test : C % 12 ≡ 0 → F % 20 ≡ 0 → L % 8 ≡ 0
-          → differs (H + 12 * (C / 12) + 20 * (F / 20) + 8 * (L / 8) + N + 12 * (Z / 12)) (H + C + F + L + N + Z) ≡ differs (Z % 12) 0
+      z-test : C % 12 ≡ 0 → F % R ≡ 0 → L % 8 ≡ 0
+          → differs (H + 12 * (C / 12) + R * (F / R) + 8 * (L / 8) + N + 12 * (Z / 12)) (H + C + F + L + N + Z) ≡ differs (Z % 12) 0
       z-test c f l =
-          differs-iff (H + 12 * (C / 12) + 20 * (F / 20) + 8 * (L / 8) + N + 12 * (Z / 12)) (H + C + F + L + N + Z) (Z % 12) 0 (λ e. omega arith)
+          let q : R * (F / R) ≡ F = fill f in
+          differs-iff (H + 12 * (C / 12) + R * (F / R) + 8 * (L / 8) + N + 12 * (Z / 12)) (H + C + F + L + N + Z) (Z % 12) 0 (λ e. omega arith)
           (λ e. omega arith)
 
-      at-l : C % 12 ≡ 0 → F % 20 ≡ 0 → (x : Bool) → differs (L % 8) 0 ≡ x → loose ≡ parted
-      at-l c f true y = rw (h-test, c-test, f-test c, l-test c f, differs-same (C % 12) 0 c, differs-same (F % 20) 0 f, y)
+      at-l : C % 12 ≡ 0 → F % R ≡ 0 → (x : Bool) → differs (L % 8) 0 ≡ x → loose ≡ parted
+      at-l c f true y = rw (h-test, c-test, f-test c, l-test c f, differs-same (C % 12) 0 c, differs-same (F % R) 0 f, y)
       at-l c f false y =
           let l : L % 8 ≡ 0 = same-numbers (L % 8) 0 y in
-          rw (h-test, c-test, f-test c, l-test c f, w-test c f l, z-test c f l, differs-same (C % 12) 0 c, differs-same (F % 20) 0 f, y)
+          rw (h-test, c-test, f-test c, l-test c f, w-test c f l, z-test c f l, differs-same (C % 12) 0 c, differs-same (F % R) 0 f, y)
 
-      at-f : C % 12 ≡ 0 → (x : Bool) → differs (F % 20) 0 ≡ x → loose ≡ parted
+      at-f : C % 12 ≡ 0 → (x : Bool) → differs (F % R) 0 ≡ x → loose ≡ parted
       at-f c true y = rw (h-test, c-test, f-test c, differs-same (C % 12) 0 c, y)
-      at-f c false y = at-l c (same-numbers (F % 20) 0 y) (differs (L % 8) 0) refl
+      at-f c false y = at-l c (same-numbers (F % R) 0 y) (differs (L % 8) 0) refl
 
       at-c : (x : Bool) → differs (C % 12) 0 ≡ x → loose ≡ parted
       at-c true y = rw (h-test, c-test, y)
-      at-c false y = at-f (same-numbers (C % 12) 0 y) (differs (F % 20) 0) refl
+      at-c false y = at-f (same-numbers (C % 12) 0 y) (differs (F % R) 0) refl
 
 -- ---- words, one after the other
 
@@ -162,8 +167,8 @@ module _ (t : Tables) (placeable : Placeable t) (short-edition : t .bodies .edit
   constants-at-back : word 4 (fileOf t) 12 ≡ constantsFrom t
   constants-at-back = header-word 3 (omega arith) (omega arith)
 
-  functions-back : functions (fileOf t) ≡ functionCount (t .bodies .functions)
-  functions-back = header-word 4 (omega arith) (omega arith)
+  functions-back : functions (fileOf t) ≡ functionCount (t .bodies .edition) (t .bodies .functions)
+  functions-back = let u : functionCount (t .bodies .edition) (t .bodies .functions) ≤ length (t .bodies .functions) = count-under (t .bodies .edition) (length (t .bodies .functions)) in header-word 4 (omega arith) (omega arith)
 
   functions-at-back : word 4 (fileOf t) 20 ≡ functionsFrom t
   functions-at-back = header-word 5 (omega arith) (omega arith)
@@ -231,12 +236,13 @@ module _ (t : Tables) (placeable : Placeable t) (short-edition : t .bodies .edit
   unfolding notPacked broken
   fifth =
       rw (structures-back, edition-back, constants-at-back, functions-at-back, labels-at-back, code-at-back, total-back, constants-back, functions-back, labels-back, code-back, entry-back)
-      (same-row (constantsFrom t) (length (t .constants)) (length (t .bodies .functions)) (length (t .labels)) (length (t .bodies .code)) (length (t .bodies .structures)) (t .bodies .entry) (word 4 (fileOf t) 52)
+      (same-row (functionSize (t .bodies .edition)) (constantsFrom t) (length (t .constants)) (length (t .bodies .functions)) (length (t .labels)) (length (t .bodies .code)) (length (t .bodies .structures)) (t .bodies .entry) (word 4 (fileOf t) 52)
+      (records-fill (t .bodies .edition) (length (t .bodies .functions))) (records-whole (t .bodies .edition) (length (t .bodies .functions)))
       (eqb (t .bodies .edition) 4) structures-at-back)
 
   -- ---- the tables, where no record is broken
 
-  module _ (c : length (t .constants) % 12 ≡ 0) (f : length (t .bodies .functions) % 20 ≡ 0) (l : length (t .labels) % 8 ≡ 0) (z : length (t .bodies .structures) % 12 ≡ 0) where
+  module _ (c : length (t .constants) % 12 ≡ 0) (f : length (t .bodies .functions) % functionSize (t .bodies .edition) ≡ 0) (l : length (t .labels) % 8 ≡ 0) (z : length (t .bodies .structures) % 12 ≡ 0) where
     before-functions : List ℕ
     before-functions = words (numbers t) ++ t .constants
 
@@ -261,11 +267,11 @@ module _ (t : Tables) (placeable : Placeable t) (short-edition : t .bodies .edit
     functions-from : functionsAt (fileOf t) ≡ functionsFrom t
     functions-from = let h : constantsAt (fileOf t) ≡ constantsFrom t = constants-from in let k : 12 * constants (fileOf t) ≡ length (t .constants) = constants-size in omega arith
 
-    functions-size : 20 * functions (fileOf t) ≡ length (t .bodies .functions)
-    functions-size = let h : functions (fileOf t) ≡ functionCount (t .bodies .functions) = functions-back in omega arith
+    functions-size : functionSize (edition (fileOf t)) * functions (fileOf t) ≡ length (t .bodies .functions)
+    functions-size = rw (functions-back, edition-back) (records-fill (t .bodies .edition) (length (t .bodies .functions)) f)
 
     labels-from : labelsAt (fileOf t) ≡ labelsFrom t
-    labels-from = let h : functionsAt (fileOf t) ≡ functionsFrom t = functions-from in let k : 20 * functions (fileOf t) ≡ length (t .bodies .functions) = functions-size in omega arith
+    labels-from = let h : functionsAt (fileOf t) ≡ functionsFrom t = functions-from in let k : functionSize (edition (fileOf t)) * functions (fileOf t) ≡ length (t .bodies .functions) = functions-size in omega arith
 
     labels-size : 8 * labels (fileOf t) ≡ length (t .labels)
     labels-size = let h : labels (fileOf t) ≡ labelCount (t .labels) = labels-back in omega arith
@@ -292,7 +298,7 @@ module _ (t : Tables) (placeable : Placeable t) (short-edition : t .bodies .edit
     functions-is : functionsIn (fileOf t) ≡ t .bodies .functions
     unfolding fileOf before-functions
     functions-is =
-        section before-functions (t .bodies .functions) (t .labels ++ (t .bodies .code ++ t .bodies .structures)) (functionsAt (fileOf t)) (20 * functions (fileOf t)) (simp append-assoc) (functions-from ∙ sym (lengths .0))
+        section before-functions (t .bodies .functions) (t .labels ++ (t .bodies .code ++ t .bodies .structures)) (functionsAt (fileOf t)) (functionSize (edition (fileOf t)) * functions (fileOf t)) (simp append-assoc) (functions-from ∙ sym (lengths .0))
         functions-size
 
     labels-is : labelsIn (fileOf t) ≡ t .labels
@@ -320,7 +326,7 @@ module _ (t : Tables) (placeable : Placeable t) (short-edition : t .bodies .edit
   unfolding broken
   unbroken e =
       let C : ℕ = length (t .constants) % 12 in
-      let F : ℕ = length (t .bodies .functions) % 20 in
+      let F : ℕ = length (t .bodies .functions) % functionSize (t .bodies .edition) in
       let L : ℕ = length (t .labels) % 8 in
       let Z : ℕ = length (t .bodies .structures) % 12 in
       let w : _ × (ltb (length (t .bodies .code)) (t .bodies .entry) ≡ false) = or-neither _ (ltb (length (t .bodies .code)) (t .bodies .entry)) e in
@@ -349,12 +355,13 @@ fits t e =
     let g : GoodTables t = good-tables t e in
     let h : Good (t .bodies) = g .good in
     let fc : constantCount (t .constants) ≤ 1024 = g .few-constants in
-    let ff : functionCount (t .bodies .functions) ≤ 128 = h .few-functions in
+    let ff : functionCount (t .bodies .edition) (t .bodies .functions) ≤ 128 = h .few-functions in
     let fl : labelCount (t .labels) ≤ 256 = g .few-labels in
     let fn : length (t .bodies .code) ≤ 16384 = h .little-code in
     let fz : structureCount (t .bodies .structures) ≤ 16 = h .few-structures in
     let fh : headerSize (t .bodies .edition) ≤ 56 = header-limit (t .bodies .edition) in
     let fe : t .bodies .entry ≤ length (t .bodies .code) = h .inside in
+    let fr : length (t .bodies .functions) ≤ 24 * 128 + 23 = length-most (t .bodies .edition) (length (t .bodies .functions)) 128 ff in
     (small-edition (t .bodies .edition) (g .known), omega arith, omega arith)
   where
     small-edition : (n : ℕ) → KnownEdition n → n < 2 ^ 32
@@ -449,7 +456,7 @@ module _ (s : List ℕ) (b : AreBytes s) (e : refusal s ≡ 0) where
   same-words =
       let p : Packed s = packed s e in
       let lc : length (constantsIn s) ≡ 12 * constants s = constants-length s e in
-      let lf : length (functionsIn s) ≡ 20 * functions s = functions-length s e in
+      let lf : length (functionsIn s) ≡ functionSize (edition s) * functions s = functions-length s e in
       let ll : length (labelsIn s) ≡ 8 * labels s = labels-length s e in
       let ln : length (codeIn s) ≡ codeLength s = code-length s e in
       let lz : length (structuresIn s) ≡ 12 * structures s = structures-length s e in
@@ -471,7 +478,7 @@ module _ (s : List ℕ) (b : AreBytes s) (e : refusal s ≡ 0) where
       let w : structuresAt s + 12 * structures s ≡ length s = packed s e .whole in
       let r : List ℕ = constantsIn s ++ (functionsIn s ++ (labelsIn s ++ (codeIn s ++ structuresIn s))) in
       let q : r ≡ drop (constantsAt s) s =
-      seam s (constantsAt s) (12 * constants s) _ (seam s (functionsAt s) (20 * functions s) _ (seam s (labelsAt s) (8 * labels s) _ (seam s (codeAt s) (codeLength s) _
+      seam s (constantsAt s) (12 * constants s) _ (seam s (functionsAt s) (functionSize (edition s) * functions s) _ (seam s (labelsAt s) (8 * labels s) _ (seam s (codeAt s) (codeLength s) _
       (take-all (12 * structures s) (drop (structuresAt s) s) (simp length-drop (omega arith)))))) in
       ap (λ x. x ++ r) header-back ∙ ap (λ x. take (constantsAt s) s ++ x) q ∙ take-append-drop (constantsAt s) s
 
