@@ -13,13 +13,13 @@ use Rattle.rules.specs.Bytes.{byte, maybe}
 use Rattle.rules.specs.declared.Num.the-variants.{Int as int, Long as long, Double as double}
 use Rattle.rules.specs.Instructions.{Ty, num, ptr, typeByte, tyOf, kindOf}
 use Rattle.rules.specs.Tables.{functionCount, functionAt, functionOf, Function, paramsFrom, moduleOf}
-use Rattle.rules.specs.ModuleFile.{read, functionsIn}
+use Rattle.rules.specs.ModuleFile.{edition, read, functionsIn}
 use Rattle.rules.specs.Stack.{slotAt, slotsOf}
 use Rattle.rules.specs.Machine.{execIn, kindsMatch}
 use Rattle.soundness.specs.Readable.{params-length}
 use Rattle.reader.specs.declared.entries.FunctionRecord.{FunctionRecord}
 use Rattle.reader.specs.declared.entries.FoundFunction.the-variants.{Record}
-use Rattle.reader.specs.Answers.{functionIn}
+use Rattle.reader.specs.Answers.{functionFound}
 use Rattle.state.specs.State.{depthOf, stateOf, Ready, Does, DoesOrLacks}
 use Rattle.state.specs.declared.Registers.{Registers}
 use Rattle.state.specs.declared.Progress.the-variants.{Goes, Stops}
@@ -71,11 +71,11 @@ module _ (s : List ℕ) (a : ℕ) (p t : List ℕ) (b : ℕ) where
 -- ---- call
 
 -- the registers at the start of the function that a record tells
-pub entered-same : (s : List ℕ) (i : ℕ) (g : FunctionRecord) → functionIn (functionsIn s) (functionAt i) (Record g) ≡ read s .function i → i < functionCount (functionsIn s) → (a h : ℕ)
-    → enteredAt (functionOf (functionsIn s) (functionAt i)) a h ≡ record { place = g .start; stop = g .end; floor = h; frame = a; height = h }
+pub entered-same : (s : List ℕ) (i : ℕ) (g : FunctionRecord) → functionFound s i (Record g) ≡ read s .function i → i < functionCount (edition s) (functionsIn s) → (a h : ℕ)
+    → enteredAt (functionOf (edition s) (functionsIn s) (functionAt (edition s) i)) a h ≡ record { place = g .start; stop = g .end; floor = h; frame = a; height = h }
 unfolding moduleOf
 entered-same s i g is l a h =
-    let q : functionIn (functionsIn s) (functionAt i) (Record g) ≡ some (functionOf (functionsIn s) (functionAt i)) = rw (lt-ltb i (functionCount (functionsIn s)) l) at is in
+    let q : functionFound s i (Record g) ≡ some (functionOf (edition s) (functionsIn s) (functionAt (edition s) i)) = rw (lt-ltb i (functionCount (edition s) (functionsIn s)) l) at is in
     ap (λ (o : Option Function). maybe o (firstAt 0 0 0) (λ F. enteredAt F a h)) (sym q)
 
 module _ (cap : ℕ) (r : Registers) (p t f : List ℕ) (k : Ready cap r p t f) (s : List ℕ) (i : ℕ) where
@@ -83,15 +83,15 @@ module _ (cap : ℕ) (r : Registers) (p t f : List ℕ) (k : Ready cap r p t f) 
   unfolding execIn
   call-28 e = stopping cap r p t f k 28 _ (rw e refl)
 
-  module _ (g : FunctionRecord) (is : functionIn (functionsIn s) (functionAt i) (Record g) ≡ read s .function i) where
+  module _ (g : FunctionRecord) (is : functionFound s i (Record g) ≡ read s .function i) where
     abbrev n : ℕ
     n = g .params
 
     abbrev params : List Ty
-    params = paramsFrom (functionsIn s) (functionAt i + 10) n
+    params = paramsFrom (functionsIn s) (functionAt (edition s) i + 10) n
 
     count : length params ≡ n
-    count = params-length (functionsIn s) (functionAt i + 10) n
+    count = params-length (functionsIn s) (functionAt (edition s) i + 10) n
 
     pub call-21 : r .height < n + r .floor → Does cap r (Stops 21) p t f p t f (execIn (read s) cap (Call i) (stateOf r p t f))
     unfolding execIn
@@ -131,8 +131,8 @@ module _ (cap : ℕ) (r : Registers) (p t f : List ℕ) (k : Ready cap r p t f) 
             (λ (l : 1536 ≤ length f). inl (call-64 (omega (arith, k .most)) h))
             (split-lt (length f) 1536)
 
-        pub call-goes : r .frame + 48 ≤ length f → i < functionCount (functionsIn s) → functionCount (functionsIn s) ≤ 128 → n ≤ 8 → g .end ≤ 16384
-            → Does cap r (Goes (enteredAt (functionOf (functionsIn s) (functionAt i)) (r .frame + 24) (r .height))) p t f p t
+        pub call-goes : r .frame + 48 ≤ length f → i < functionCount (edition s) (functionsIn s) → functionCount (edition s) (functionsIn s) ≤ 128 → n ≤ 8 → g .end ≤ 16384
+            → Does cap r (Goes (enteredAt (functionOf (edition s) (functionsIn s) (functionAt (edition s) i)) (r .frame + 24) (r .height))) p t f p t
             (openedIn (savedIn f r) (r .frame + 24) i (r .height - n) n) (execIn (read s) cap (Call i) (stateOf r p t f))
         unfolding execIn
         call-goes room named most few near =

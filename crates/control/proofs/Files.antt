@@ -12,14 +12,14 @@ use borrow.Author.Tests.{lt-ltb, ltb-true, ne-eqb, eqb-true}
 use Rattle.rules.specs.Bytes.{byte, word, maybe}
 use Rattle.rules.specs.Instructions.{pointeeNumber, pointeeOf, typeByte, tyOf}
 use Rattle.rules.specs.Tables.{functionCount, structureCount, badFunctions, endBefore, functionAt, functionOf, resultOf, Function, bodyOf, entry, fn, paramsFrom, moduleOf}
-use Rattle.rules.specs.ModuleFile.{refusal, read, bodiesIn, tablesIn, functionsIn, codeIn}
+use Rattle.rules.specs.ModuleFile.{edition, refusal, read, bodiesIn, tablesIn, functionsIn, codeIn}
 use Rattle.soundness.specs.Tests.{decide, none-some, some-inj}
 use Rattle.soundness.specs.Readable.{Has, ResultByte, byte-back, result-type, few-parameters, label-is, params-length, ends-rise, fills, starts-after}
 use Rattle.soundness.specs.Cutting.{few-functions, little-code, good-file, functions-good}
 use Rattle.reader.specs.declared.entries.FunctionRecord.{FunctionRecord}
 use Rattle.reader.specs.declared.entries.FoundFunction.the-variants.{Record}
 use Rattle.reader.specs.declared.entries.LabelRecord.{LabelRecord}
-use Rattle.reader.specs.Answers.{functionIn}
+use Rattle.reader.specs.Answers.{functionFound}
 
 pointee-back : (n : ℕ) → pointeeNumber (pointeeOf n) ≡ n
 pointee-back n =
@@ -47,18 +47,18 @@ not-null z t (inr h) q = let l : 138 ≤ t = h .0 in omega arith
 module _ (s : List ℕ) (readable : refusal s ≡ 0) where
   -- its number, its count of parameters and its end
   module _ (k : ℕ) (g : FunctionRecord) where
-    pub callee : functionIn (functionsIn s) (functionAt k) (Record g) ≡ read s .function k
-        → (k < functionCount (functionsIn s)) × (g .params ≤ 8) × (g .end ≤ 16384) × (g .params ≡ byte (functionsIn s) (functionAt k + 8))
+    pub callee : functionFound s k (Record g) ≡ read s .function k
+        → (k < functionCount (edition s) (functionsIn s)) × (g .params ≤ 8) × (g .end ≤ 16384) × (g .params ≡ byte (functionsIn s) (functionAt (edition s) k + 8))
     unfolding moduleOf functionOf endBefore
-    callee e = go (ltb k (functionCount (functionsIn s))) refl
+    callee e = go (ltb k (functionCount (edition s) (functionsIn s))) refl
       where
-        go : (b : Bool) → ltb k (functionCount (functionsIn s)) ≡ b → (k < functionCount (functionsIn s)) × (g .params ≤ 8) × (g .end ≤ 16384) × (g .params ≡ byte (functionsIn s) (functionAt k + 8))
+        go : (b : Bool) → ltb k (functionCount (edition s) (functionsIn s)) ≡ b → (k < functionCount (edition s) (functionsIn s)) × (g .params ≤ 8) × (g .end ≤ 16384) × (g .params ≡ byte (functionsIn s) (functionAt (edition s) k + 8))
         go false y = let z : _≡_ {A = ℕ} 1 0 = ap (λ (o : Option Function). maybe o 0 (λ F. 1)) (rw y at e) in absurd (omega arith)
         go true y =
-            let h : k < functionCount (functionsIn s) = ltb-true k (functionCount (functionsIn s)) y in
-            let a : ℕ = functionAt k in
+            let h : k < functionCount (edition s) (functionsIn s) = ltb-true k (functionCount (edition s) (functionsIn s)) y in
+            let a : ℕ = functionAt (edition s) k in
             let fs : List ℕ = functionsIn s in
-            let q : functionIn fs a (Record g) ≡ some (functionOf fs a) = rw y at e in
+            let q : functionFound s k (Record g) ≡ some (functionOf (edition s) fs a) = rw y at e in
             let ends : g .end ≡ word 4 fs a + word 4 fs (a + 4) = ap (λ (o : Option Function). maybe o 0 (λ F. F .end)) q in
             let counts : length (paramsFrom fs (a + 10) (g .params)) ≡ length (paramsFrom fs (a + 10) (byte fs (a + 8))) =
             ap (λ (o : Option Function). maybe o 0 (λ F. length (F .params))) q in
@@ -66,8 +66,8 @@ module _ (s : List ℕ) (readable : refusal s ≡ 0) where
             let good : badFunctions (bodiesIn s) ≡ false = functions-good s readable in
             let few : byte fs (a + 8) ≤ 8 = few-parameters (bodiesIn s) good k h in
             let start : word 4 fs a ≡ endBefore (bodiesIn s) k = starts-after (bodiesIn s) good k h in
-            let rises : endBefore (bodiesIn s) (suc k) ≤ endBefore (bodiesIn s) (functionCount fs) = ends-rise (bodiesIn s) (suc k) (functionCount fs) h in
-            let full : endBefore (bodiesIn s) (functionCount fs) ≡ length (codeIn s) = fills (bodiesIn s) good in
+            let rises : endBefore (bodiesIn s) (suc k) ≤ endBefore (bodiesIn s) (functionCount (edition s) fs) = ends-rise (bodiesIn s) (suc k) (functionCount (edition s) fs) h in
+            let full : endBefore (bodiesIn s) (functionCount (edition s) fs) ≡ length (codeIn s) = fills (bodiesIn s) good in
             let next : endBefore (bodiesIn s) (suc k) ≡ endBefore (bodiesIn s) k + word 4 fs (a + 4) = refl in (
               h,
               omega (arith, same),
@@ -76,7 +76,7 @@ module _ (s : List ℕ) (readable : refusal s ≡ 0) where
             )
 
     -- its return type is that of its byte
-    pub returned : functionIn (functionsIn s) (functionAt k) (Record g) ≡ read s .function k → (g .result ≡ 0 → ⊥) → typeByte (tyOf (g .result)) ≡ g .result
+    pub returned : functionFound s k (Record g) ≡ read s .function k → (g .result ≡ 0 → ⊥) → typeByte (tyOf (g .result)) ≡ g .result
     unfolding moduleOf functionOf
     returned e ne = type-back (g .result) (λ q. go (result-type (bodiesIn s) (functions-good s readable) k (callee e .0)) q)
       where
@@ -84,11 +84,11 @@ module _ (s : List ℕ) (readable : refusal s ≡ 0) where
         fs = functionsIn s
 
         y : ℕ
-        y = byte fs (functionAt k + 9)
+        y = byte fs (functionAt (edition s) k + 9)
 
         same : some (tyOf (g .result)) ≡ resultOf y
         same =
-            let q : functionIn fs (functionAt k) (Record g) ≡ some (functionOf fs (functionAt k)) = rw (lt-ltb k (functionCount fs) (callee e .0)) at e in
+            let q : functionFound s k (Record g) ≡ some (functionOf (edition s) fs (functionAt (edition s) k)) = rw (lt-ltb k (functionCount (edition s) fs) (callee e .0)) at e in
             rw (ne-eqb (g .result) 0 ne) at (ap (λ (o : Option Function). maybe o none (λ F. F .result)) q)
 
         go : (y ≡ 0) ⊎ ResultByte (structureCount (bodiesIn s .structures)) y → typeByte (tyOf (g .result)) ≡ 128 → ⊥

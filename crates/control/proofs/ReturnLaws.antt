@@ -12,15 +12,15 @@ use borrow.Author.Tests.{le-ltb, eq-eqb, ne-eqb, eqb-true}
 use Rattle.rules.specs.declared.Slot.{Slot}
 use Rattle.rules.specs.declared.Instruction.the-variants.{Ret}
 use Rattle.rules.specs.Instructions.{typeByte, tyOf, kindOf}
-use Rattle.rules.specs.Tables.{functionCount, functionAt, entry, fn, moduleOf}
-use Rattle.rules.specs.ModuleFile.{read, functionsIn}
+use Rattle.rules.specs.Tables.{functionCount, entry, fn, moduleOf}
+use Rattle.rules.specs.ModuleFile.{edition, read, functionsIn}
 use Rattle.rules.specs.Stack.{slotAt, slotsOf, under}
 use Rattle.rules.specs.Machine.{execIn, own, leaving}
 use Rattle.soundness.specs.Started.{all-at}
 use Rattle.soundness.specs.Kinds.{Kind, OfKind, Kinded}
 use Rattle.reader.specs.declared.entries.FunctionRecord.{FunctionRecord}
 use Rattle.reader.specs.declared.entries.FoundFunction.the-variants.{Record}
-use Rattle.reader.specs.Answers.{functionIn}
+use Rattle.reader.specs.Answers.{functionFound}
 use Rattle.state.specs.Slots.{payloadsWith, typesWith}
 use Rattle.state.specs.State.{bodyIn, depthOf, memoryOf, stateOf, frameAt, callersOf, Waiting, Caller, Ready, Does}
 use Rattle.state.specs.declared.Registers.{Registers}
@@ -32,12 +32,12 @@ use Rattle.control.specs.Control.{restoredAt, pastFrame}
 -- ---- the function that returns
 
 -- the entry's number is over every function's
-own-is : (s : List ℕ) → functionCount (functionsIn s) ≤ 128 → (b : ℕ) → own (read s) (bodyIn b) ≡ read s .function b
+own-is : (s : List ℕ) → functionCount (edition s) (functionsIn s) ≤ 128 → (b : ℕ) → own (read s) (bodyIn b) ≡ read s .function b
 unfolding moduleOf
 own-is s few b = go (eqb b 65535) refl
   where
     go : (x : Bool) → eqb b 65535 ≡ x → own (read s) (cond x entry (fn b)) ≡ read s .function b
-    go true e = let q : b ≡ 65535 = eqb-true b 65535 e in rw (le-ltb b (functionCount (functionsIn s)) (omega arith)) refl
+    go true e = let q : b ≡ 65535 = eqb-true b 65535 e in rw (le-ltb b (functionCount (edition s) (functionsIn s)) (omega arith)) refl
     go false e = refl
 
 -- ---- the value that is returned
@@ -110,7 +110,7 @@ module _ (cap : ℕ) (r : Registers) (p t f : List ℕ) (k : Ready cap r p t f) 
 
   -- ---- ret
 
-  module _ (s : List ℕ) (few : functionCount (functionsIn s) ≤ 128) where
+  module _ (s : List ℕ) (few : functionCount (edition s) (functionsIn s) ≤ 128) where
     abbrev body : ℕ
     body = getD f (r .frame) 0
 
@@ -118,7 +118,7 @@ module _ (cap : ℕ) (r : Registers) (p t f : List ℕ) (k : Ready cap r p t f) 
     unfolding execIn
     ret-30 e = stopping cap r p t f k 30 _ (rw (own-is s few body, e) refl)
 
-    module _ (g : FunctionRecord) (is : functionIn (functionsIn s) (functionAt body) (Record g) ≡ read s .function body) where
+    module _ (g : FunctionRecord) (is : functionFound s body (Record g) ≡ read s .function body) where
       abbrev x : ℕ
       x = g .result
 

@@ -8,7 +8,7 @@ ghost use Rattle.rules.specs.Bytes.{byte, word};
 ghost use Rattle.rules.specs.Instructions.{typeByte, tyOf, kindOf};
 ghost use Rattle.rules.specs.Machine.{execIn, kindsMatch};
 ghost use Rattle.rules.specs.Tables.{functionAt, functionOf, paramsFrom};
-ghost use Rattle.rules.specs.ModuleFile.{read, refusal, functionsIn};
+ghost use Rattle.rules.specs.ModuleFile.{edition, read, refusal, functionsIn};
 ghost use Rattle.rules.specs.Stack.{slotsOf};
 ghost use Rattle.soundness.specs.Kinds.{Kinded};
 ghost use Rattle.format.specs.Layout.{Packed};
@@ -41,8 +41,8 @@ fn kind_of(b: u8) -> u8
 // Whether the n slots from base on have the type numbers of the n parameters of function k, topmost first.
 fn alike(file: &[u8], c: Sections, k: usize, n: usize, base: usize, t: &[u8]) -> bool
     requires { ⌜ Packed (now file) c × (refusal (now file) ≡ 0) ⌝ }
-    requires { ⌜ (k < c .functions) × (n ≡ byte (functionsIn (now file)) (functionAt k + 8)) × (base + n ≤ length (now t)) ⌝ }
-    ensures { λ r. ⌜ ((p : List ℕ) → r ≡ kindsMatch (paramsFrom (functionsIn (now (file .entry))) (functionAt k + 10) n) (slotsOf p (now (t .entry)) (base + n))) ⌝ }
+    requires { ⌜ (k < c .functions) × (n ≡ byte (functionsIn (now file)) (functionAt (edition (now file)) k + 8)) × (base + n ≤ length (now t)) ⌝ }
+    ensures { λ r. ⌜ ((p : List ℕ) → r ≡ kindsMatch (paramsFrom (functionsIn (now (file .entry))) (functionAt (edition (now (file .entry))) k + 10) n) (slotsOf p (now (t .entry)) (base + n))) ⌝ }
 {
     let mut j = n;
     while 0 < j {
@@ -108,9 +108,9 @@ pub fn first_frame(body: usize, start: usize, end: usize, n: usize, f: &mut [u16
 // The registers at the start of function k.
 fn entered(file: &[u8], c: Sections, k: usize, frame: usize, height: usize) -> Registers
     requires { ⌜ Packed (now file) c × (k < c .functions) ⌝ }
-    ensures { λ r. ⌜ r ≡ enteredAt (functionOf (functionsIn (now (file .entry))) (functionAt k)) frame height ⌝ }
+    ensures { λ r. ⌜ r ≡ enteredAt (functionOf (edition (now (file .entry))) (functionsIn (now (file .entry))) (functionAt (edition (now (file .entry))) k)) frame height ⌝ }
 {
-    let at = c.records + 20 * k;
+    let at = c.records + c.stride * k;
     let start = format::word(file, at);
     Registers {
         place: start,

@@ -58,27 +58,27 @@ split-off f g h e (suc n) = rw (split-off f g h e n, e n) (shuffle (some-below n
     shuffle false false c d = refl
 
 module _ (s code : List ℕ) (n : ℕ) where
-  -- where bodies end is the same in every edition, with any structures
-  pub end-same : (e : ℕ) (zs : List ℕ) (i : ℕ) → endBefore (bodies e s zs code n) i ≡ endBefore (bodies 3 s [] code n) i
+  -- where bodies end is the same with any structures
+  pub end-same : (e : ℕ) (zs : List ℕ) (i : ℕ) → endBefore (bodies e s zs code n) i ≡ endBefore (bodies e s [] code n) i
   unfolding endBefore
   end-same e zs zero = refl
-  end-same e zs (suc i) = ap (λ (p : ℕ). p + word 4 s (functionAt i + 4)) (end-same e zs i)
+  end-same e zs (suc i) = ap (λ (p : ℕ). p + word 4 s (functionAt e i + 4)) (end-same e zs i)
 
   record-later : (e z a from : ℕ) → eqb e 1 ≡ false → badRecord e z s a from ≡ badRecord 3 z s a from
   unfolding badRecord badParam
   record-later e z a from q = rw (some-same (badParam e z s a) (badParam 3 z s a) (λ j. rw q refl) 8)
 
-  functions-later : (e : ℕ) (zs : List ℕ) → eqb e 1 ≡ false → badTable (structureCount zs) s code n ≡ badFunctions (bodies e s zs code n)
+  functions-later : (e : ℕ) (zs : List ℕ) → eqb e 1 ≡ false → badTable e (structureCount zs) s code n ≡ badFunctions (bodies e s zs code n)
   unfolding badTable badFunctions badFunction
   functions-later e zs q =
       rw (
-        end-same e zs (functionCount s),
-        some-same (badFunction (bodies e s zs code n)) (λ i. badRecord 3 (structureCount zs) s (functionAt i) (endBefore (bodies 3 s [] code n) i))
-            (λ i. record-later e (structureCount zs) (functionAt i) (endBefore (bodies e s zs code n) i) q ∙ ap (badRecord 3 (structureCount zs) s (functionAt i)) (end-same e zs i)) (functionCount s),
+        end-same e zs (functionCount e s),
+        some-same (badFunction (bodies e s zs code n)) (λ i. badRecord 3 (structureCount zs) s (functionAt e i) (endBefore (bodies e s [] code n) i))
+            (λ i. record-later e (structureCount zs) (functionAt e i) (endBefore (bodies e s zs code n) i) q ∙ ap (badRecord 3 (structureCount zs) s (functionAt e i)) (end-same e zs i)) (functionCount e s),
       )
 
-  pub functions-third : (e : ℕ) (zs : List ℕ) (z : ℕ) → (e ≡ 1 → ⊥) → z ≡ structureCount zs → (b : Bool) → b ≡ badTable z s code n → b ≡ badFunctions (bodies e s zs code n)
-  functions-third e zs z other q b p = p ∙ ap (λ (x : ℕ). badTable x s code n) q ∙ functions-later e zs (ne-eqb e 1 other)
+  pub functions-third : (e : ℕ) (zs : List ℕ) (z : ℕ) → (e ≡ 1 → ⊥) → z ≡ structureCount zs → (b : Bool) → b ≡ badTable e z s code n → b ≡ badFunctions (bodies e s zs code n)
+  functions-third e zs z other q b p = p ∙ ap (λ (x : ℕ). badTable e x s code n) q ∙ functions-later e zs (ne-eqb e 1 other)
 
   params-first : (a : ℕ) → some-below 8 (badParam 1 0 s a) ≡ (some-below 8 (badParam 3 0 s a) || some-below 8 (highParam s a))
   unfolding badParam
@@ -97,16 +97,16 @@ module _ (s code : List ℕ) (n : ℕ) where
       last false false false x y = sym (or-false (x || y))
 
   function-first : (zs : List ℕ) → structureCount zs ≡ 0 → (i : ℕ)
-      → badFunction (bodies 1 s zs code n) i ≡ (badRecord 3 0 s (functionAt i) (endBefore (bodies 3 s [] code n) i) || some-below 8 (highParam s (functionAt i)))
+      → badFunction (bodies 1 s zs code n) i ≡ (badRecord 3 0 s (functionAt 1 i) (endBefore (bodies 1 s [] code n) i) || some-below 8 (highParam s (functionAt 1 i)))
   unfolding badFunction
-  function-first zs none i = rw (end-same 1 zs i, none) (record-first (functionAt i) (endBefore (bodies 3 s [] code n) i))
+  function-first zs none i = rw (end-same 1 zs i, none) (record-first (functionAt 1 i) (endBefore (bodies 1 s [] code n) i))
 
-  functions-first : (zs : List ℕ) → structureCount zs ≡ 0 → badFunctions (bodies 1 s zs code n) ≡ (badTable 0 s code n || highParams s)
+  functions-first : (zs : List ℕ) → structureCount zs ≡ 0 → badFunctions (bodies 1 s zs code n) ≡ (badTable 1 0 s code n || highParams s)
   unfolding badFunctions badTable highParams
   functions-first zs none =
-      let third : ℕ → Bool = λ i. badRecord 3 0 s (functionAt i) (endBefore (bodies 3 s [] code n) i) in
-      rw (split-off (badFunction (bodies 1 s zs code n)) third (λ i. some-below 8 (highParam s (functionAt i))) (function-first zs none) (functionCount s), end-same 1 zs (functionCount s))
-      (swap (some-below (functionCount s) third) (highParams s) (differs (endBefore (bodies 3 s [] code n) (functionCount s)) (length code)))
+      let third : ℕ → Bool = λ i. badRecord 3 0 s (functionAt 1 i) (endBefore (bodies 1 s [] code n) i) in
+      rw (split-off (badFunction (bodies 1 s zs code n)) third (λ i. some-below 8 (highParam s (functionAt 1 i))) (function-first zs none) (functionCount 1 s), end-same 1 zs (functionCount 1 s))
+      (swap (some-below (functionCount 1 s) third) (highParams s) (differs (endBefore (bodies 1 s [] code n) (functionCount 1 s)) (length code)))
     where
       swap : (a h d : Bool) → ((a || h) || d) ≡ ((a || d) || h)
       swap true h d = refl
@@ -114,9 +114,9 @@ module _ (s code : List ℕ) (n : ℕ) where
       swap false true false = refl
       swap false false d = sym (or-false d)
 
-  pub functions-old : (e : ℕ) (zs : List ℕ) (z : ℕ) → e ≡ 1 → z ≡ structureCount zs → structureCount zs ≤ structureLimit e → (b h : Bool) → b ≡ badTable z s code n → h ≡ highParams s → (b || h) ≡ badFunctions (bodies e s zs code n)
+  pub functions-old : (e : ℕ) (zs : List ℕ) (z : ℕ) → e ≡ 1 → z ≡ structureCount zs → structureCount zs ≤ structureLimit e → (b h : Bool) → b ≡ badTable e z s code n → h ≡ highParams s → (b || h) ≡ badFunctions (bodies e s zs code n)
   functions-old e zs z q m l b h p r =
       let l1 : structureCount zs ≤ 0 = rw q at l in
       let none : structureCount zs ≡ 0 = omega arith in
       let o : z ≡ 0 = m ∙ none in
-      rw (q, p, o, r) (sym (functions-first zs none))
+      rw (p, q, o, r) (sym (functions-first zs none))

@@ -115,6 +115,7 @@ packed-of s h =
       code-is = refl;
       pool-is = refl;
       structures-is = refl;
+      stride-is = refl;
       few-constants = ltb-false _ _ (l1 .0);
       few-functions = ltb-false _ _ (l1 .1);
       few-labels = ltb-false _ _ (l2 .1);

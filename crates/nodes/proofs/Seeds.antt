@@ -11,7 +11,7 @@ use lib.Dec.{eqb, ltb}
 use Rattle.rules.specs.Bytes.{byte}
 use Rattle.rules.specs.Instructions.{Ty, tyOf}
 use Rattle.rules.specs.Tables.{functionCount, functionAt, functionOf, Body, fn, bodyOf, bodyStart, paramsFrom, moduleOf}
-use Rattle.rules.specs.ModuleFile.{refusal, functions, read, bodiesIn, functionsIn}
+use Rattle.rules.specs.ModuleFile.{edition, refusal, functions, read, bodiesIn, functionsIn}
 use Rattle.rules.specs.Typing.{startOf}
 use Rattle.format.specs.declared.Sections.{Sections}
 use Rattle.format.specs.Layout.{Packed}
@@ -106,7 +106,7 @@ module _ (st : List ℕ) (l : length st ≡ 64) where
 
   module _ (s : List ℕ) (c : Sections) (p : Packed s c) (r : refusal s ≡ 0) (owner : ℕ) (has : Has (bodiesIn s) (bodyOf owner)) (other : owner ≡ 0xffffffff → ⊥) where
     abbrev at : ℕ
-    at = c .records + 20 * owner
+    at = c .records + c .stride * owner
 
     abbrev counted : List ℕ
     counted = set first 1 (getD s (at + 8) 0)
@@ -114,7 +114,7 @@ module _ (st : List ℕ) (l : length st ≡ 64) where
     abbrev fs : List ℕ
     fs = functionsIn s
 
-    numbered : owner < functionCount fs
+    numbered : owner < functionCount (edition s) fs
     numbered = function-there s c p owner has other
 
     named : owner < c .functions
@@ -123,8 +123,8 @@ module _ (st : List ℕ) (l : length st ≡ 64) where
     abbrev count : ℕ
     count = byte s (at + 8)
 
-    param-count : byte fs (functionAt owner + 8) ≡ count
-    param-count = function-byte s c p owner 8 named (omega arith)
+    param-count : byte fs (functionAt (edition s) owner + 8) ≡ count
+    param-count = sym (ap (λ (n : ℕ). byte fs (n * owner + 8)) (p .stride-is)) ∙ function-byte s c p owner 8 named (omega arith)
 
     few : count ≤ 8
     few = subst (λ (n : ℕ). n ≤ 8) param-count (few-parameters (bodiesIn s) (functions-good s r) owner numbered)
@@ -136,9 +136,10 @@ module _ (st : List ℕ) (l : length st ≡ 64) where
     counted-else j n = getD-set-other first 1 j count 0 n
 
     module _ (st′ : List ℕ) (d : Copied s (at + 10) 8 counted st′) where
-      locals-at : (j : ℕ) → j < 8 → byte st′ (16 + j) ≡ byte fs (functionAt owner + 10 + j)
+      locals-at : (j : ℕ) → j < 8 → byte st′ (16 + j) ≡ byte fs (functionAt (edition s) owner + 10 + j)
       locals-at j h =
-          let q : functionAt owner + 10 + j ≡ 20 * owner + (10 + j) = omega arith in
+          let a : functionAt (edition s) owner ≡ c .stride * owner = ap (λ (n : ℕ). n * owner) (sym (p .stride-is)) in
+          let q : functionAt (edition s) owner + 10 + j ≡ c .stride * owner + (10 + j) = omega arith in
           let z : at + (10 + j) ≡ at + 10 + j = omega arith in
           d .copied j h ∙ sym (ap (byte fs) q ∙ function-byte s c p owner (10 + j) named (omega arith) ∙ ap (byte s) z)
 
@@ -159,7 +160,7 @@ module _ (st : List ℕ) (l : length st ≡ 64) where
           let u : byte st′ 1 ≡ count = locals-count in
           let v : byte st′ 2 ≡ 0 = operands-count in
           let w : count ≤ 8 = few in
-          let x : byte fs (functionAt owner + 8) ≡ count = param-count in
+          let x : byte fs (functionAt (edition s) owner + 8) ≡ count = param-count in
           record {
             long = d .long ∙ length-set first 1 count ∙ given-long;
             given = kept 0 (omega arith) (λ z. omega arith) ∙ given-at;
@@ -174,16 +175,16 @@ module _ (st : List ℕ) (l : length st ≡ 64) where
             operand-rest = λ i h k. behind (32 + i) (omega arith);
           }
 
-      function-starts : startOf (read s) (fn owner) ≡ some (bodyStart (bodiesIn s) (fn owner), paramsFrom fs (functionAt owner + 10) (byte fs (functionAt owner + 8)))
+      function-starts : startOf (read s) (fn owner) ≡ some (bodyStart (bodiesIn s) (fn owner), paramsFrom fs (functionAt (edition s) owner + 10) (byte fs (functionAt (edition s) owner + 8)))
       unfolding moduleOf functionOf
-      function-starts = rw (ltb-yes owner (functionCount fs) numbered) refl
+      function-starts = rw (ltb-yes owner (functionCount (edition s) fs) numbered) refl
 
-      locals-are : paramsFrom fs (functionAt owner + 10) (byte fs (functionAt owner + 8)) ≡ listsOf st′ .locals
+      locals-are : paramsFrom fs (functionAt (edition s) owner + 10) (byte fs (functionAt (edition s) owner + 8)) ≡ listsOf st′ .locals
       locals-are =
-          let u : byte fs (functionAt owner + 8) ≡ byte st′ 1 = param-count ∙ sym locals-count in
+          let u : byte fs (functionAt (edition s) owner + 8) ≡ byte st′ 1 = param-count ∙ sym locals-count in
           let w : count ≤ 8 = few in
-          let x : byte fs (functionAt owner + 8) ≡ count = param-count in
-          types-from fs st′ (functionAt owner + 10) 16 (byte fs (functionAt owner + 8)) (λ i h. sym (locals-at i (omega arith)))
+          let x : byte fs (functionAt (edition s) owner + 8) ≡ count = param-count in
+          types-from fs st′ (functionAt (edition s) owner + 10) 16 (byte fs (functionAt (edition s) owner + 8)) (λ i h. sym (locals-at i (omega arith)))
           ∙ ap (λ (n : ℕ). paramsFrom st′ 16 n) u
 
       pub seeded-function : Seeded s (bodyOf owner) st′
@@ -211,7 +212,7 @@ module _ (st z : List ℕ) (l : length st ≡ 64) (zeroed : z ≡ paste st 0 (re
   seed-entry s owner e = subst (λ (x : List ℕ). Seeded s (bodyOf owner) (set x 0 1)) (sym zeroed) (seeded-entry st l s owner e)
 
   pub seed-function : (s : List ℕ) (c : Sections) → Packed s c → refusal s ≡ 0 → (owner : ℕ) → Has (bodiesIn s) (bodyOf owner) → (owner ≡ 0xffffffff → ⊥) → (st′ : List ℕ)
-      → Copied s (c .records + 20 * owner + 10) 8 (set (set z 0 1) 1 (getD s (c .records + 20 * owner + 8) 0)) st′ → Seeded s (bodyOf owner) st′
+      → Copied s (c .records + c .stride * owner + 10) 8 (set (set z 0 1) 1 (getD s (c .records + c .stride * owner + 8) 0)) st′ → Seeded s (bodyOf owner) st′
   seed-function s c p r owner has other st′ d =
       seeded-function st l s c p r owner has other st′
-      (subst (λ (x : List ℕ). Copied s (c .records + 20 * owner + 10) 8 (set (set x 0 1) 1 (getD s (c .records + 20 * owner + 8) 0)) st′) zeroed d)
+      (subst (λ (x : List ℕ). Copied s (c .records + c .stride * owner + 10) 8 (set (set x 0 1) 1 (getD s (c .records + c .stride * owner + 8) 0)) st′) zeroed d)

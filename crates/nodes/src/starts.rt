@@ -32,7 +32,7 @@ pub fn seed(file: &[u8], c: Sections, owner: usize, st: &mut [u8])
     if owner == 0xffff_ffff {
         return;
     }
-    let at = c.records + 20 * owner;
+    let at = c.records + c.stride * owner;
     st[1] = file[at + 8];
     copy_params(file, at + 10, st);
 }
@@ -45,7 +45,7 @@ pub fn start(file: &[u8], c: Sections, owner: usize) -> usize
     if owner == 0xffff_ffff {
         return 0;
     }
-    let at = c.records + 20 * owner;
+    let at = c.records + c.stride * owner;
     format::word(file, at)
 }
 
@@ -57,7 +57,7 @@ pub fn end(file: &[u8], c: Sections, owner: usize) -> usize
     if owner == 0xffff_ffff {
         return c.entry;
     }
-    let at = c.records + 20 * owner;
+    let at = c.records + c.stride * owner;
     let start = format::word(file, at);
     let length = format::word(file, at + 4);
     start + length

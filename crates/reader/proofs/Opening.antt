@@ -8,7 +8,7 @@ use lib.Dec.{eqb, ltb}
 use lib.ListN.{length, take, drop}
 use borrow.Author.Tests.{lt-ltb, ne-eqb, ltb-false}
 use Rattle.rules.specs.Bytes.{some-below}
-use Rattle.rules.specs.Tables.{Bodies, bodies, Tables, headerSize, labelCount, structureCount, firstOf, contentTests, badConstants, badStructures, badFunctions, badCode, badLabels}
+use Rattle.rules.specs.Tables.{functionSize, Bodies, bodies, Tables, headerSize, labelCount, structureCount, firstOf, contentTests, badConstants, badStructures, badFunctions, badCode, badLabels}
 use Rattle.rules.specs.ModuleFile.{edition, constantsAt, structures, structuresIn, refusal, tablesIn}
 use Rattle.format.specs.declared.Sections.{Sections}
 use Rattle.format.specs.Layout.{sectionsOf, headerTests, Packed, badTable}
@@ -53,8 +53,8 @@ too-short s l = refused-first s 1 (simp (lt-ltb (length s) (headerSize (edition 
     below true = omega arith
     below false = l
 
-pub old-header : (s : List ℕ) → (edition s ≡ 4 → ⊥) → (48 ≡ constantsAt s) × (0 ≡ structures s)
-old-header s other = let q = ne-eqb (edition s) 4 other in (simp q, simp q)
+pub old-header : (s : List ℕ) → (edition s ≡ 4 → ⊥) → (48 ≡ constantsAt s) × (0 ≡ structures s) × (20 ≡ functionSize (edition s))
+old-header s other = let q = ne-eqb (edition s) 4 other in (simp q, simp q, simp q)
 
 pub fourth-header : (s : List ℕ) → edition s ≡ 4 → Header s → 56 ≤ length s
 fourth-header s e h = let l : ltb (length s) 56 ≡ false = rw e at (h .long) in ltb-false (length s) 56 l
@@ -162,7 +162,7 @@ module _ (s : List ℕ) (c : Sections) (k : Packed s c) (third : edition s ≡ 3
   other : edition s ≡ 4 → ⊥
   other q = let z : _≡_ {A = ℕ} 3 4 = sym third ∙ q in absurd (omega arith)
 
-  pub functions-lent : (b : Bool) → b ≡ badTable 0 functionsLent codeLent (c .entry) → b ≡ badFunctions (bodies 3 functionsLent (structuresIn s) codeLent (c .entry))
+  pub functions-lent : (b : Bool) → b ≡ badTable 3 0 functionsLent codeLent (c .entry) → b ≡ badFunctions (bodies 3 functionsLent (structuresIn s) codeLent (c .entry))
   functions-lent b p =
       functions-third functionsLent codeLent (c .entry) 3 (structuresIn s) 0 (λ z. absurd (omega arith)) (sym (none-declared s c k other)) b p
 

@@ -7,8 +7,8 @@ use mathlib.Core.Option.{Option, none, some}
 use Rattle.rules.specs.Bytes.{byte}
 use Rattle.rules.specs.declared.Slot.{Slot}
 use Rattle.rules.specs.Instructions.{tyOf}
-use Rattle.rules.specs.Tables.{Bodies, badStructures, badFunctions, badCode, badLabels, Function, Body, bodyOf, paramsFrom, resultOf, functionAt, functionOf}
-use Rattle.rules.specs.ModuleFile.{refusal}
+use Rattle.rules.specs.Tables.{Bodies, badStructures, badFunctions, badCode, badLabels, Function, Body, bodyOf, paramsFrom, resultOf, functionAt, profileAt, functionOf}
+use Rattle.rules.specs.ModuleFile.{edition, functionsIn, refusal}
 use Rattle.rules.specs.Stack.{at}
 use Rattle.format.specs.declared.Sections.{Sections}
 use Rattle.format.specs.Layout.{sectionsOf}
@@ -47,16 +47,23 @@ abbrev pub slotIn : FoundConstant → Option Slot
 slotIn (FoundConstant.Constant v) = some v
 slotIn FoundConstant.Nothing = none
 
--- a function record of the table s, at byte a
-abbrev pub functionIn : List ℕ → ℕ → FoundFunction → Option Function
-functionIn s a (FoundFunction.Record f) =
-    some (record { start = f .start; end = f .end; params = paramsFrom s (a + 10) (f .params); result = resultOf (f .result) })
-functionIn s a FoundFunction.Nothing = none
+-- a function record of the table s of edition e, at byte a; parameters and profile are not read
+abbrev pub functionIn : ℕ → List ℕ → ℕ → FoundFunction → Option Function
+functionIn e s a (FoundFunction.Record f) =
+    some (record { start = f .start; end = f .end; params = paramsFrom s (a + 10) (f .params); result = resultOf (f .result); profile = profileAt e s a })
+functionIn e s a FoundFunction.Nothing = none
 
--- r is the type byte of parameter j of function k, of the table s
+-- function k of the file s
+abbrev pub functionFound : List ℕ → ℕ → FoundFunction → Option Function
+functionFound s k = functionIn (edition s) (functionsIn s) (functionAt (edition s) k)
+
+-- r is the type byte of parameter j of the function at byte a of the table s of edition e
+abbrev pub ParamAt : ℕ → List ℕ → ℕ → ℕ → ℕ → Type 0
+ParamAt e s a j r = (r ≡ byte s (a + 10 + j)) × (j < byte s (a + 8) → at (functionOf e s a .params) j ≡ some (tyOf r))
+
+-- of function k of the file s
 abbrev pub ParamIs : List ℕ → ℕ → ℕ → ℕ → Type 0
-ParamIs s k j r =
-    (r ≡ byte s (functionAt k + 10 + j)) × (j < byte s (functionAt k + 8) → at (functionOf s (functionAt k) .params) j ≡ some (tyOf r))
+ParamIs s k = ParamAt (edition s) (functionsIn s) (functionAt (edition s) k)
 
 abbrev pub labelIn : FoundLabel → Option (Body × ℕ)
 labelIn (FoundLabel.Record l) = some (bodyOf (l .owner), l .place)

@@ -72,11 +72,12 @@ abbrev pub Walked : Bool → ℕ → List ℕ → ℕ → List ℕ → Type 0
 Walked true e s p t = Cut e s p t
 Walked false e s p t = Fails e s p
 
--- what rows 4, 5 and 7 leave of function records and code: the bodies follow one another and fill the code
-pub record Filled (fs code : List ℕ) (entry : ℕ) : Type 0 where
-  pub fits : Fits fs code entry
-  pub in-order : (i : ℕ) → i < functionCount fs → word 4 fs (functionAt i) ≡ endBefore (bodies 3 fs [] code entry) i
-  pub fills : endBefore (bodies 3 fs [] code entry) (functionCount fs) ≡ length code
+-- what rows 4, 5 and 7 leave of an edition's n function records and of code: the bodies follow one another and fill the code
+pub record Filled (e n : ℕ) (fs code : List ℕ) (entry : ℕ) : Type 0 where
+  pub counted : n ≡ functionCount e fs
+  pub fits : Fits e fs code entry
+  pub in-order : (i : ℕ) → i < functionCount e fs → word 4 fs (functionAt e i) ≡ endBefore (bodies e fs [] code entry) i
+  pub fills : endBefore (bodies e fs [] code entry) (functionCount e fs) ≡ length code
 
 -- ---- the table of starts
 

@@ -106,21 +106,22 @@ fn walk_body(edition: usize, code: &[u8], from: usize, to: usize, starts: &mut [
     p == to
 }
 
-// Row 8. A blank table gets a mark at each place that begins an instruction, and at no other.
+// Row 8, of n functions. A blank table gets a mark at each place that begins an instruction, and at no other.
 pub(crate) fn bad_code(
     edition: usize,
+    n: usize,
     functions: &[u8],
     code: &[u8],
     entry: usize,
     starts: &mut [u8],
 ) -> bool
-    requires { ⌜ Filled (now functions) (now code) entry × (unknownEdition edition ≡ false) ⌝ }
+    requires { ⌜ Filled edition n (now functions) (now code) entry × (unknownEdition edition ≡ false) ⌝ }
     requires { ⌜ Blank (now starts) ⌝ }
     ensures { λ r. ⌜ length (now (starts .exit)) ≡ length (now (starts .entry)) ⌝ }
     ensures { λ r. ⌜ r ≡ badCode (bodies edition (now (functions .entry)) [] (now (code .entry)) entry) ⌝ }
     ensures { λ r. ⌜ (r ≡ false → StartsExactly edition (now (code .entry)) (now (starts .exit))) ⌝ }
 {
-    let n = functions.len() / 20;
+    let size = format::function_size(edition);
     let mut from = 0;
     let mut end = entry;
     let mut i = 0;
@@ -132,7 +133,7 @@ pub(crate) fn bad_code(
         if i == n {
             return false;
         }
-        let at = 20 * i;
+        let at = size * i;
         from = end;
         end += format::word(functions, at + 4);
         i += 1;

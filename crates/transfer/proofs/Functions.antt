@@ -13,15 +13,15 @@ use Rattle.rules.specs.Bytes.{byte, maybe}
 use Rattle.rules.specs.declared.Instruction.the-variants.{Call, Ret}
 use Rattle.rules.specs.Instructions.{void, Ty, ptr, tyOf, typeByte, eqTy}
 use Rattle.rules.specs.Tables.{functionCount, structureCount, Body, entry, fn, bodyOf, Function, functionAt, functionOf, paramsFrom, resultOf, moduleOf}
-use Rattle.rules.specs.ModuleFile.{read, refusal, bodiesIn, tablesIn, functionsIn, structuresIn}
+use Rattle.rules.specs.ModuleFile.{edition, read, refusal, bodiesIn, tablesIn, functionsIn, structuresIn}
 use Rattle.rules.specs.Machine.{own}
 use Rattle.rules.specs.Typing.{Flow, judge, to, withResult}
 use Rattle.format.specs.declared.Sections.{Sections}
 use Rattle.format.specs.Layout.{Packed}
 use Rattle.reader.specs.declared.entries.FunctionRecord.{FunctionRecord}
 use Rattle.reader.specs.declared.entries.FoundFunction.the-variants.{Record}
-use Rattle.reader.specs.Answers.{functionIn}
-use Rattle.reader.proofs.Records.{functions-length}
+use Rattle.reader.specs.Answers.{functionFound}
+use Rattle.reader.proofs.Records.{function-count}
 use Rattle.soundness.specs.Readable.{orderly, params-length, parameter-type, ResultByte, result-type, byte-back}
 use Rattle.soundness.specs.Cutting.{good-file, functions-good}
 use Rattle.soundness.specs.Tests.{decide, none-some, some-inj}
@@ -36,33 +36,33 @@ use Rattle.transfer.proofs.Operands.{no-operand, top-type, top-operand}
 
 -- ---- the function of a record
 
-module _ (s : List ℕ) (e : refusal s ≡ 0) (k : ℕ) (g : FunctionRecord) (is : functionIn (functionsIn s) (functionAt k) (Record g) ≡ read s .function k) where
+module _ (s : List ℕ) (e : refusal s ≡ 0) (k : ℕ) (g : FunctionRecord) (is : functionFound s k (Record g) ≡ read s .function k) where
   pub function-few : g .params ≤ 8
   function-few =
-      let f : length (paramsFrom (functionsIn s) (functionAt k + 10) (g .params)) ≤ 8 = orderly (tablesIn s) (good-file s e) .few-params k _ (sym is) in
-      omega (arith, params-length (functionsIn s) (functionAt k + 10) (g .params))
+      let f : length (paramsFrom (functionsIn s) (functionAt (edition s) k + 10) (g .params)) ≤ 8 = orderly (tablesIn s) (good-file s e) .few-params k _ (sym is) in
+      omega (arith, params-length (functionsIn s) (functionAt (edition s) k + 10) (g .params))
 
-  function-there : k < functionCount (functionsIn s)
+  function-there : k < functionCount (edition s) (functionsIn s)
   unfolding moduleOf
-  function-there = decide (ltb k (functionCount (functionsIn s))) (λ y. ltb-true k (functionCount (functionsIn s)) y) (λ y. none-some (sym (rw y at is)))
+  function-there = decide (ltb k (functionCount (edition s) (functionsIn s))) (λ y. ltb-true k (functionCount (edition s) (functionsIn s)) y) (λ y. none-some (sym (rw y at is)))
 
   pub function-number : (c : Sections) → Packed s c → k < c .functions
-  function-number c packed = omega (arith, function-there, functions-length s c packed)
+  function-number c packed = omega (arith, function-there, function-count s c packed)
 
-  function-same : functionIn (functionsIn s) (functionAt k) (Record g) ≡ some (functionOf (functionsIn s) (functionAt k))
+  function-same : functionFound s k (Record g) ≡ some (functionOf (edition s) (functionsIn s) (functionAt (edition s) k))
   unfolding moduleOf
-  function-same = rw (lt-ltb k (functionCount (functionsIn s)) function-there) at is
+  function-same = rw (lt-ltb k (functionCount (edition s) (functionsIn s)) function-there) at is
 
-  count : g .params ≡ byte (functionsIn s) (functionAt k + 8)
+  count : g .params ≡ byte (functionsIn s) (functionAt (edition s) k + 8)
   unfolding functionOf
   count =
-      let a : ℕ = functionAt k in
+      let a : ℕ = functionAt (edition s) k in
       let fs : List ℕ = functionsIn s in
       let u : length (paramsFrom fs (a + 10) (g .params)) ≡ length (paramsFrom fs (a + 10) (byte fs (a + 8))) =
       ap (λ (o : Option Function). maybe o 0 (λ F. length (F .params))) function-same in
       omega (arith, params-length fs (a + 10) (g .params), params-length fs (a + 10) (byte fs (a + 8)))
 
-  pub param-type : (j : ℕ) → j < g .params → IsType (byte (functionsIn s) (functionAt k + 10 + j))
+  pub param-type : (j : ℕ) → j < g .params → IsType (byte (functionsIn s) (functionAt (edition s) k + 10 + j))
   param-type j l = parameter-type (bodiesIn s) (functions-good s e) k j function-there (omega (arith, count))
 
   -- the result's type, where there is one: no function returns `null`'s
@@ -71,7 +71,7 @@ module _ (s : List ℕ) (e : refusal s ≡ 0) (k : ℕ) (g : FunctionRecord) (is
   return-type valued = type-back (g .result) (λ v. go v (result-type (bodiesIn s) (functions-good s e) k function-there))
     where
       b : ℕ
-      b = byte (functionsIn s) (functionAt k + 9)
+      b = byte (functionsIn s) (functionAt (edition s) k + 9)
 
       same : some (tyOf (g .result)) ≡ resultOf b
       same =
@@ -95,9 +95,9 @@ module _ (s : List ℕ) (b : Body) (k q : ℕ) (r : List ℕ) where
   pub call-nowhere : Holds r → read s .function k ≡ none → Judges (read s) b (Call k) q r Breaks r
   call-nowhere h e = breaks (read s) b q _ r h (rw e refl)
 
-  module _ (g : FunctionRecord) (is : functionIn (functionsIn s) (functionAt k) (Record g) ≡ read s .function k) (r′ : List ℕ) where
+  module _ (g : FunctionRecord) (is : functionFound s k (Record g) ≡ read s .function k) (r′ : List ℕ) where
     abbrev params : List Ty
-    params = paramsFrom (functionsIn s) (functionAt k + 10) (g .params)
+    params = paramsFrom (functionsIn s) (functionAt (edition s) k + 10) (g .params)
 
     pub call-other : (ok : Bool) → Stripped params r ok r′ → ok ≡ false → Judges (read s) b (Call k) q r Breaks r′
     call-other ok t e = breaks (read s) b q _ r′ (t .holds) (rw (← is) (t .strips _ ∙ rw e refl))
@@ -124,14 +124,14 @@ unfolding moduleOf
 own-is s c packed o = go (eqb o 0xffffffff) refl
   where
     go : (x : Bool) → eqb o 0xffffffff ≡ x → own (read s) (cond x entry (fn o)) ≡ read s .function o
-    go true e = let q : o ≡ 0xffffffff = eqb-true o 0xffffffff e in rw (le-ltb o (functionCount (functionsIn s)) (omega (arith, functions-length s c packed, packed .few-functions))) refl
+    go true e = let q : o ≡ 0xffffffff = eqb-true o 0xffffffff e in rw (le-ltb o (functionCount (edition s) (functionsIn s)) (omega (arith, function-count s c packed, packed .few-functions))) refl
     go false e = refl
 
 module _ (s : List ℕ) (c : Sections) (packed : Packed s c) (o q : ℕ) (r : List ℕ) (h : Holds r) where
   pub ret-nowhere : read s .function o ≡ none → Judges (read s) (bodyOf o) Ret q r Breaks r
   ret-nowhere e = breaks (read s) (bodyOf o) q _ r h (rw (own-is s c packed o, e) refl)
 
-  module _ (g : FunctionRecord) (is : functionIn (functionsIn s) (functionAt o) (Record g) ≡ read s .function o) where
+  module _ (g : FunctionRecord) (is : functionFound s o (Record g) ≡ read s .function o) where
     pub ret-bare : g .result ≡ 0 → Judges (read s) (bodyOf o) Ret q r Stops r
     ret-bare z = stops (read s) (bodyOf o) q _ r h (rw (own-is s c packed o, ← is, z) refl)
 

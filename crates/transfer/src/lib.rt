@@ -113,9 +113,9 @@ fn branch(file: &[u8], c: Sections, owner: usize, k: u32, q: usize, st: &mut [u8
 // Takes the arguments of function k, which has n parameters, from the operands. Answers whether they have its types.
 fn take_arguments(file: &[u8], c: Sections, k: usize, n: usize, st: &mut [u8]) -> bool
     requires { ⌜ Packed (now file) c × (k < c .functions) × (n ≤ 8) ⌝ }
-    requires { ⌜ ((j : ℕ) → j < n → IsType (byte (functionsIn (now file)) (functionAt k + 10 + j))) ⌝ }
+    requires { ⌜ ((j : ℕ) → j < n → IsType (byte (functionsIn (now file)) (functionAt (edition (now file)) k + 10 + j))) ⌝ }
     requires { ⌜ Holds (now st) ⌝ }
-    ensures { λ r. ⌜ Stripped (paramsFrom (functionsIn (now (file .entry))) (functionAt k + 10) n) (now (st .entry)) r (now (st .exit)) ⌝ }
+    ensures { λ r. ⌜ Stripped (paramsFrom (functionsIn (now (file .entry))) (functionAt (edition (now (file .entry))) k + 10) n) (now (st .entry)) r (now (st .exit)) ⌝ }
 {
     let mut j = n;
     while 0 < j {

@@ -12,9 +12,8 @@ use types.Kit.{Given}
 use denote.RattleType.{RattleType}
 use denote.Laws.{Is}
 use denote.Enum.Laws as EL
-use Rattle.rules.specs.Tables.{functionAt}
-use Rattle.rules.specs.ModuleFile.{functionsIn, read}
-use Rattle.reader.specs.Answers.{slotIn, functionIn, labelIn}
+use Rattle.rules.specs.ModuleFile.{read}
+use Rattle.reader.specs.Answers.{functionFound, slotIn, labelIn}
 use Rattle.reader.proofs.entries.FoundConstant as FoundConstant
 use Rattle.reader.proofs.entries.FoundConstant.Laws as FoundConstant′
 use Rattle.reader.proofs.entries.FoundFunction as FoundFunction
@@ -49,7 +48,7 @@ functions = record {
   row = FoundFunction.the-row;
   mir = FoundFunction′.mir;
   typed = λ 𝓤 H A W r u is. EL.lawful FoundFunction.the-type FoundFunction′.the-laws 𝓤 H A W tt .typed r (u ∷ []) is .0;
-  promise = λ s k r. functionIn (functionsIn s) (functionAt k) r ≡ read s .function k;
+  promise = λ s k r. functionFound s k r ≡ read s .function k;
 }
 
 abbrev pub labels : Answer

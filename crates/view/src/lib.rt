@@ -1,9 +1,8 @@
 // An opened module: a view of the lent file and its counts.
 ghost use mathlib.Core.Path.{_≡_};
-ghost use Rattle.rules.specs.Tables.{functionAt};
-ghost use Rattle.rules.specs.ModuleFile.{functionsIn, read};
+ghost use Rattle.rules.specs.ModuleFile.{read};
 ghost use Rattle.format.specs.Layout.{Packed};
-ghost use Rattle.reader.specs.Answers.{slotIn, functionIn, labelIn};
+ghost use Rattle.reader.specs.Answers.{slotIn, functionFound, labelIn};
 use format::Sections;
 use reader::entries::FoundConstant;
 use reader::entries::FoundFunction;
@@ -36,7 +35,7 @@ impl<'a> Module<'a> {
     // Function k.
     pub fn function(self, k: usize) -> FoundFunction
         requires { ⌜ Packed (now (self .bytes)) (self .counts) ⌝ }
-        ensures { λ r. ⌜ functionIn (functionsIn (now (self .entry .bytes))) (functionAt k) r ≡ read (now (self .entry .bytes)) .function k ⌝ }
+        ensures { λ r. ⌜ functionFound (now (self .entry .bytes)) k r ≡ read (now (self .entry .bytes)) .function k ⌝ }
     {
         reader::entries::function(self.bytes, self.counts, k)
     }
@@ -60,7 +59,7 @@ pub fn constant(file: &[u8], c: Sections, k: usize) -> FoundConstant
 
 pub fn function(file: &[u8], c: Sections, k: usize) -> FoundFunction
     requires { ⌜ Packed (now file) c ⌝ }
-    ensures { λ r. ⌜ functionIn (functionsIn (now (file .entry))) (functionAt k) r ≡ read (now (file .entry)) .function k ⌝ }
+    ensures { λ r. ⌜ functionFound (now (file .entry)) k r ≡ read (now (file .entry)) .function k ⌝ }
 {
     Module::function(Module::of(file, c), k)
 }

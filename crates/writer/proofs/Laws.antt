@@ -12,7 +12,7 @@ use lib.Seq.{take-at, take-all, drop-at, drop-drop, length-take-le}
 use borrow.Rule.Slice.PartMut.{putMid}
 use Rattle.rules.specs.Bytes.{bytes, words, written}
 use Rattle.rules.specs.declared.WriteAnswer.the-variants.{Unwritten, Written}
-use Rattle.rules.specs.Tables.{Tables, constantCount, functionCount, labelCount, structureCount, structureLimit, headerSize, differs, overLimits}
+use Rattle.rules.specs.Tables.{Tables, functionSize, constantCount, functionCount, labelCount, structureCount, structureLimit, headerSize, differs, overLimits}
 use Rattle.rules.specs.Writing.{headerWords, fileLength, fileOf, tableRefusal, wrote, writeWith, write}
 use Rattle.format.specs.Layout.{Fits}
 use Rattle.soundness.specs.Tests.{decide, or-neither}
@@ -63,27 +63,30 @@ six-pairs s s₁ s₂ s₃ s₄ s₅ s₆ a₁ b₁ a₂ b₂ a₃ b₃ a₄ b�
     ∙ ap (λ (x : List ℕ). written 4 (written 4 x 16 a₃) 20 b₃) (e₂
     ∙ ap (λ (x : List ℕ). written 4 (written 4 x 8 a₂) 12 b₂) e₁))))
 
-module _ (s : List ℕ) (e c f l n z entry : ℕ) where
+-- m is the count of functions
+module _ (s : List ℕ) (e c f l n z entry m : ℕ) (counted : m ≡ f / functionSize e) where
   -- the words of every edition
-  abbrev pub twelve : ℕ → List ℕ
-  twelve h =
-      e ∷ (h + c + f + l + n + z) ∷ (c / 12) ∷ h ∷ (f / 20) ∷ (h + c) ∷ (l / 8) ∷ (h + c + f) ∷ n ∷ (h + c + f + l) ∷ entry ∷ 0 ∷ []
+  abbrev pub twelve : ℕ → ℕ → List ℕ
+  twelve k h =
+      e ∷ (h + c + f + l + n + z) ∷ (c / 12) ∷ h ∷ k ∷ (h + c) ∷ (l / 8) ∷ (h + c + f) ∷ n ∷ (h + c + f + l) ∷ entry ∷ 0 ∷ []
 
   -- a header of another edition than 4, and one of edition 4, which has a seventh pair
-  pub header-plain : (e ≡ 4 → ⊥) → length s ≡ headerSize e → (s₆ : List ℕ) → s₆ ≡ stored s 0 (twelve (length s)) → s₆ ≡ words (headerWords e (headerSize e) c f l n z entry)
+  pub header-plain : (e ≡ 4 → ⊥) → length s ≡ headerSize e → (s₆ : List ℕ) → s₆ ≡ stored s 0 (twelve m (length s)) → s₆ ≡ words (headerWords e (headerSize e) c f l n z entry)
   header-plain other size s₆ q =
       let x : eqb e 4 ≡ false = ne-eqb e 4 other in
       let y : length s ≡ 48 = size ∙ rw x refl in
-      rw x (q ∙ filled-by s (twelve (length s)) y ∙ ap (λ (h : ℕ). words (twelve h)) y)
+      let k : m ≡ f / 20 = rw x at counted in
+      rw x (q ∙ filled-by s (twelve m (length s)) y ∙ ap (λ (h : ℕ). words (twelve m h)) y ∙ ap (λ (j : ℕ). words (twelve j 48)) k)
 
-  pub header-fourth : e ≡ 4 → length s ≡ headerSize e → (s₆ s₇ : List ℕ) → s₆ ≡ stored s 0 (twelve (length s))
+  pub header-fourth : e ≡ 4 → length s ≡ headerSize e → (s₆ s₇ : List ℕ) → s₆ ≡ stored s 0 (twelve m (length s))
       → s₇ ≡ written 4 (written 4 s₆ 48 (z / 12)) 52 (length s + c + f + l + n) → s₇ ≡ words (headerWords e (headerSize e) c f l n z entry)
   header-fourth four size s₆ s₇ q r =
       let x : eqb e 4 ≡ true = eq-eqb e 4 four in
       let y : length s ≡ 56 = size ∙ rw x refl in
-      let ws : ℕ → List ℕ = λ h. twelve h ++ ((z / 12) ∷ (h + c + f + l + n) ∷ []) in
-      let g : s₇ ≡ stored s 0 (ws (length s)) = r ∙ ap (λ (t : List ℕ). written 4 (written 4 t 48 (z / 12)) 52 (length s + c + f + l + n)) q in
-      rw x (g ∙ filled-by s (ws (length s)) y ∙ ap (λ (h : ℕ). words (ws h)) y)
+      let ws : ℕ → ℕ → List ℕ = λ j h. twelve j h ++ ((z / 12) ∷ (h + c + f + l + n) ∷ []) in
+      let g : s₇ ≡ stored s 0 (ws m (length s)) = r ∙ ap (λ (t : List ℕ). written 4 (written 4 t 48 (z / 12)) 52 (length s + c + f + l + n)) q in
+      let k : m ≡ f / 24 = rw x at counted in
+      rw x (g ∙ filled-by s (ws m (length s)) y ∙ ap (λ (h : ℕ). words (ws m h)) y ∙ ap (λ (j : ℕ). words (ws j 56)) k)
 
 pub header-long : (e : ℕ) → 48 ≤ headerSize e
 header-long e = decide (eqb e 4) (λ y. rw y (omega arith)) (λ y. rw y (omega arith))
@@ -114,7 +117,7 @@ copied s d i h k =
 -- ---- sections
 
 -- P stands at the front of what was `out`; the part behind it, from a to e, was lent and is `new` now
-section : (o P new out new′ : List ℕ) (a e : ℕ) → o ≡ P ++ drop a out → length P ≡ a → a + length new ≡ e → new′ ≡ new
+pub section : (o P new out new′ : List ℕ) (a e : ℕ) → o ≡ P ++ drop a out → length P ≡ a → a + length new ≡ e → new′ ≡ new
     → take a o ++ (new′ ++ drop (e - a) (drop a o)) ≡ (P ++ new) ++ drop e out
 section o P new out new′ a e q h k n =
     let r : drop (e - a) (drop a o) ≡ drop e out =
@@ -159,19 +162,25 @@ sections out h cs fs ls code zs h′ cs′ fs′ ls′ code′ zs′ a l qh qc q
 
 -- ---- refusals
 
+-- row 4, with the count of functions m
+pub counted-over : (e : ℕ) (cs fs ls code zs : List ℕ) (m : ℕ) → m ≡ functionCount e fs → (over : Bool)
+    → over ≡ overLimits e (constantCount cs) m (labelCount ls) (length code) (structureCount zs)
+    → over ≡ overLimits e (constantCount cs) (functionCount e fs) (labelCount ls) (length code) (structureCount zs)
+counted-over e cs fs ls code zs m q over h = h ∙ ap (λ (k : ℕ). overLimits e (constantCount cs) k (labelCount ls) (length code) (structureCount zs)) q
+
 -- what rows 4 and 5 leave
 pub fits-of : (e : ℕ) (cs fs ls code zs : List ℕ) (n : ℕ) (over : Bool)
-    → over ≡ overLimits e (constantCount cs) (functionCount fs) (labelCount ls) (length code) (structureCount zs) → over ≡ false
-    → (differs (length cs % 12) 0 || differs (length fs % 20) 0 || differs (length ls % 8) 0 || differs (length zs % 12) 0 || ltb (length code) n) ≡ false
-    → Fits fs code n × (structureCount zs ≤ structureLimit e)
+    → over ≡ overLimits e (constantCount cs) (functionCount e fs) (labelCount ls) (length code) (structureCount zs) → over ≡ false
+    → (differs (length cs % 12) 0 || differs (length fs % functionSize e) 0 || differs (length ls % 8) 0 || differs (length zs % 12) 0 || ltb (length code) n) ≡ false
+    → Fits e fs code n × (structureCount zs ≤ structureLimit e)
 fits-of e cs fs ls code zs n over is within parts =
     let c : Bool = ltb 1024 (constantCount cs) in
-    let f : Bool = ltb 128 (functionCount fs) in
+    let f : Bool = ltb 128 (functionCount e fs) in
     let l : Bool = ltb 256 (labelCount ls) in
     let l4 = or-neither (c || f || l || ltb 16384 (length code)) (ltb (structureLimit e) (structureCount zs)) (sym is ∙ within) in
     let l3 = or-neither (c || f || l) (ltb 16384 (length code)) (l4 .0) in
     let l2 = or-neither (c || f) l (l3 .0) in
-    let p = or-neither (differs (length cs % 12) 0 || differs (length fs % 20) 0 || differs (length ls % 8) 0 || differs (length zs % 12) 0) (ltb (length code) n) parts in
+    let p = or-neither (differs (length cs % 12) 0 || differs (length fs % functionSize e) 0 || differs (length ls % 8) 0 || differs (length zs % 12) 0) (ltb (length code) n) parts in
     (record { few-functions = ltb-false _ _ (or-neither c f (l2 .0) .1); little-code = ltb-false _ _ (l3 .1); entry-inside = ltb-false _ _ (p .1) }, ltb-false _ _ (l4 .1))
 
 pub not-refused : (t : Tables) (n : ℕ) → n ≡ tableRefusal t → n ≡ 0 → tableRefusal t ≡ 0

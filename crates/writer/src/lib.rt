@@ -10,7 +10,7 @@ ghost use Rattle.writer.specs.Output.{Takes, filledWith};
 use rules::WriteAnswer;
 
 // A section is copied into its own part of the output.
-fn put_section(out: &mut [u8], table: &[u8])
+pub fn put_section(out: &mut [u8], table: &[u8])
     requires { ⌜ length (now out) ≡ length (now table) ⌝ }
     ensures { λ r. ⌜ now (out .exit) ≡ now (table .entry) ⌝ }
 {
@@ -32,7 +32,7 @@ fn put_pair(out: &mut [u8], at: usize, count: usize, offset: usize)
 }
 
 // The header, from the edition and the lengths in bytes of constants, functions, labels, code and structures.
-fn put_header(
+pub fn put_header(
     out: &mut [u8],
     edition: usize,
     constants: usize,
@@ -50,9 +50,10 @@ fn put_header(
     let labels_at = functions_at + functions;
     let code_at = labels_at + labels;
     let structures_at = code_at + code;
+    let function_count = format::function_count(edition, functions);
     put_pair(out, 0, edition, structures_at + structures);
     put_pair(out, 8, constants / 12, constants_at);
-    put_pair(out, 16, functions / 20, functions_at);
+    put_pair(out, 16, function_count, functions_at);
     put_pair(out, 24, labels / 8, labels_at);
     put_pair(out, 32, code, code_at);
     put_pair(out, 40, entry, 0);
@@ -114,10 +115,11 @@ fn table_refusal(
         return 2;
     }
     let n = code.len();
+    let function_count = format::function_count(edition, functions.len());
     let over = format::over_limits(
         edition,
         constants.len() / 12,
-        functions.len() / 20,
+        function_count,
         labels.len() / 8,
         n,
         structures.len() / 12,
@@ -125,8 +127,9 @@ fn table_refusal(
     if over {
         return 4;
     }
+    let function_rest = format::function_rest(edition, functions.len());
     let broken = (constants.len() % 12 != 0)
-        | (functions.len() % 20 != 0)
+        | (function_rest != 0)
         | (labels.len() % 8 != 0)
         | (structures.len() % 12 != 0)
         | (n < entry);

@@ -1,10 +1,11 @@
 -- The proof of `format::bad_records`.
-use Prim.Native.Nat.{_≤_, _-_, _+_, _*_, _/_}
+use Prim.Native.Nat.{_≤_, _-_, _+_, _*_}
 use native.Mathlib.Numerals.{add-one}
 use native.Mathlib.Omega.{arith}
+use borrow.Author.Needs.{needs}
+use Rattle.format.proofs.Strides.{stride-under, record-from}
 use mathlib.Core.Path.{_≡_, refl}
 use mathlib.Core.List.{[]}
-use lib.ListN.{length}
 use Rattle.format.proofs.Gathered.{some-none, some-more}
 use Rattle.rules.specs.Bytes.{some-below}
 use Rattle.rules.specs.Tables.{bodies, functionAt, badRecord, endBefore}
@@ -13,26 +14,29 @@ use Rattle.format.proofs.bad_records.Statement.{statement}
 use Rattle.format.proofs.bad_records.Tie as tie
 
 abbrev Inv-loop : tie.InvT-loop
-Inv-loop structures table code entry n end₀ bad₀ i₀ end bad i = (i ≤ n) × (bad ≡ some-below i (λ k. badRecord 3 structures table (functionAt k) (endBefore (bodies 3 table [] code entry) k))) × (end ≡ endBefore (bodies 3 table [] code entry) i) × (end ≤ 16384 + i * 4294967296)
+Inv-loop edition n structures table code entry size end₀ bad₀ i₀ end bad i = (i ≤ n) × (bad ≡ some-below i (λ k. badRecord 3 structures table (functionAt edition k) (endBefore (bodies edition table [] code entry) k))) × (end ≡ endBefore (bodies edition table [] code entry) i) × (end ≤ 16384 + i * 4294967296)
 
 abbrev μ-loop : tie.MeasureT-loop
-μ-loop structures table code entry n end₀ bad₀ i₀ end bad i = n - i
+μ-loop edition n structures table code entry size end₀ bad₀ i₀ end bad i = n - i
+
+function-size-requires : tie.Need-function-size-requires Inv-loop μ-loop
+function-size-requires c κs = search needs
 
 loop-holds : tie.Need-loop-holds Inv-loop μ-loop
 unfolding endBefore
 loop-holds c = (omega arith, some-none _, refl, omega arith)
 
 mul-at : tie.Need-mul-at Inv-loop μ-loop
-mul-at c = omega arith
+mul-at c = let m = stride-under _ (c .before .loop .i) (c .before .before .function-size .ensures .2) in omega arith
 
 bad-record-requires : tie.Need-bad-record-requires Inv-loop μ-loop
-bad-record-requires c κs = (omega arith, omega arith)
+bad-record-requires c κs = let inside = record-from (c .before .before .before .before .before .args .edition) _ (c .before .loop .i) _ _ (c .before .before .function-size .ensures .0) (c .before .before .before .before .before .pre .2) (c .loop-test .taken) in (omega arith, inside)
 
 add-word : tie.Need-add-word Inv-loop μ-loop
-add-word c = omega arith
+add-word c = let m = stride-under _ (c .before .before .loop .i) (c .before .before .before .function-size .ensures .2) in omega arith
 
 word-requires : tie.Need-word-requires Inv-loop μ-loop
-word-requires c κs = omega arith
+word-requires c κs = let inside = record-from (c .before .before .before .before .before .before .args .edition) _ (c .before .before .loop .i) _ _ (c .before .before .before .function-size .ensures .0) (c .before .before .before .before .before .before .pre .2) (c .before .loop-test .taken) in omega arith
 
 add-end : tie.Need-add-end Inv-loop μ-loop
 add-end c = omega arith
@@ -50,7 +54,8 @@ loop-again c = let at-loop = (c .before .before .before .loop) in
 
 returns : tie.Need-returns Inv-loop μ-loop
 unfolding badTable
-returns c = let h : c .before .loop .i ≡ length (c .before .before .before .before .args .table .now) / 20 = omega arith in cc
+returns c = let h : c .before .loop .i ≡ c .before .before .before .before .before .args .n = omega arith in
+    let n-is = c .before .before .before .before .before .pre .2 in cc
 
 pub bad-records-spec : {M : Type 1} → statement M
 bad-records-spec =
@@ -58,6 +63,7 @@ bad-records-spec =
     (tie.spec
     Inv-loop
     μ-loop
+    function-size-requires
     loop-holds
     mul-at
     bad-record-requires

@@ -10,7 +10,7 @@ use Rattle.format.proofs.high_params.Statement.{statement}
 use Rattle.format.proofs.high_params.Tie as tie
 
 abbrev Inv-loop : tie.InvT-loop
-Inv-loop table n high₀ i₀ high i = (i ≤ n) × (high ≡ some-below i (λ k. some-below 8 (highParam table (functionAt k))))
+Inv-loop table n high₀ i₀ high i = (i ≤ n) × (high ≡ some-below i (λ k. some-below 8 (highParam table (functionAt 1 k))))
 
 abbrev μ-loop : tie.MeasureT-loop
 μ-loop table n high₀ i₀ high i = n - i

@@ -1,7 +1,7 @@
 -- The proof of `reader::file_refusal`.
 use Rattle.reader.proofs.Opening.{sixth, from-bodies, seventh, from-code, from-code-alone, functions-lent, third-rows}
 use Rattle.reader.proofs.Bodies.{filled-of}
-use Rattle.reader.proofs.Records.{few-rest, old-pool, structures-rest, labels-length, lent-tables, lent-fits}
+use Rattle.reader.proofs.Records.{few-rest, old-pool, structures-rest, labels-length, lent-tables, lent-fits, lent-count}
 use Rattle.rules.specs.Tables.{Tables, labelCount}
 use Rattle.rules.specs.ModuleFile.{structuresIn, labelsIn}
 use mathlib.Core.Path.{_≡_, refl, sym, ap, _∙_}
@@ -68,7 +68,7 @@ part-bodies-refusal-end-4 : tie.Need-part-bodies-refusal-end-4
 part-bodies-refusal-end-4 c = search needs
 
 bodies-refusal-requires : tie.Need-bodies-refusal-requires
-bodies-refusal-requires c κs = (lent-fits ((c .before .before .before .before .before .before .before .before .before .before .before .args) .file .now) ((c .before .before .before .before .before .before .before .before .before .before .before .args) .c) ((c .before .before .before .before .before .before .before .before .before .before .before .pre) .0), rw ((c .before .before .before .before .before .word) .ensures .0) ((c .before .before .before .before .before .before .before .before .before .before .before .pre) .0 .known), few-rest ((c .before .before .before .before .before .before .before .before .before .before .before .args) .file .now) ((c .before .before .before .before .before .before .before .before .before .before .before .args) .c) ((c .before .before .before .before .before .before .before .before .before .before .before .pre) .0) _ ((c .before .before .before .before .before .word) .ensures .0))
+bodies-refusal-requires c κs = (lent-fits ((c .before .before .before .before .before .before .before .before .before .before .before .args) .file .now) ((c .before .before .before .before .before .before .before .before .before .before .before .args) .c) ((c .before .before .before .before .before .before .before .before .before .before .before .pre) .0) _ ((c .before .before .before .before .before .word) .ensures .0), rw ((c .before .before .before .before .before .word) .ensures .0) ((c .before .before .before .before .before .before .before .before .before .before .before .pre) .0 .known), few-rest ((c .before .before .before .before .before .before .before .before .before .before .before .args) .file .now) ((c .before .before .before .before .before .before .before .before .before .before .before .args) .c) ((c .before .before .before .before .before .before .before .before .before .before .before .pre) .0) _ ((c .before .before .before .before .before .word) .ensures .0))
 
 returns-2 : tie.Need-returns-2
 returns-2 c = from-bodies _ _ (lent-tables ((c .before .before .before .before .before .before .before .before .before .before .before .before .args) .file .now) ((c .before .before .before .before .before .before .before .before .before .before .before .before .args) .c) ((c .before .before .before .before .before .before .before .before .before .before .before .before .pre) .0) _ 48 _ ((c .before .before .before .before .before .before .word) .ensures .0) (old-pool ((c .before .before .before .before .before .before .before .before .before .before .before .before .args) .file .now) ((c .before .before .before .before .before .before .before .before .before .before .before .before .args) .c) ((c .before .before .before .before .before .before .before .before .before .before .before .before .pre) .0) ((c .before .before .before .before .before .before .before .before .before .before .before .before .pre) .1)) (structures-rest ((c .before .before .before .before .before .before .before .before .before .before .before .before .args) .file .now) ((c .before .before .before .before .before .before .before .before .before .before .before .before .args) .c) ((c .before .before .before .before .before .before .before .before .before .before .before .before .pre) .0))) _ ((c .before .before .before .before .before .before .before .before .bad-constants) .ensures) ((c .before .before .before .before .before .before .before .if1) .left) _ ((c .bodies-refusal) .ensures)
@@ -92,7 +92,7 @@ part-bad-records-end-2 : tie.Need-part-bad-records-end-2
 part-bad-records-end-2 c = search needs
 
 bad-records-requires : tie.Need-bad-records-requires
-bad-records-requires c κs = search needs
+bad-records-requires c κs = let third = (sym (c .before .before .before .word .ensures .0) ∙ c .before .before .if2 .left) in (omega arith, lent-fits (c .before .before .before .before .before .before .before .before .before .args .file .now) (c .before .before .before .before .before .before .before .before .before .args .c) (c .before .before .before .before .before .before .before .before .before .pre .0) 3 (sym third), lent-count (c .before .before .before .before .before .before .before .before .before .args .file .now) (c .before .before .before .before .before .before .before .before .before .args .c) ((c .before .before .before .before .before .before .before .before .before .pre) .0) 3 (sym third))
 
 returns-3 : tie.Need-returns-3
 returns-3 c = let third = (sym ((c .before .before .before .before .before .word) .ensures .0) ∙ (c .before .before .before .before .if2) .left) in third-rows ((c .before .before .before .before .before .before .before .before .before .before .before .args) .file .now) ((c .before .before .before .before .before .before .before .before .before .before .before .args) .c) ((c .before .before .before .before .before .before .before .before .before .before .before .pre) .0) third _ ((c .before .before .before .before .before .before .before .bad-constants) .ensures) ((c .before .before .before .before .before .before .if1) .left) _ (seventh _ _ _ _ _ _ _ (functions-lent ((c .before .before .before .before .before .before .before .before .before .before .before .args) .file .now) ((c .before .before .before .before .before .before .before .before .before .before .before .args) .c) ((c .before .before .before .before .before .before .before .before .before .before .before .pre) .0) third _ ((c .before .bad-records) .ensures)) ((c .if3) .taken))
@@ -116,7 +116,7 @@ part-without-table-end-2 : tie.Need-part-without-table-end-2
 part-without-table-end-2 c = search needs
 
 without-table-requires : tie.Need-without-table-requires
-without-table-requires c κs = let third = (sym ((c .before .before .before .before .before .before .before .before .before .word) .ensures .0) ∙ (c .before .before .before .before .before .before .before .before .if2) .left) in (filled-of _ _ _ 3 (structuresIn ((c .before .before .before .before .before .before .before .before .before .before .before .before .before .before .before .args) .file .now)) (lent-fits ((c .before .before .before .before .before .before .before .before .before .before .before .before .before .before .before .args) .file .now) ((c .before .before .before .before .before .before .before .before .before .before .before .before .before .before .before .args) .c) ((c .before .before .before .before .before .before .before .before .before .before .before .before .before .before .before .pre) .0)) (sym (functions-lent ((c .before .before .before .before .before .before .before .before .before .before .before .before .before .before .before .args) .file .now) ((c .before .before .before .before .before .before .before .before .before .before .before .before .before .before .before .args) .c) ((c .before .before .before .before .before .before .before .before .before .before .before .before .before .before .before .pre) .0) third _ ((c .before .before .before .before .before .bad-records) .ensures)) ∙ (c .before .before .before .before .if3) .left), refl)
+without-table-requires c κs = let third = (sym ((c .before .before .before .before .before .before .before .before .before .word) .ensures .0) ∙ (c .before .before .before .before .before .before .before .before .if2) .left) in (filled-of _ _ _ 3 _ (structuresIn ((c .before .before .before .before .before .before .before .before .before .before .before .before .before .before .before .args) .file .now)) (lent-count ((c .before .before .before .before .before .before .before .before .before .before .before .before .before .before .before .args) .file .now) ((c .before .before .before .before .before .before .before .before .before .before .before .before .before .before .before .args) .c) ((c .before .before .before .before .before .before .before .before .before .before .before .before .before .before .before .pre) .0) 3 (sym third)) (lent-fits ((c .before .before .before .before .before .before .before .before .before .before .before .before .before .before .before .args) .file .now) ((c .before .before .before .before .before .before .before .before .before .before .before .before .before .before .before .args) .c) ((c .before .before .before .before .before .before .before .before .before .before .before .before .before .before .before .pre) .0) 3 (sym third)) (sym (functions-lent ((c .before .before .before .before .before .before .before .before .before .before .before .before .before .before .before .args) .file .now) ((c .before .before .before .before .before .before .before .before .before .before .before .before .before .before .before .args) .c) ((c .before .before .before .before .before .before .before .before .before .before .before .before .before .before .before .pre) .0) third _ ((c .before .before .before .before .before .bad-records) .ensures)) ∙ (c .before .before .before .before .if3) .left), refl)
 
 returns-4 : tie.Need-returns-4
 returns-4 c = let third = (sym ((c .before .before .before .before .before .before .before .before .before .before .word) .ensures .0) ∙ (c .before .before .before .before .before .before .before .before .before .if2) .left) in
@@ -153,7 +153,7 @@ part-sized-refusal-end-3 : tie.Need-part-sized-refusal-end-3
 part-sized-refusal-end-3 c = search needs
 
 sized-refusal-requires : tie.Need-sized-refusal-requires
-sized-refusal-requires c κs = let third = (sym ((c .before .before .before .before .before .before .before .before .before .before .word) .ensures .0) ∙ (c .before .before .before .before .before .before .before .before .before .if2) .left) in (filled-of _ _ _ 3 (structuresIn ((c .before .before .before .before .before .before .before .before .before .before .before .before .before .before .before .before .args) .file .now)) (lent-fits ((c .before .before .before .before .before .before .before .before .before .before .before .before .before .before .before .before .args) .file .now) ((c .before .before .before .before .before .before .before .before .before .before .before .before .before .before .before .before .args) .c) ((c .before .before .before .before .before .before .before .before .before .before .before .before .before .before .before .before .pre) .0)) (sym (functions-lent ((c .before .before .before .before .before .before .before .before .before .before .before .before .before .before .before .before .args) .file .now) ((c .before .before .before .before .before .before .before .before .before .before .before .before .before .before .before .before .args) .c) ((c .before .before .before .before .before .before .before .before .before .before .before .before .before .before .before .before .pre) .0) third _ ((c .before .before .before .before .before .before .bad-records) .ensures)) ∙ (c .before .before .before .before .before .if3) .left), refl)
+sized-refusal-requires c κs = let third = (sym ((c .before .before .before .before .before .before .before .before .before .before .word) .ensures .0) ∙ (c .before .before .before .before .before .before .before .before .before .if2) .left) in (filled-of _ _ _ 3 _ (structuresIn ((c .before .before .before .before .before .before .before .before .before .before .before .before .before .before .before .before .args) .file .now)) (lent-count ((c .before .before .before .before .before .before .before .before .before .before .before .before .before .before .before .before .args) .file .now) ((c .before .before .before .before .before .before .before .before .before .before .before .before .before .before .before .before .args) .c) ((c .before .before .before .before .before .before .before .before .before .before .before .before .before .before .before .before .pre) .0) 3 (sym third)) (lent-fits ((c .before .before .before .before .before .before .before .before .before .before .before .before .before .before .before .before .args) .file .now) ((c .before .before .before .before .before .before .before .before .before .before .before .before .before .before .before .before .args) .c) ((c .before .before .before .before .before .before .before .before .before .before .before .before .before .before .before .before .pre) .0) 3 (sym third)) (sym (functions-lent ((c .before .before .before .before .before .before .before .before .before .before .before .before .before .before .before .before .args) .file .now) ((c .before .before .before .before .before .before .before .before .before .before .before .before .before .before .before .before .args) .c) ((c .before .before .before .before .before .before .before .before .before .before .before .before .before .before .before .before .pre) .0) third _ ((c .before .before .before .before .before .before .bad-records) .ensures)) ∙ (c .before .before .before .before .before .if3) .left), refl)
 
 returns-5 : tie.Need-returns-5
 returns-5 c = let third = (sym ((c .before .before .before .before .before .before .before .before .before .before .before .word) .ensures .0) ∙ (c .before .before .before .before .before .before .before .before .before .before .if2) .left) in third-rows ((c .before .before .before .before .before .before .before .before .before .before .before .before .before .before .before .before .before .args) .file .now) ((c .before .before .before .before .before .before .before .before .before .before .before .before .before .before .before .before .before .args) .c) ((c .before .before .before .before .before .before .before .before .before .before .before .before .before .before .before .before .before .pre) .0) third _ ((c .before .before .before .before .before .before .before .before .before .before .before .before .before .bad-constants) .ensures) ((c .before .before .before .before .before .before .before .before .before .before .before .before .if1) .left) _ (from-code _ _ _ _ _ _ _ (functions-lent ((c .before .before .before .before .before .before .before .before .before .before .before .before .before .before .before .before .before .args) .file .now) ((c .before .before .before .before .before .before .before .before .before .before .before .before .before .before .before .before .before .args) .c) ((c .before .before .before .before .before .before .before .before .before .before .before .before .before .before .before .before .before .pre) .0) third _ ((c .before .before .before .before .before .before .before .bad-records) .ensures)) ((c .before .before .before .before .before .before .if3) .left) _ ((c .sized-refusal) .ensures))

@@ -55,7 +55,7 @@ part-content-refusal-end-5 : tie.Need-part-content-refusal-end-5
 part-content-refusal-end-5 c = search needs
 
 content-refusal-requires : tie.Need-content-refusal-requires
-content-refusal-requires c κs = (lent-fits ((c .before .before .before .before .before .before .before .args) .file .now) ((c .before .before .before .before .before .before .before .args) .c) ((c .before .before .before .before .before .before .before .pre) .0), refl, few-rest ((c .before .before .before .before .before .before .before .args) .file .now) ((c .before .before .before .before .before .before .before .args) .c) ((c .before .before .before .before .before .before .before .pre) .0) 4 (sym ((c .before .before .before .before .before .before .before .pre) .1)))
+content-refusal-requires c κs = (lent-fits ((c .before .before .before .before .before .before .before .args) .file .now) ((c .before .before .before .before .before .before .before .args) .c) ((c .before .before .before .before .before .before .before .pre) .0) 4 (sym ((c .before .before .before .before .before .before .before .pre) .1)), refl, few-rest ((c .before .before .before .before .before .before .before .args) .file .now) ((c .before .before .before .before .before .before .before .args) .c) ((c .before .before .before .before .before .before .before .pre) .0) 4 (sym ((c .before .before .before .before .before .before .before .pre) .1)))
 
 returns : tie.Need-returns
 returns c = tables-same _ _ (lent-tables ((c .before .before .before .before .before .before .before .before .args) .file .now) ((c .before .before .before .before .before .before .before .before .args) .c) ((c .before .before .before .before .before .before .before .before .pre) .0) 4 ((c .before .before .before .before .before .before .before .before .args) .c .pool) _ (sym ((c .before .before .before .before .before .before .before .before .pre) .1)) refl (structures-rest ((c .before .before .before .before .before .before .before .before .args) .file .now) ((c .before .before .before .before .before .before .before .before .args) .c) ((c .before .before .before .before .before .before .before .before .pre) .0))) _ ((c .content-refusal) .ensures)

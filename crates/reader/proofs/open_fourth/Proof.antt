@@ -19,7 +19,7 @@ word-requires : tie.Need-word-requires
 word-requires c κs = let l = fourth-header ((c .before .before .before .args) .file .now) (c .before .before .before .pre) (header-of ((c .before .before .before .args) .file .now) (sym ((c .before .fourth-refusal) .ensures) ∙ (c .if1) .left)) in omega arith
 
 header-requires : tie.Need-header-requires
-header-requires c κs = let l = fourth-header ((c .before .before .before .before .args) .file .now) (c .before .before .before .before .pre) (header-of ((c .before .before .before .before .args) .file .now) (sym ((c .before .before .fourth-refusal) .ensures) ∙ (c .before .if1) .left)) in (omega arith, rw (c .before .before .before .before .pre) refl, omega arith, rw (c .before .before .before .before .pre) ((c .word) .ensures .0))
+header-requires c κs = let l = fourth-header ((c .before .before .before .before .args) .file .now) (c .before .before .before .before .pre) (header-of ((c .before .before .before .before .args) .file .now) (sym ((c .before .before .fourth-refusal) .ensures) ∙ (c .before .if1) .left)) in ((omega arith, rw (c .before .before .before .before .pre) refl, omega arith, rw (c .before .before .before .before .pre) ((c .word) .ensures .0)), (rw (c .before .before .before .before .pre) refl, omega arith))
 
 fourth-refusal-requires-2 : tie.Need-fourth-refusal-requires-2
 fourth-refusal-requires-2 c κs = (subst (λ (x : Sections). Packed ((c .before .before .before .before .before .args) .file .now) x) (sym ((c .header) .ensures)) (packed-of ((c .before .before .before .before .before .args) .file .now) (header-of ((c .before .before .before .before .before .args) .file .now) (sym ((c .before .before .before .fourth-refusal) .ensures) ∙ (c .before .before .if1) .left))), (c .before .before .before .before .before .pre))

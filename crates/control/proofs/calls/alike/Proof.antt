@@ -6,9 +6,9 @@ use mathlib.Core.Path.{_≡_, refl, sym, ap, _∙_}
 use Rattle.rules.specs.Instructions.{tyOf, kindOf}
 use Rattle.rules.specs.Machine.{kindsMatch}
 use Rattle.rules.specs.Tables.{functionAt, paramsFrom}
-use Rattle.rules.specs.ModuleFile.{bodiesIn, functionsIn}
+use Rattle.rules.specs.ModuleFile.{edition, bodiesIn, functionsIn}
 use Rattle.rules.specs.Stack.{slotsOf}
-use Rattle.reader.proofs.Records.{functions-length}
+use Rattle.reader.proofs.Records.{function-count}
 use Rattle.control.proofs.CallLaws.{kinds-end, kinds-same, kinds-other}
 use Rattle.soundness.specs.Readable.{few-parameters, parameter-type}
 use Rattle.soundness.specs.Cutting.{functions-good}
@@ -16,7 +16,7 @@ use Rattle.control.proofs.calls.alike.Statement.{statement}
 use Rattle.control.proofs.calls.alike.Tie as tie
 
 abbrev Inv-loop : tie.InvT-loop
-Inv-loop file c k n base t j₀ j = (j ≤ n) × ((p : List ℕ) → kindsMatch (paramsFrom (functionsIn file) (functionAt k + 10) n) (slotsOf p t (base + n)) ≡ kindsMatch (paramsFrom (functionsIn file) (functionAt k + 10) j) (slotsOf p t (base + j)))
+Inv-loop file c k n base t j₀ j = (j ≤ n) × ((p : List ℕ) → kindsMatch (paramsFrom (functionsIn file) (functionAt (edition file) k + 10) n) (slotsOf p t (base + n)) ≡ kindsMatch (paramsFrom (functionsIn file) (functionAt (edition file) k + 10) j) (slotsOf p t (base + j)))
 
 abbrev μ-loop : tie.MeasureT-loop
 μ-loop file c k n base t j₀ j = j
@@ -29,12 +29,12 @@ sub-j c = omega arith
 
 param-requires : tie.Need-param-requires Inv-loop μ-loop
 param-requires c κs = let start = c .before .before .before .before in
-    (start .pre .0 .0, (start .pre .1 .0, omega (arith, few-parameters (bodiesIn (start .args .file .now)) (functions-good (start .args .file .now) (start .pre .0 .1)) (start .args .k) (omega (arith, start .pre .1 .0, functions-length _ _ (start .pre .0 .0))), start .pre .1 .1)))
+    (start .pre .0 .0, (start .pre .1 .0, omega (arith, few-parameters (bodiesIn (start .args .file .now)) (functions-good (start .args .file .now) (start .pre .0 .1)) (start .args .k) (omega (arith, start .pre .1 .0, function-count _ _ (start .pre .0 .0))), start .pre .1 .1)))
 
 kind-of-requires : tie.Need-kind-of-requires Inv-loop μ-loop
 kind-of-requires c κs = let start = c .before .before .before .before .before in
     let loop = c .before .before .loop in
-    rw (c .param .ensures .0) (parameter-type (bodiesIn _) (functions-good _ (start .pre .0 .1)) _ _ (omega (arith, start .pre .1 .0, functions-length _ _ (start .pre .0 .0))) (omega (arith, loop .inv .0, (c .before .loop-test), start .pre .1 .1)))
+    rw (c .param .ensures .0) (parameter-type (bodiesIn _) (functions-good _ (start .pre .0 .1)) _ _ (omega (arith, start .pre .1 .0, function-count _ _ (start .pre .0 .0))) (omega (arith, loop .inv .0, (c .before .loop-test), start .pre .1 .1)))
 
 add-if1 : tie.Need-add-if1 Inv-loop μ-loop
 add-if1 c = omega arith

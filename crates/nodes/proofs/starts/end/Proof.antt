@@ -1,5 +1,6 @@
 use native.Mathlib.Omega.{arith}
-use Rattle.nodes.proofs.Bounds.{entry-end, function-number, function-end, record-inside}
+use Rattle.reader.proofs.Records.{function-in-file, stride-small}
+use Rattle.nodes.proofs.Bounds.{entry-end, function-number, function-end}
 use borrow.Author.Needs.{needs}
 use Rattle.nodes.proofs.starts.end.Statement.{statement}
 use Rattle.nodes.proofs.starts.end.Tie as tie
@@ -8,25 +9,25 @@ returns : tie.Need-returns
 returns c = entry-end _ _ ((c .before .before .pre) .0) _ ((c .if1) .taken)
 
 mul-at : tie.Need-mul-at
-mul-at c = let n = function-number _ _ ((c .before .before .pre) .0) _ ((c .before .before .pre) .1) ((c .if1) .left) in omega (arith, n, (c .before .before .pre) .0 .functions-is, (c .before .before .pre) .0 .few-functions)
+mul-at c = let n = function-number _ _ ((c .before .before .before .pre) .0) _ ((c .before .before .before .pre) .1) ((c .before .if1) .left) in let m = stride-small _ _ ((c .before .before .before .pre) .0) _ n in omega (arith, n, m, (c .before .before .before .pre) .0 .functions-is, (c .before .before .before .pre) .0 .few-functions)
 
 add-at : tie.Need-add-at
-add-at c = let n = function-number _ _ ((c .before .before .before .pre) .0) _ ((c .before .before .before .pre) .1) ((c .before .if1) .left) in let r = record-inside _ _ ((c .before .before .before .pre) .0) _ n in omega (arith, r)
+add-at c = let n = function-number _ _ ((c .before .before .before .before .pre) .0) _ ((c .before .before .before .before .pre) .1) ((c .before .before .if1) .left) in let r = function-in-file _ _ ((c .before .before .before .before .pre) .0) _ n in omega (arith, r)
 
 word-requires : tie.Need-word-requires
-word-requires c κs = let n = function-number _ _ ((c .before .before .before .pre) .0) _ ((c .before .before .before .pre) .1) ((c .before .if1) .left) in let r = record-inside _ _ ((c .before .before .before .pre) .0) _ n in omega (arith, r)
+word-requires c κs = let n = function-number _ _ ((c .before .before .before .before .pre) .0) _ ((c .before .before .before .before .pre) .1) ((c .before .before .if1) .left) in let r = function-in-file _ _ ((c .before .before .before .before .pre) .0) _ n in omega (arith, r)
 
 add-word : tie.Need-add-word
-add-word c = let n = function-number _ _ ((c .before .before .before .before .pre) .0) _ ((c .before .before .before .before .pre) .1) ((c .before .before .if1) .left) in let r = record-inside _ _ ((c .before .before .before .before .pre) .0) _ n in omega (arith, r)
+add-word c = let n = function-number _ _ ((c .before .before .before .before .before .pre) .0) _ ((c .before .before .before .before .before .pre) .1) ((c .before .before .before .if1) .left) in let r = function-in-file _ _ ((c .before .before .before .before .before .pre) .0) _ n in omega (arith, r)
 
 word-requires-2 : tie.Need-word-requires-2
-word-requires-2 c κs = let n = function-number _ _ ((c .before .before .before .before .pre) .0) _ ((c .before .before .before .before .pre) .1) ((c .before .before .if1) .left) in let r = record-inside _ _ ((c .before .before .before .before .pre) .0) _ n in omega (arith, r)
+word-requires-2 c κs = let n = function-number _ _ ((c .before .before .before .before .before .pre) .0) _ ((c .before .before .before .before .before .pre) .1) ((c .before .before .before .if1) .left) in let r = function-in-file _ _ ((c .before .before .before .before .before .pre) .0) _ n in omega (arith, r)
 
 add-result : tie.Need-add-result
 add-result c = search needs
 
 returns-2 : tie.Need-returns-2
-returns-2 c = function-end _ _ ((c .before .before .before .before .before .pre) .0) _ ((c .before .before .before .before .before .pre) .1) ((c .before .before .before .if1) .left) _ _ ((c .before .word) .ensures .0) ((c .word2) .ensures .0)
+returns-2 c = function-end _ _ ((c .before .before .before .before .before .before .pre) .0) _ ((c .before .before .before .before .before .before .pre) .1) ((c .before .before .before .before .if1) .left) _ _ ((c .before .word) .ensures .0) ((c .word2) .ensures .0)
 
 pub end-spec : {M : Type 1} → statement M
 end-spec =

@@ -10,10 +10,10 @@ use Rattle.reader.proofs.labels.bad_labels.Statement.{statement}
 use Rattle.reader.proofs.labels.bad_labels.Tie as tie
 
 abbrev Inv-loop : tie.InvT-loop
-Inv-loop edition functions labels code entry starts n bad₀ i₀ bad i = (i ≤ n) × (bad ≡ some-below i (badLabel (bodies edition functions [] code entry) labels))
+Inv-loop edition n functions labels code entry starts count bad₀ i₀ bad i = (i ≤ count) × (bad ≡ some-below i (badLabel (bodies edition functions [] code entry) labels))
 
 abbrev μ-loop : tie.MeasureT-loop
-μ-loop edition functions labels code entry starts n bad₀ i₀ bad i = n - i
+μ-loop edition n functions labels code entry starts count bad₀ i₀ bad i = count - i
 
 loop-holds : tie.Need-loop-holds Inv-loop μ-loop
 loop-holds c = (omega arith, some-none _)
