@@ -10,7 +10,7 @@ use Rattle.rules.specs.declared.RunAnswer.{RunAnswer}
 use Rattle.rules.specs.declared.Slot.{Slot}
 use Rattle.rules.specs.Instructions.{Ty, num, ptr, numKind}
 use Rattle.rules.specs.Tables.{bodyOf, functionAt, paramsFrom}
-use Rattle.rules.specs.ModuleFile.{read, functionsIn}
+use Rattle.rules.specs.ModuleFile.{edition, functions, read, functionsIn}
 use Rattle.rules.specs.Stack.{Lent, capacity, slotsOf, lentAfter}
 use Rattle.rules.specs.Heap.{Heap, emptyHeap, LentHeap, heapCapacity, cellsAfter, tableAfter}
 use Rattle.rules.specs.Machine.{Outcome, outcome, keeping, run}
@@ -57,9 +57,9 @@ LeavesAs o p t c b p′ t′ c′ b′ r =
     _≡_ {A = Ran} (record { answer = r; stack = lentOf p′ t′; heap = lentHeapOf c′ b′ }) (ran o (lentOf p t) (lentHeapOf c b))
 
 -- the answer and the bytes after it are those of the rules, for body f of the file s on the arguments u, v
-abbrev pub RunIs : List ℕ → ℕ → List ℕ → List ℕ → ℕ → List ℕ → List ℕ → List ℕ → List ℕ → List ℕ → List ℕ → List ℕ → List ℕ → RunAnswer → Type 0
-RunIs s f u v allowance p t c b p′ t′ c′ b′ r =
-    _≡_ {A = Ran} (record { answer = r; stack = lentOf p′ t′; heap = lentHeapOf c′ b′ }) (runModule s f (lentOf u v) allowance (lentOf p t) (lentHeapOf c b))
+abbrev pub RunIs : List ℕ → ℕ → List ℕ → List ℕ → ℕ → ℕ → List ℕ → List ℕ → List ℕ → List ℕ → List ℕ → List ℕ → List ℕ → List ℕ → RunAnswer → Type 0
+RunIs s f u v scan allowance p t c b p′ t′ c′ b′ r =
+    _≡_ {A = Ran} (record { answer = r; stack = lentOf p′ t′; heap = lentHeapOf c′ b′ }) (runModule s f (lentOf u v) scan allowance (lentOf p t) (lentHeapOf c b))
 
 -- ---- the lent heap
 
@@ -126,10 +126,15 @@ pub record Copied (a b p t : List ℕ) (n : ℕ) (p′ t′ : List ℕ) : Type 0
 
 -- ---- bodies
 
+-- the file s has the body that f names
+abbrev pub Named : List ℕ → ℕ → Type 0
+Named s f = (f ≡ 0xffffffff → ⊥) → f < functions s
+
 -- b is the body that the host names by f; its numbers are in range
 pub record BodyIs (s : List ℕ) (c : Sections) (f : ℕ) (b : BodyRecord) : Type 0 where
+  pub there : Named s f
   pub named : bodyIn (b .body) ≡ bodyOf f
-  pub starts : startOf (read s) (bodyOf f) ≡ some (b .start, paramsFrom (functionsIn s) (functionAt (b .body) + 10) (b .params))
+  pub starts : startOf (read s) (bodyOf f) ≡ some (b .start, paramsFrom (functionsIn s) (functionAt (edition s) (b .body) + 10) (b .params))
   pub ends : endOf (read s) (bodyOf f) ≡ some (b .end)
   pub declares : 0 < b .params → b .body < c .functions
   pub few : b .params ≤ 8

@@ -5,13 +5,13 @@ ghost use lib.ListN.{length, replicate};
 ghost use Rattle.rules.specs.Answers as Answers;
 ghost use Rattle.rules.specs.Instructions.{tyOf};
 ghost use Rattle.rules.specs.Machine.{outcome};
-ghost use Rattle.rules.specs.Tables.{functionAt, paramsFrom};
+ghost use Rattle.rules.specs.Tables.{bodyOf, functionAt, paramsFrom};
 ghost use Rattle.rules.specs.ModuleFile.{edition, read, refusal, functionsIn};
 ghost use Rattle.format.specs.Layout.{Packed};
 ghost use Rattle.keys.specs.Keys.{Keyed};
 ghost use Rattle.state.specs.State.{memoryOf};
 ghost use Rattle.machine.specs.Ends.{endWith, Fits};
-ghost use Rattle.runs.specs.Runs.{lentOf, slotsIn, cellsIn, clearedTo, ClosedAs, RunIs, Empty, Emptied, Standing, RestIs, RunsOver, isOver, suits, Copied, FoundIs, Begins};
+ghost use Rattle.runs.specs.Runs.{lentOf, slotsIn, cellsIn, clearedTo, ClosedAs, RunIs, Empty, Emptied, Standing, RestIs, RunsOver, isOver, suits, Copied, FoundIs, Named, Begins};
 use format::Sections;
 use machine::Ended;
 use reader::Opened;
@@ -27,6 +27,8 @@ const ENTRY: u32 = 0xffff_ffff;
 const NO_SUCH_FUNCTION: u32 = 12;
 
 const ARGUMENTS_REFUSED: u32 = 13;
+
+const PROFILE_DIFFERS: u32 = 17;
 
 const STACK_OVERFLOW: u32 = 20;
 
@@ -128,7 +130,7 @@ fn takes(b: u8, v: Slot) -> bool
 // Whether these are arguments for the n parameters of function k.
 fn admits(file: &[u8], c: Sections, k: usize, n: usize, args: &[u8], kinds: &[u8]) -> bool
     requires { ⌜ Packed (now file) c × (n ≤ 8) × (0 < n → k < c .functions) ⌝ }
-    ensures { λ r. ⌜ r ≡ Answers.admitted (paramsFrom (functionsIn (now (file .entry))) (functionAt k + 10) n) (lentOf (now (args .entry)) (now (kinds .entry))) ⌝ }
+    ensures { λ r. ⌜ r ≡ Answers.admitted (paramsFrom (functionsIn (now (file .entry))) (functionAt (edition (now (file .entry))) k + 10) n) (lentOf (now (args .entry)) (now (kinds .entry))) ⌝ }
 {
     if kinds.len() != n {
         return false;
@@ -201,6 +203,22 @@ fn find(file: &[u8], c: Sections, function: u32) -> FoundBody
         end: g.end,
         params: g.params,
     })
+}
+
+// Whether a body is made for another profile than the scan's. Only functions of edition 4 name one, in their last word.
+fn other_profile(file: &[u8], c: Sections, function: u32, profile: u32) -> bool
+    requires { ⌜ Packed (now file) c × (refusal (now file) ≡ 0) × Named (now file) function ⌝ }
+    ensures { λ r. ⌜ r ≡ Answers.otherProfile (Answers.madeFor (read (now (file .entry))) (bodyOf function)) profile ⌝ }
+{
+    if c.stride != 24 {
+        return false;
+    }
+    if function == ENTRY {
+        return false;
+    }
+    let k = function as usize;
+    let made = format::word(file, c.records + 24 * k + 20) as u32;
+    (made != 0) & (made != profile)
 }
 
 // ---- the run
@@ -432,6 +450,7 @@ fn run_opened(
     function: u32,
     args: &[u8],
     kinds: &[u8],
+    profile: u32,
     allowance: u64,
     p: &mut [u8],
     t: &mut [u8],
@@ -439,7 +458,7 @@ fn run_opened(
     table: &mut [u8],
 ) -> RunAnswer
     requires { ⌜ Packed (now file) c × (refusal (now file) ≡ 0) ⌝ }
-    ensures { λ r. ⌜ RunIs (now (file .entry)) function (now (args .entry)) (now (kinds .entry)) allowance (now (p .entry)) (now (t .entry)) (now (cells .entry)) (now (table .entry)) (now (p .exit)) (now (t .exit)) (now (cells .exit)) (now (table .exit)) r ⌝ }
+    ensures { λ r. ⌜ RunIs (now (file .entry)) function (now (args .entry)) (now (kinds .entry)) profile allowance (now (p .entry)) (now (t .entry)) (now (cells .entry)) (now (table .entry)) (now (p .exit)) (now (t .exit)) (now (cells .exit)) (now (table .exit)) r ⌝ }
 {
     let found = find(file, c, function);
     let FoundBody::Record(b) = found else {
@@ -449,6 +468,10 @@ fn run_opened(
     let admitted = admits(file, c, b.body, n, args, kinds);
     if !admitted {
         return RunAnswer::Rejected(ARGUMENTS_REFUSED);
+    }
+    let other = other_profile(file, c, function, profile);
+    if other {
+        return RunAnswer::Rejected(PROFILE_DIFFERS);
     }
     clear_heap(cells, table);
     let cap = capacity(p, t);
@@ -476,19 +499,20 @@ fn run_opened(
     close(e.number, allowance - e.rest, e.last.height, cap, p, t)
 }
 
-// The run of any body of any bytes. ffffffff names the entry.
+// The run of any body of any bytes, for a scan of this profile. ffffffff names the entry.
 pub fn run(
     file: &[u8],
     function: u32,
     arg_payloads: &[u8],
     arg_types: &[u8],
+    profile: u32,
     allowance: u64,
     payloads: &mut [u8],
     types: &mut [u8],
     heap: &mut [u8],
     blocks: &mut [u8],
 ) -> RunAnswer
-    ensures { λ r. ⌜ RunIs (now (file .entry)) function (now («arg_payloads» .entry)) (now («arg_types» .entry)) allowance (now (payloads .entry)) (now (types .entry)) (now (heap .entry)) (now (blocks .entry)) (now (payloads .exit)) (now (types .exit)) (now (heap .exit)) (now (blocks .exit)) r ⌝ }
+    ensures { λ r. ⌜ RunIs (now (file .entry)) function (now («arg_payloads» .entry)) (now («arg_types» .entry)) profile allowance (now (payloads .entry)) (now (types .entry)) (now (heap .entry)) (now (blocks .entry)) (now (payloads .exit)) (now (types .exit)) (now (heap .exit)) (now (blocks .exit)) r ⌝ }
 {
     let opened = reader::open(file);
     match opened {
@@ -499,6 +523,7 @@ pub fn run(
             function,
             arg_payloads,
             arg_types,
+            profile,
             allowance,
             payloads,
             types,

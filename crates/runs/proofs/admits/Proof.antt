@@ -5,14 +5,14 @@ use mathlib.Core.Path.{_≡_, refl, _∙_}
 use borrow.Author.Tests.{not-true, not-false}
 use Rattle.rules.specs.Stack.{slotsOf}
 use Rattle.rules.specs.Tables.{functionAt, paramsFrom}
-use Rattle.rules.specs.ModuleFile.{functionsIn}
+use Rattle.rules.specs.ModuleFile.{edition, functionsIn}
 use Rattle.rules.specs.Answers.{declared}
 use Rattle.runs.proofs.Arguments.{declared-next, declared-not, declared-end, admitted-other, admitted-part, admitted-is}
 use Rattle.runs.proofs.admits.Statement.{statement}
 use Rattle.runs.proofs.admits.Tie as tie
 
 abbrev Inv-loop : tie.InvT-loop
-Inv-loop file c k n args kinds j₀ j = (j ≤ n) × (declared (paramsFrom (functionsIn file) (functionAt k + 10) n) (slotsOf args kinds n) ≡ declared (paramsFrom (functionsIn file) (functionAt k + 10) j) (slotsOf args kinds j))
+Inv-loop file c k n args kinds j₀ j = (j ≤ n) × (declared (paramsFrom (functionsIn file) (functionAt (edition file) k + 10) n) (slotsOf args kinds n) ≡ declared (paramsFrom (functionsIn file) (functionAt (edition file) k + 10) j) (slotsOf args kinds j))
 
 abbrev μ-loop : tie.MeasureT-loop
 μ-loop file c k n args kinds j₀ j = j
@@ -20,7 +20,7 @@ abbrev μ-loop : tie.MeasureT-loop
 returns : tie.Need-returns Inv-loop μ-loop
 returns c =
     let start = c .before .before .before .before in
-    admitted-other (functionsIn (start .args .file .now)) (functionAt (start .args .k) + 10) (start .args .args .now) (start .args .kinds .now) _ (c .if1 .taken)
+    admitted-other (functionsIn (start .args .file .now)) (functionAt (edition (start .args .file .now)) (start .args .k) + 10) (start .args .args .now) (start .args .kinds .now) _ (c .if1 .taken)
 
 mul-if2 : tie.Need-mul-if2 Inv-loop μ-loop
 mul-if2 c = omega arith
@@ -28,7 +28,7 @@ mul-if2 c = omega arith
 returns-2 : tie.Need-returns-2 Inv-loop μ-loop
 returns-2 c =
     let start = c .before .before .before .before .before in
-    admitted-part (functionsIn (start .args .file .now)) (functionAt (start .args .k) + 10) (start .args .args .now) (start .args .kinds .now) _ (c .before .if1 .left) (c .if2 .taken)
+    admitted-part (functionsIn (start .args .file .now)) (functionAt (edition (start .args .file .now)) (start .args .k) + 10) (start .args .args .now) (start .args .kinds .now) _ (c .before .if1 .left) (c .if2 .taken)
 
 loop-holds : tie.Need-loop-holds Inv-loop μ-loop
 loop-holds c = (omega arith, refl)

@@ -22,7 +22,7 @@ run-opened-requires : tie.Need-run-opened-requires
 run-opened-requires c κs = (opened-packed _ _ (sym ((c .before .before .before .before .before .opened2) .given .1) ∙ (c .before .before .before .before .before .before .before .«open») .ensures), opened-sections _ _ (sym ((c .before .before .before .before .before .opened2) .given .1) ∙ (c .before .before .before .before .before .before .before .«open») .ensures) .0)
 
 returns : tie.Need-returns
-returns c = run-unread _ _ _ _ _ _ _ _ _ _ (sym ((c .before .opened) .given .1) ∙ (c .before .before .before .«open») .ensures)
+returns c = run-unread _ _ _ _ _ _ _ _ _ _ _ (sym ((c .before .opened) .given .1) ∙ (c .before .before .before .«open») .ensures)
 
 same-length : tie.Need-same-length
 same-length c = search needs
