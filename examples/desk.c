@@ -57,13 +57,17 @@ static int change(uint32_t constant, uint32_t value)
     return 1;
 }
 
-/* Writes the module, in its own edition, from its sections, which the header counts; only edition 4 has structures. */
+/*
+ * Writes the module, in its own edition, from its sections, which the header counts. Only edition 4 has structures, and
+ * longer records of functions, with a profile each.
+ */
 static uint32_t write_module(uint64_t *length)
 {
+    int is_edition_4 = word(0) == 4;
     size_t constants = LIMPETSKEIN_CONSTANT * word(8);
-    size_t functions = LIMPETSKEIN_FUNCTION * word(16);
+    size_t functions = (is_edition_4 ? LIMPETSKEIN_FUNCTION_4 : LIMPETSKEIN_FUNCTION) * word(16);
     size_t labels = LIMPETSKEIN_LABEL * word(24);
-    size_t structures = word(0) == 4 ? LIMPETSKEIN_STRUCTURE * word(48) : 0;
+    size_t structures = is_edition_4 ? LIMPETSKEIN_STRUCTURE * word(48) : 0;
     const uint8_t *at = module + word(12), *code = at + constants + functions + labels;
     return limpetskein_write(word(0), at, constants, at + constants, functions, at + constants + functions, labels,
                              code + word(32), structures, code, word(32), word(40), saved, sizeof saved, length);

@@ -44,7 +44,10 @@ static uint32_t compile(const char *line, size_t *length)
     return limpetskein_check(module, *length, NULL, 0, &body);
 }
 
-/* Takes the value out and answers 0, or answers the number: 24 where the line divides by zero. */
+/*
+ * Takes the value out and answers 0, or answers the number: 24 where the line divides by zero. The module of a line is
+ * for any profile, so the call names none.
+ */
 static uint32_t run_pixel(size_t length, const uint32_t channels[CHANNELS], uint32_t *value)
 {
     static const uint8_t arg_types[CHANNELS] = {LIMPETSKEIN_INT, LIMPETSKEIN_INT, LIMPETSKEIN_INT};

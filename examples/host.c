@@ -1,13 +1,19 @@
 /*
  * An example host: checks a recipe, then runs its function 0 for each pixel of a row.
  *
- *     host MODULE PIXEL...
+ *     host [-p PROFILE] MODULE PIXEL...
  *
  * Function 0 takes three ints, a pixel, a black point and a gain, and returns an int, as samples/parameters.lsk
- * does. A recipe of edition 4 finds a heap of 64 cells, for a curve as a structure say. The host prints the row that comes out; or it stops with the number, which is also its exit status.
+ * does. A recipe of edition 4 finds a heap of 64 cells, for a curve as a structure say.
+ *
+ * PROFILE is the number of the scan's profile, 0 where none is named. A recipe of edition 4 may be made for one
+ * profile; on a scan of another it stops with 17. A recipe that is for any profile runs on every scan.
+ *
+ * The host prints the row that comes out; or it stops with the number, which is also its exit status.
  */
 #include <stdio.h>
 #include <stdlib.h>
+#include <string.h>
 
 #include "limpetskein.h"
 
@@ -47,7 +53,7 @@ static int read_module(const char *name, size_t *length)
 }
 
 /* Takes the value out and answers 0, or answers the number. */
-static uint32_t run_pixel(size_t length, uint32_t pixel, uint32_t *value)
+static uint32_t run_pixel(size_t length, uint32_t profile, uint32_t pixel, uint32_t *value)
 {
     static const uint8_t arg_types[PARAMETERS] = {LIMPETSKEIN_INT, LIMPETSKEIN_INT, LIMPETSKEIN_INT};
     uint8_t arg_payloads[8 * PARAMETERS];
@@ -62,6 +68,7 @@ static uint32_t run_pixel(size_t length, uint32_t pixel, uint32_t *value)
         .arg_types_len = sizeof arg_types,
         .arg_payloads = arg_payloads,
         .arg_payloads_len = sizeof arg_payloads,
+        .profile = profile,
         .allowance = ALLOWANCE,
         .payloads = payloads,
         .payloads_len = sizeof payloads,
@@ -84,9 +91,14 @@ static uint32_t run_pixel(size_t length, uint32_t pixel, uint32_t *value)
 int main(int argc, char **argv)
 {
     size_t length = 0;
-    uint32_t body = 0;
+    uint32_t profile = 0, body = 0;
+    if (argc > 2 && strcmp(argv[1], "-p") == 0) {
+        profile = (uint32_t)strtoul(argv[2], NULL, 10);
+        argc -= 2;
+        argv += 2;
+    }
     if (argc < 2 || !read_module(argv[1], &length)) {
-        fprintf(stderr, "usage: host MODULE PIXEL...\n");
+        fprintf(stderr, "usage: host [-p PROFILE] MODULE PIXEL...\n");
         return EXIT_FAILURE;
     }
     uint32_t answer = limpetskein_check(module, length, room, sizeof room, &body);
@@ -94,7 +106,7 @@ int main(int argc, char **argv)
         printf("body %lu has no typing\n", (unsigned long)body);
     for (int i = 2; i < argc && answer == LIMPETSKEIN_DONE; i++) {
         uint32_t value = 0;
-        answer = run_pixel(length, (uint32_t)strtoul(argv[i], NULL, 10), &value);
+        answer = run_pixel(length, profile, (uint32_t)strtoul(argv[i], NULL, 10), &value);
         if (answer == LIMPETSKEIN_DONE)
             printf(i + 1 < argc ? "%lu " : "%lu\n", (unsigned long)value);
     }

@@ -1,6 +1,6 @@
 /*
- * limpetskein.h: for C, the check of a module, the run of one of its bodies, the writer of modules, and the compiler of
- * formula lines.
+ * limpetskein.h: for C, the check of a module, the run of one of its bodies, the writer of modules, the compiler of
+ * formula lines, and the conversion of modules between editions 3 and 4.
  *
  * Link with target/staticlib/liblimpetskein.a (`rt staticlib limpetskein`; x86-64 Linux).
  *
@@ -32,7 +32,7 @@ extern "C" {
 #define LIMPETSKEIN_ENTRY 0xFFFFFFFFu
 
 /* Limits of the format. */
-#define LIMPETSKEIN_LONGEST_MODULE 33528 /* bytes */
+#define LIMPETSKEIN_LONGEST_MODULE 34040 /* bytes */
 #define LIMPETSKEIN_MOST_CONSTANTS 1024
 #define LIMPETSKEIN_MOST_FUNCTIONS 128
 #define LIMPETSKEIN_MOST_LABELS 256
@@ -42,11 +42,12 @@ extern "C" {
 #define LIMPETSKEIN_MOST_SLOTS 4096   /* a larger lent stack is used up to here */
 #define LIMPETSKEIN_MOST_CELLS 4096   /* and a larger lent heap */
 
-/* Bytes of a module's header, in editions 1 and 3 and in edition 4, and of a record of its tables. */
+/* Bytes of a module's header and of a record of its tables; those of edition 4 that differ are named so. */
 #define LIMPETSKEIN_HEADER 48
 #define LIMPETSKEIN_HEADER_4 56
 #define LIMPETSKEIN_CONSTANT 12
 #define LIMPETSKEIN_FUNCTION 20
+#define LIMPETSKEIN_FUNCTION_4 24
 #define LIMPETSKEIN_LABEL 8
 #define LIMPETSKEIN_STRUCTURE 12
 
@@ -75,13 +76,14 @@ extern "C" {
  */
 #define LIMPETSKEIN_NULL 0xFFFFFFFFFFFFFFFFull
 
-/* Answers. A call gives the first in number order that holds; of a formula line 16 comes last. */
+/* Answers. A call gives the first in number order that holds; of a formula line and of a conversion 16 comes last. */
 enum {
-    LIMPETSKEIN_DONE = 0, /* check: accepted. run: finished. write and formula: written */
+    LIMPETSKEIN_DONE = 0, /* check: accepted. run: finished. write, formula and conversions: written */
 
-    /* The module can't be read: check and run. 2 and 4 to 9 also: these tables are no module: write. */
+    /* The module can't be read: check, run and conversions. 2 and 4 to 9 also: these tables are no module: write. */
     LIMPETSKEIN_TOO_SHORT = 1,     /* under 48 bytes; under 56 in edition 4 */
-    LIMPETSKEIN_OTHER_EDITION = 2, /* the edition is none of 1, 3 and 4 */
+    LIMPETSKEIN_OTHER_EDITION = 2, /* the edition is none of 1, 3 and 4; a conversion: it is not the one that is
+                                      converted */
     LIMPETSKEIN_OTHER_LENGTH = 3,  /* the total length word differs from the lent length */
     LIMPETSKEIN_OVER_LIMIT = 4,    /* a count or the code length is over its limit, or word 44 is not zero; write: a
                                       structure for edition 1 or 3 */
@@ -101,9 +103,14 @@ enum {
     LIMPETSKEIN_NO_SUCH_FUNCTION = 12,
     LIMPETSKEIN_BAD_ARGUMENTS = 13, /* not 8 payload bytes per type byte, other types than declared, an int with
                                        upper bits, a pointer parameter, or arguments for the entry */
+    LIMPETSKEIN_OTHER_PROFILE = 17, /* the function was made for another profile */
 
-    /* Write and formula. */
-    LIMPETSKEIN_OUTPUT_TOO_SHORT = 16, /* tables or line are a module's, and the output is shorter than it */
+    /* Write, formula and conversions. */
+    LIMPETSKEIN_OUTPUT_TOO_SHORT = 16, /* there is a module to write, and the output is shorter than it */
+
+    /* To edition 3 only. */
+    LIMPETSKEIN_NOT_IN_EDITION_3 = 18, /* a profile that is not 0, a structure, or a type byte or opcode that edition 3
+                                          lacks */
 
     /* Run only: it stopped. Of an accepted module only 0, 15, 20, 24 and 35, and in edition 4 also 33 and 36, come from
        a run that started. */
@@ -154,11 +161,14 @@ enum {
 uint32_t limpetskein_check(const uint8_t *module, size_t module_len, uint8_t *room, size_t room_len, uint32_t *body);
 
 /*
- * Runs a body of a module, checked or not: 0 to 9, 12, 13, 15, 20 to 39, 50.
+ * Runs a body of a module, checked or not: 0 to 9, 12, 13, 15, 17, 20 to 39, 50.
  *
  *   function      its number, or LIMPETSKEIN_ENTRY.
  *   arg_types     a type byte for each argument, parameter 0 first.
  *   arg_payloads  8 bytes for each argument, in the same order.
+ *   profile       the scan's. A function that was made for another one is refused with 17. A function of edition 4
+ *                 names in its record the profile that it was made for, 0 for any; functions of other editions and
+ *                 the entry are for any, and functions that are called are not asked. A scan may have profile 0.
  *   allowance     the most steps that it may count.
  *   payloads      8 bytes a slot. types: a byte a slot. The capacity is the smaller number of whole slots,
  *                 at most LIMPETSKEIN_MOST_SLOTS.
@@ -168,13 +178,13 @@ uint32_t limpetskein_check(const uint8_t *module, size_t module_len, uint8_t *ro
  *                 20 to 39 and 50 only.
  *
  * The slots after the call:
- *   1 to 9, 12, 13       unchanged.
+ *   1 to 9, 12, 13, 17   unchanged.
  *   0, 15, 20 to 39, 50  slots 0 to the height, deepest first, as the run left them; from the height to the capacity
  *                        zero; payload and type bytes past the capacity unchanged. What the slots held before does
  *                        not matter: a run starts empty, or with its arguments.
  *
  * The heap after the call:
- *   1 to 9, 12, 13       unchanged.
+ *   1 to 9, 12, 13, 17   unchanged.
  *   0, 15, 20 to 39, 50  the entries list the live blocks by serial (serial, first cell, type number, 8 bytes each) and
  *                        are zero after these; the cells of a live block hold its fields' payloads, an int's upper four
  *                        bytes zero, and all other cells are zero; what lies past the capacity is unchanged. So it is in
@@ -185,19 +195,19 @@ uint32_t limpetskein_check(const uint8_t *module, size_t module_len, uint8_t *ro
  */
 uint32_t limpetskein_run(const uint8_t *module, size_t module_len, uint32_t function, const uint8_t *arg_types,
                          size_t arg_types_len, const uint8_t *arg_payloads, size_t arg_payloads_len,
-                         uint64_t allowance, uint8_t *payloads, size_t payloads_len, uint8_t *types,
-                         size_t types_len, uint8_t *heap, size_t heap_len, uint8_t *blocks, size_t blocks_len,
-                         uint64_t *steps, uint64_t *height);
+                         uint32_t profile, uint64_t allowance, uint8_t *payloads, size_t payloads_len,
+                         uint8_t *types, size_t types_len, uint8_t *heap, size_t heap_len, uint8_t *blocks,
+                         size_t blocks_len, uint64_t *steps, uint64_t *height);
 
 /*
- * The same call with named members, for a host that would rather not count twenty arguments:
+ * The same call with named members, for a host that would rather not count nineteen arguments:
  *
  *     struct limpetskein_call call = {.module = file, .module_len = length, .function = LIMPETSKEIN_ENTRY,
  *                                     .allowance = 1000000, .payloads = payloads, .payloads_len = sizeof payloads,
  *                                     .types = types, .types_len = sizeof types};
  *     uint32_t number = limpetskein_call_run(&call);
  *
- * Members that are not named are 0: no arguments, no heap, function 0. steps and height are written as *steps and *height
+ * Members that are not named are 0: no arguments, no heap, function 0, a scan of profile 0. steps and height are written as *steps and *height
  * are; a refusal leaves them as they were.
  */
 struct limpetskein_call {
@@ -208,6 +218,7 @@ struct limpetskein_call {
     size_t arg_types_len;
     const uint8_t *arg_payloads;
     size_t arg_payloads_len;
+    uint32_t profile;
     uint64_t allowance;
     uint8_t *payloads;
     size_t payloads_len;
@@ -223,8 +234,8 @@ struct limpetskein_call {
 
 static inline uint32_t limpetskein_call_run(struct limpetskein_call *c) {
     return limpetskein_run(c->module, c->module_len, c->function, c->arg_types, c->arg_types_len, c->arg_payloads,
-                           c->arg_payloads_len, c->allowance, c->payloads, c->payloads_len, c->types, c->types_len,
-                           c->heap, c->heap_len, c->blocks, c->blocks_len, &c->steps, &c->height);
+                           c->arg_payloads_len, c->profile, c->allowance, c->payloads, c->payloads_len, c->types,
+                           c->types_len, c->heap, c->heap_len, c->blocks, c->blocks_len, &c->steps, &c->height);
 }
 
 /*
@@ -233,7 +244,8 @@ static inline uint32_t limpetskein_call_run(struct limpetskein_call *c) {
  *   edition       1, 3 or 4: whose opcode numbers the code has. In edition 1 no parameter is a pointer; only edition 4
  *                 has structures.
  *   constants     12 bytes each: type word (3, 4, 6), 8-byte payload.
- *   functions     20 bytes each: start, length, parameter count, return type, eight parameter types, two zeros.
+ *   functions     20 bytes each: start, length, parameter count, return type, eight parameter types, two zeros; in
+ *                 edition 4 24, with the profile that the function is made for, 0 for any, behind these.
  *   labels        8 bytes each: owner's function number, or LIMPETSKEIN_ENTRY; place in the code.
  *   structures    12 bytes each: field count (1 to 8), eight field types (3, 4, 6, unused 0), three zeros.
  *   code          the entry's body, then the functions' in order, without gaps.
@@ -278,6 +290,29 @@ uint32_t limpetskein_write(uint32_t edition, const uint8_t *constants, size_t co
  * is 7,676 bytes, for 256 bytes at depth 16; the tests refuse over 32 KB.
  */
 uint32_t limpetskein_formula(const uint8_t *line, size_t line_len, uint8_t *out, size_t out_len, uint64_t *written);
+
+/*
+ * Converts a module of edition 3 to edition 4, its functions for any profile: 0 to 9, 16. And a module of edition 4 to
+ * edition 3: 0 to 9, 18, 16, in this order.
+ *
+ *   module    any that can be read; no typing is asked.
+ *   *written  written with 0 only: the length of the new module.
+ *
+ * Constants, labels, code and entry are the same; places do not change. A module of edition 4 can't become one of
+ * edition 3 (18) where a function is made for a profile, a structure is declared, used or not, or an instruction is
+ * `flea`, `null`, `new` or `delete`, also one that is never reached.
+ *
+ * The output after the call:
+ *   1 to 9, 16, 18  unchanged.
+ *   0               the new module, and past it unchanged. It can be read. Converted back it has the same bytes as
+ *                   before, both ways. Its runs answer as those of the old module do, with the same steps, slots and
+ *                   heap, whatever the scan's profile is.
+ */
+uint32_t limpetskein_to_edition_4(const uint8_t *module, size_t module_len, uint8_t *out, size_t out_len,
+                                  uint64_t *written);
+
+uint32_t limpetskein_to_edition_3(const uint8_t *module, size_t module_len, uint8_t *out, size_t out_len,
+                                  uint64_t *written);
 
 #ifdef __cplusplus
 }

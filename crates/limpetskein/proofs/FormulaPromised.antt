@@ -45,10 +45,10 @@ module _ (line out : List ℕ) (old : ℕ) where
         accepted = λ e room.
             let w : (n : ℕ) × (formula line out .answer ≡ Written n) = formula-written line out e in
             subst (λ (n : ℕ). IsAccepted (take n (formula line out .output)) room) (sym (length-is (w .0) (w .1))) (compiles .accepted line out (w .0) (w .1) room);
-        gives = λ e r g b fr fg fb allowance x y l k.
+        gives = λ e r g b fr fg fb scan allowance x y l k.
             let w : (n : ℕ) × (formula line out .answer ≡ Written n) = formula-written line out e in
-            subst (λ (n : ℕ). Evaluates line (take n (formula line out .output)) r g b allowance x y) (sym (length-is (w .0) (w .1)))
-            (compiles .gives line out (w .0) (w .1) r g b fr fg fb allowance x y l k);
+            subst (λ (n : ℕ). Evaluates line (take n (formula line out .output)) r g b scan allowance x y) (sym (length-is (w .0) (w .1)))
+            (compiles .gives line out (w .0) (w .1) r g b fr fg fb scan allowance x y l k);
       }
 
 pub formula-keeps : (line out : List ℕ) (a : WriteAnswer) (out′ : List ℕ) → wrote a out′ ≡ formula line out → FormulaKeeps line out a out′

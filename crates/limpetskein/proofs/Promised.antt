@@ -20,7 +20,7 @@ use Rattle.rules.specs.Stack.{Lent, capacity}
 use Rattle.rules.specs.Heap.{LentHeap, heapCapacity}
 use Rattle.rules.specs.Machine.{Outcome, run}
 use Rattle.rules.specs.Check.{bodies, firstUntyped}
-use Rattle.rules.specs.Answers.{checkNumber, Checked, checked, judged, checkWith, check, runNumber, runRefusal, arguments, outcomeOf, answered, Ran, ran, runWith, runModule}
+use Rattle.rules.specs.Answers.{checkNumber, Checked, checked, judged, checkWith, check, runNumber, scanRefusal, arguments, outcomeOf, answered, Ran, ran, runWith, runModule}
 use Rattle.rules.specs.Host.{bodyAfter, stepsAfter, heightAfter}
 use Rattle.rules.specs.Demand3.{FirstUntyped, End}
 use Rattle.soundness.specs.Tests.{decide}
@@ -98,10 +98,10 @@ answered-value (suc n) t x′ old = record { taken-out = λ e. absurd (omega (ar
 abbrev HasValue : Ran → Type 0
 HasValue r = (old : ℕ) → ValueIs (r .answer) (runNumber (r .answer)) (heightAfter (r .answer) old) (r .stack)
 
-module _ (s : List ℕ) (f : ℕ) (args : Lent) (allowance : ℕ) (x : Lent) (y : LentHeap) where
+module _ (s : List ℕ) (f : ℕ) (args : Lent) (scan allowance : ℕ) (x : Lent) (y : LentHeap) where
   -- what a run that starts leaves
-  begun : runRefusal s f args ≡ 0 → length (arguments args) ≤ capacity x
-      → runModule s f args allowance x y ≡ ran (run (read s) (capacity x) allowance 0 (firstState s f args y)) x y
+  begun : scanRefusal s f args scan ≡ 0 → length (arguments args) ≤ capacity x
+      → runModule s f args scan allowance x y ≡ ran (run (read s) (capacity x) allowance 0 (firstState s f args y)) x y
   unfolding runModule outcomeOf
   begun e l = rw e (rw (le-leb (length (arguments args)) (capacity x) l) refl)
 
@@ -109,17 +109,17 @@ module _ (s : List ℕ) (f : ℕ) (args : Lent) (allowance : ℕ) (x : Lent) (y 
   with-value (suc e) old = record { taken-out = λ q. absurd (omega (arith, q)); stopped = λ h. refl }
   with-value zero old = answered-value (outcomeOf (read s) (bodyOf f) (arguments args) allowance (capacity x) (heapCapacity y) .number) _ _ old
 
-  run-value : HasValue (runModule s f args allowance x y)
+  run-value : HasValue (runModule s f args scan allowance x y)
   unfolding runModule
-  run-value = with-value (runRefusal s f args)
+  run-value = with-value (scanRefusal s f args scan)
 
-  pub run-keeps : (a : RunAnswer) (x′ : Lent) (y′ : LentHeap) → _≡_ {A = Ran} (record { answer = a; stack = x′; heap = y′ }) (runModule s f args allowance x y) → RunKeeps s f args allowance x y a x′ y′
+  pub run-keeps : (a : RunAnswer) (x′ : Lent) (y′ : LentHeap) → _≡_ {A = Ran} (record { answer = a; stack = x′; heap = y′ }) (runModule s f args scan allowance x y) → RunKeeps s f args scan allowance x y a x′ y′
   run-keeps a x′ y′ q =
       record {
         same = q;
         value = subst HasValue (sym q) run-value;
         sound = record {
-          ends = λ room c e. subst (λ (r : Ran). End (read s .edition) (runNumber (r .answer))) (sym q) (demand3 .ends s room c f args e allowance x y);
+          ends = λ room c e. subst (λ (r : Ran). End (read s .edition) (runNumber (r .answer))) (sym q) (demand3 .ends s room c f args scan e allowance x y);
           kept = λ room c e l. demand3 .kept s room c f args e x y l;
         };
         left = λ e l. (run (read s) (capacity x) allowance 0 (firstState s f args y), demand3 .leaves (read s) (capacity x) (firstState s f args y) allowance, q ∙ begun e l);
@@ -141,11 +141,11 @@ module _ (s : List ℕ) (f : ℕ) (args : Lent) (allowance : ℕ) (x : Lent) (y 
       (answered-ends o (o .number) refl steps height) in
       record { number-is = en ∙ z .number-is; stack-is = z .stack-is; heap-is = z .heap-is; steps-is = es ∙ z .steps-is; height-is = eh ∙ z .height-is }
 
-  pub host-run-keeps : (a : RunAnswer) (x′ : Lent) (y′ : LentHeap) → RunKeeps s f args allowance x y a x′ y′
+  pub host-run-keeps : (a : RunAnswer) (x′ : Lent) (y′ : LentHeap) → RunKeeps s f args scan allowance x y a x′ y′
       → (number steps steps′ height height′ : ℕ) → number ≡ runNumber a → steps′ ≡ stepsAfter a steps → height′ ≡ heightAfter a height
-      → HostRunKeeps s f args allowance x y steps height number x′ y′ steps′ height′
+      → HostRunKeeps s f args scan allowance x y steps height number x′ y′ steps′ height′
   host-run-keeps a x′ y′ k number steps steps′ height height′ en es eh =
-      let ea : a ≡ runModule s f args allowance x y .answer = ap (λ (r : Ran). r .answer) (k .same) in
+      let ea : a ≡ runModule s f args scan allowance x y .answer = ap (λ (r : Ran). r .answer) (k .same) in
       record {
         number-is = en ∙ ap runNumber ea;
         stack-is = ap (λ (r : Ran). r .stack) (k .same);
@@ -156,11 +156,11 @@ module _ (s : List ℕ) (f : ℕ) (args : Lent) (allowance : ℕ) (x : Lent) (y 
             subst (λ (z : RunAnswer). ValueIs z number height′ x′) ea
             (subst (λ (z : ℕ). ValueIs a z height′ x′) (sym en) (subst (λ (z : ℕ). ValueIs a (runNumber a) z x′) (sym eh) (k .value height)));
         left = λ e l. let w = k .left e l in (w .0, w .1, ends-as (w .0) a x′ y′ (w .2) number steps steps′ height height′ en es eh);
-        sound = subst (λ (z : ℕ). Sound s f args x y z) (sym en) (k .sound);
+        sound = subst (λ (z : ℕ). Sound s f args scan x y z) (sym en) (k .sound);
       }
 
-  pub host-run-finished : (a : RunAnswer) (x′ : Lent) (y′ : LentHeap) → RunKeeps s f args allowance x y a x′ y′ → (t : Tally) → a ≡ Finished t → (steps height : ℕ)
-      → HostRunKeeps s f args allowance x y steps height 0 x′ y′ (t .steps) (t .height)
+  pub host-run-finished : (a : RunAnswer) (x′ : Lent) (y′ : LentHeap) → RunKeeps s f args scan allowance x y a x′ y′ → (t : Tally) → a ≡ Finished t → (steps height : ℕ)
+      → HostRunKeeps s f args scan allowance x y steps height 0 x′ y′ (t .steps) (t .height)
   host-run-finished a x′ y′ k t e steps height =
       host-run-keeps a x′ y′ k 0 steps (t .steps) height (t .height) (sym (ap runNumber e)) (sym (ap (λ (z : RunAnswer). stepsAfter z steps) e))
       (sym (ap (λ (z : RunAnswer). heightAfter z height) e))

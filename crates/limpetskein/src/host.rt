@@ -7,6 +7,7 @@ ghost use Rattle.rules.specs.Host.{bodyAfter, stepsAfter, heightAfter, writtenA
 ghost use Rattle.limpetskein.specs.Promises.{lentOf, lentHeapOf, HostCheckKeeps, HostRunKeeps};
 ghost use Rattle.limpetskein.specs.WritePromises.{HostWriteKeeps};
 ghost use Rattle.limpetskein.specs.FormulaPromises.{HostFormulaKeeps};
+ghost use Rattle.limpetskein.specs.ConvertPromises.{HostUpKeeps, HostDownKeeps};
 use rules::CheckAnswer;
 use rules::RunAnswer;
 use rules::WriteAnswer;
@@ -62,6 +63,7 @@ pub extern "C" fn limpetskein_run(
     function: u32,
     arg_types: &[u8],
     arg_payloads: &[u8],
+    profile: u32,
     allowance: u64,
     payloads: &mut [u8],
     types: &mut [u8],
@@ -70,13 +72,14 @@ pub extern "C" fn limpetskein_run(
     steps: &mut u64,
     height: &mut u64,
 ) -> u32
-    ensures { λ r. ⌜ HostRunKeeps (now (file .entry)) function (lentOf (now («arg_payloads» .entry)) (now («arg_types» .entry))) allowance (lentOf (now (payloads .entry)) (now (types .entry))) (lentHeapOf (now (heap .entry)) (now (blocks .entry))) (now (steps .entry)) (now (height .entry)) r (lentOf (now (payloads .exit)) (now (types .exit))) (lentHeapOf (now (heap .exit)) (now (blocks .exit))) (now (steps .exit)) (now (height .exit)) ⌝ }
+    ensures { λ r. ⌜ HostRunKeeps (now (file .entry)) function (lentOf (now («arg_payloads» .entry)) (now («arg_types» .entry))) profile allowance (lentOf (now (payloads .entry)) (now (types .entry))) (lentHeapOf (now (heap .entry)) (now (blocks .entry))) (now (steps .entry)) (now (height .entry)) r (lentOf (now (payloads .exit)) (now (types .exit))) (lentHeapOf (now (heap .exit)) (now (blocks .exit))) (now (steps .exit)) (now (height .exit)) ⌝ }
 {
     let answer = crate::run(
         file,
         function,
         arg_payloads,
         arg_types,
+        profile,
         allowance,
         payloads,
         types,
@@ -138,5 +141,23 @@ pub extern "C" fn limpetskein_formula(line: &[u8], out: &mut [u8], written: &mut
     ensures { λ r. ⌜ HostFormulaKeeps (now (line .entry)) (now (out .entry)) (now (written .entry)) r (now (out .exit)) (now (written .exit)) ⌝ }
 {
     let answer = crate::formula(line, out);
+    write_number(answer, written)
+}
+
+// `to_edition_4` for C.
+#[no_mangle]
+pub extern "C" fn limpetskein_to_edition_4(file: &[u8], out: &mut [u8], written: &mut u64) -> u32
+    ensures { λ r. ⌜ HostUpKeeps (now (file .entry)) (now (out .entry)) (now (written .entry)) r (now (out .exit)) (now (written .exit)) ⌝ }
+{
+    let answer = crate::to_edition_4(file, out);
+    write_number(answer, written)
+}
+
+// `to_edition_3` for C.
+#[no_mangle]
+pub extern "C" fn limpetskein_to_edition_3(file: &[u8], out: &mut [u8], written: &mut u64) -> u32
+    ensures { λ r. ⌜ HostDownKeeps (now (file .entry)) (now (out .entry)) (now (written .entry)) r (now (out .exit)) (now (written .exit)) ⌝ }
+{
+    let answer = crate::to_edition_3(file, out);
     write_number(answer, written)
 }

@@ -1,9 +1,11 @@
-// The public library: the check of any bytes, the run of any body of any bytes, the writer of modules, and the compiler of formula lines.
+// The public library: the check of any bytes, the run of any body of any bytes, the writer of modules, the conversions between
+// editions 3 and 4, and the compiler of formula lines.
 ghost use Rattle.rules.specs.Tables.{tables};
 ghost use Rattle.limpetskein.specs.Promises.{lentOf, lentHeapOf, CheckKeeps, RunKeeps};
 ghost use Rattle.rules.specs.Grammar.{StopsAt};
 ghost use Rattle.limpetskein.specs.WritePromises.{WriteKeeps};
 ghost use Rattle.limpetskein.specs.FormulaPromises.{FormulaKeeps};
+ghost use Rattle.limpetskein.specs.ConvertPromises.{UpKeeps, DownKeeps};
 use rules::CheckAnswer;
 use rules::RunAnswer;
 use rules::WriteAnswer;
@@ -17,25 +19,28 @@ pub fn check(file: &[u8], room: &mut [u8]) -> CheckAnswer
     checker::check(file, room)
 }
 
-// The run of a body of any bytes on the lent arguments, slots and heap: cells, and entries of blocks. ffffffff names the entry.
+// The run of a body of any bytes on the lent arguments, for a scan of this profile, on the lent slots and heap: cells, and entries
+// of blocks. ffffffff names the entry.
 pub fn run(
     file: &[u8],
     function: u32,
     arg_payloads: &[u8],
     arg_types: &[u8],
+    profile: u32,
     allowance: u64,
     payloads: &mut [u8],
     types: &mut [u8],
     heap: &mut [u8],
     blocks: &mut [u8],
 ) -> RunAnswer
-    ensures { λ r. ⌜ RunKeeps (now (file .entry)) function (lentOf (now («arg_payloads» .entry)) (now («arg_types» .entry))) allowance (lentOf (now (payloads .entry)) (now (types .entry))) (lentHeapOf (now (heap .entry)) (now (blocks .entry))) r (lentOf (now (payloads .exit)) (now (types .exit))) (lentHeapOf (now (heap .exit)) (now (blocks .exit))) ⌝ }
+    ensures { λ r. ⌜ RunKeeps (now (file .entry)) function (lentOf (now («arg_payloads» .entry)) (now («arg_types» .entry))) profile allowance (lentOf (now (payloads .entry)) (now (types .entry))) (lentHeapOf (now (heap .entry)) (now (blocks .entry))) r (lentOf (now (payloads .exit)) (now (types .exit))) (lentHeapOf (now (heap .exit)) (now (blocks .exit))) ⌝ }
 {
     runs::run(
         file,
         function,
         arg_payloads,
         arg_types,
+        profile,
         allowance,
         payloads,
         types,
@@ -67,6 +72,20 @@ pub fn write(
         entry,
         out,
     )
+}
+
+// Writes the module of edition 4 of a module of edition 3, its functions for any profile, or refuses and changes nothing.
+pub fn to_edition_4(file: &[u8], out: &mut [u8]) -> WriteAnswer
+    ensures { λ r. ⌜ UpKeeps (now (file .entry)) (now (out .entry)) r (now (out .exit)) ⌝ }
+{
+    convert::to_edition_4(file, out)
+}
+
+// Writes the module of edition 3 of a module of edition 4, or refuses and changes nothing.
+pub fn to_edition_3(file: &[u8], out: &mut [u8]) -> WriteAnswer
+    ensures { λ r. ⌜ DownKeeps (now (file .entry)) (now (out .entry)) r (now (out .exit)) ⌝ }
+{
+    convert::to_edition_3(file, out)
 }
 
 // Compiles a formula line and writes its module into the lent output, or refuses and changes nothing.

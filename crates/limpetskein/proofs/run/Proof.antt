@@ -22,7 +22,7 @@ same-length-4 : tie.Need-same-length-4
 same-length-4 c = search needs
 
 returns : tie.Need-returns
-returns c = run-keeps _ _ _ _ _ _ _ _ _ ((c .before .before .before .before .before .before .before .before .run) .ensures)
+returns c = run-keeps _ _ _ _ _ _ _ _ _ _ ((c .before .before .before .before .before .before .before .before .run) .ensures)
 
 pub run-spec : {M : Type 1} → statement M
 run-spec =

@@ -29,7 +29,7 @@ same-length-4 : tie.Need-same-length-4
 same-length-4 c = search needs
 
 returns : tie.Need-returns
-returns c = host-run-keeps _ _ _ _ _ _ _ _ _ ((c .before .before .before .before .before .before .before .before .before .before .before .before .run) .ensures) _ _ _ _ _ ((c .stop) .ensures .0) ((c .stop) .ensures .1) ((c .stop) .ensures .2)
+returns c = host-run-keeps _ _ _ _ _ _ _ _ _ _ ((c .before .before .before .before .before .before .before .before .before .before .before .before .run) .ensures) _ _ _ _ _ ((c .stop) .ensures .0) ((c .stop) .ensures .1) ((c .stop) .ensures .2)
 
 same-length-5 : tie.Need-same-length-5
 same-length-5 c = search needs
@@ -44,7 +44,7 @@ same-length-8 : tie.Need-same-length-8
 same-length-8 c = search needs
 
 returns-2 : tie.Need-returns-2
-returns-2 c = host-run-finished _ _ _ _ _ _ _ _ _ ((c .before .before .before .before .before .before .before .before .before .before .before .run) .ensures) _ ((c .before .answer) .given .1) _ _
+returns-2 c = host-run-finished _ _ _ _ _ _ _ _ _ _ ((c .before .before .before .before .before .before .before .before .before .before .before .run) .ensures) _ ((c .before .answer) .given .1) _ _
 
 pub limpetskein-run-spec : {M : Type 1} → statement M
 limpetskein-run-spec =
