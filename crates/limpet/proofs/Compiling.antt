@@ -1,5 +1,5 @@
--- The report of a formula line, from the library's answer.
-use Prim.Native.Nat.{ℕ, _+_, _≤_}
+-- The reports of formula lines and conversions, from the library's answers.
+use Prim.Native.Nat.{ℕ, zero, suc, _+_, _≤_}
 use native.Mathlib.Omega.{arith}
 use mathlib.Core.Path.{_≡_, sym, ap, subst, _∙_}
 use mathlib.Core.Bool.{Bool, true, false, cond}
@@ -12,13 +12,14 @@ use Rattle.rules.specs.declared.WriteAnswer.the-variants.{Unwritten, Written}
 use Rattle.rules.specs.Numbers.{not-in-grammar}
 use Rattle.rules.specs.Grammar.{Tree, depth, StopsAt}
 use Rattle.rules.specs.Reading.{reading}
-use Rattle.rules.specs.Writing.{Wrote, wrote, delivered, fileOf}
+use Rattle.rules.specs.Writing.{Wrote, wrote, delivered, writeWith, fileOf}
+use Rattle.rules.specs.Converting.{fourth, third, refusalIn, downRefusal, toEdition4, toEdition3}
 use Rattle.rules.specs.Formula.{need, formulaTables, compiling, formula}
 use Rattle.rules.specs.Program.{refusedLine, line2}
 use Rattle.limpet.specs.declared.reports.Compiled.{Compiled}
 use Rattle.limpet.specs.declared.reports.Compiled.the-variants.{Module, Refusal}
 use Rattle.limpet.specs.Text.{Adds, Fills}
-use Rattle.limpet.specs.Commands.{Refuses, Reports}
+use Rattle.limpet.specs.Commands.{Refuses, Reports, sizeIn, ReportsLine, convertTo, ReportsConversion}
 
 -- ---- a refusal's text
 
@@ -36,7 +37,7 @@ refused-at line out out′ n k r e s x l =
 -- ---- the length of a module that was written
 
 -- it is no more than the output has
-Holds : Wrote → Type 0
+pub Holds : Wrote → Type 0
 Holds w = (n : ℕ) (out : List ℕ) → wrote (Written n) out ≡ w → n ≤ length out
 
 refusing : (k : ℕ) (out : List ℕ) → Holds (wrote (Unwritten k) out)
@@ -65,24 +66,57 @@ compiling-holds (some t) out =
     either (ltb 16 (depth t)) (wrote (Unwritten 42) out) (cond (ltb 32 (need t)) (wrote (Unwritten 43) out) (delivered (fileOf (formulaTables t)) out)) (refusing 42 out)
     (either (ltb 32 (need t)) (wrote (Unwritten 43) out) (delivered (fileOf (formulaTables t)) out) (refusing 43 out) (delivering (fileOf (formulaTables t)) out))
 
-formula-holds : (line out : List ℕ) → Holds (formula line out)
+pub formula-holds : (line out : List ℕ) → Holds (formula line out)
 unfolding formula
 formula-holds line out = either (ltb 256 (length line)) (wrote (Unwritten 40) out) (compiling (reading line) out) (refusing 40 out) (compiling-holds (reading line) out)
 
+writing-holds : (e : ℕ) (file out : List ℕ) → Holds (writeWith e file out)
+writing-holds zero file out = delivering file out
+writing-holds (suc e) file out = refusing (suc e) out
+
+convert-holds : (up : Bool) (s out : List ℕ) → Holds (convertTo up s out)
+unfolding toEdition4 toEdition3
+convert-holds true s out = writing-holds (refusalIn 3 s) (fourth s) out
+convert-holds false s out = writing-holds (downRefusal s) (third s) out
+
+pub up-is : (up : Bool) (s out out′ : List ℕ) (a : WriteAnswer) → up ≡ true → wrote a out′ ≡ toEdition4 s out → wrote a out′ ≡ convertTo up s out
+up-is up s out out′ a e q = rw e q
+
+pub down-is : (up : Bool) (s out out′ : List ℕ) (a : WriteAnswer) → up ≡ false → wrote a out′ ≡ toEdition3 s out → wrote a out′ ≡ convertTo up s out
+down-is up s out out′ a e q = rw e q
+
 -- ---- the report
 
-pub reports-refusal : (line out out₁ out₂ : List ℕ) (a : WriteAnswer) (k r : ℕ) → wrote a out₁ ≡ formula line out → a ≡ Unwritten k → Refuses line k out₂ r
-    → Reports line out (Refusal r) out₂
-reports-refusal line out out₁ out₂ a k r q e x = (k, sym e ∙ ap (λ (w : Wrote). w .answer) q, x)
+module _ (w : Wrote) (refuses : ℕ → List ℕ → ℕ → Type 0) where
+  pub reports-refusal : (out₁ out₂ : List ℕ) (a : WriteAnswer) (k r : ℕ) → wrote a out₁ ≡ w → a ≡ Unwritten k → refuses k out₂ r → Reports w refuses (Refusal r) out₂
+  reports-refusal out₁ out₂ a k r q e x = (k, sym e ∙ ap (λ (v : Wrote). v .answer) q, x)
 
-pub reports-module : (line out out₁ : List ℕ) (a : WriteAnswer) (n : ℕ) → wrote a out₁ ≡ formula line out → a ≡ Written n → Reports line out (Module n) out₁
-unfolding Holds
-reports-module line out out₁ a n q e =
-    let w : wrote (Written n) out₁ ≡ formula line out = ap (λ (b : WriteAnswer). wrote b out₁) (sym e) ∙ q in (w, formula-holds line out n out₁ w)
+  pub reports-module : Holds w → (out₁ : List ℕ) (a : WriteAnswer) (n : ℕ) → wrote a out₁ ≡ w → a ≡ Written n → Reports w refuses (Module n) out₁
+  unfolding Holds
+  reports-module holds out₁ a n q e = let v : wrote (Written n) out₁ ≡ w = ap (λ (b : WriteAnswer). wrote b out₁) (sym e) ∙ q in (v, holds n out₁ v)
 
--- what is written fits the buffer
-pub module-fits : (line out out′ : List ℕ) (a : Compiled) (n : ℕ) → a ≡ Module n → Reports line out a out′ → n ≤ length out′
-module-fits line out out′ a n e x = let y : Reports line out (Module n) out′ = subst (λ (z : Compiled). Reports line out z out′) e x in y .1
+  -- what is used of the buffer fits it
+  size-fits : ((k r : ℕ) (out : List ℕ) → refuses k out r → r ≤ length out) → (a : Compiled) (out′ : List ℕ) → Reports w refuses a out′ → sizeIn a ≤ length out′
+  size-fits fits (Module n) out′ x = x .1
+  size-fits fits (Refusal n) out′ x = fits (x .0) n out′ (x .2)
 
-pub refusal-fits : (line out out′ : List ℕ) (a : Compiled) (n : ℕ) → a ≡ Refusal n → Reports line out a out′ → n ≤ length out′
-refusal-fits line out out′ a n e x = let y : Reports line out (Refusal n) out′ = subst (λ (z : Compiled). Reports line out z out′) e x in y .2 .fits
+-- a line's report
+pub line-fits : (line out : List ℕ) (a : Compiled) (out′ : List ℕ) → ReportsLine line out a out′ → sizeIn a ≤ length out′
+line-fits line out a out′ x = size-fits (formula line out) (Refuses line) (λ k r o (y : Refuses line k o r). y .fits) a out′ x
+
+-- a conversion's, and that it fits the buffer
+module _ (up : Bool) (s out : List ℕ) where
+  pub conversion-refused : (out₁ out₂ : List ℕ) (a : WriteAnswer) (k r : ℕ) → wrote a out₁ ≡ convertTo up s out → a ≡ Unwritten k → Fills (refusedLine k) out₂ r
+      → ReportsConversion up s out (Refusal r) out₂ × (r ≤ length out₂)
+  conversion-refused out₁ out₂ a k r q e x = (reports-refusal (convertTo up s out) (λ j o i. Fills (refusedLine j) o i) out₁ out₂ a k r q e x, x .fits)
+
+  pub conversion-written : (out₁ : List ℕ) (a : WriteAnswer) (n : ℕ) → wrote a out₁ ≡ convertTo up s out → a ≡ Written n
+      → ReportsConversion up s out (Module n) out₁ × (n ≤ length out₁)
+  conversion-written out₁ a n q e =
+      let w = reports-module (convertTo up s out) (λ j o i. Fills (refusedLine j) o i) (convert-holds up s out) out₁ a n q e in (w, w .1)
+
+pub module-size : (a : Compiled) (n m : ℕ) → a ≡ Module n → sizeIn a ≤ m → n ≤ m
+module-size a n m e h = subst (λ (z : Compiled). sizeIn z ≤ m) e h
+
+pub refusal-size : (a : Compiled) (n m : ℕ) → a ≡ Refusal n → sizeIn a ≤ m → n ≤ m
+refusal-size a n m e h = subst (λ (z : Compiled). sizeIn z ≤ m) e h

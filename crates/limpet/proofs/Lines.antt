@@ -15,7 +15,7 @@ use Rattle.rules.specs.ModuleFile.{read}
 use Rattle.rules.specs.Stack.{Lent, capacity, typeBytes, typesAfter}
 use Rattle.rules.specs.Machine.{Outcome}
 use Rattle.rules.specs.Heap.{LentHeap, heapCapacity}
-use Rattle.rules.specs.Answers.{check, runRefusal, arguments, answered, outcomeOf, Ran, ran, runModule, runWith}
+use Rattle.rules.specs.Answers.{check, scanRefusal, arguments, answered, outcomeOf, Ran, ran, runModule, runWith}
 use Rattle.rules.specs.Host.{heightAfter}
 use Rattle.rules.specs.Program.{inputLimit, line3, slotLines, runLines, ranLines, checkedLines, programStack, programHeap, printedRun, printed}
 use Rattle.limpet.specs.Text.{Adds, Fills, lentOf, tallyLines, acceptedLines}
@@ -48,10 +48,10 @@ module _ (x : Lent) (enough : capacity x ≡ length (x .types)) where
       length-append (typeBytes st) (zeros (capacity x - length st) ++ drop (capacity x) (x .types)) in
       let b : length (typeBytes st) ≡ length st = length-types st in omega arith
 
-  pub height-fits : (s : List ℕ) (f : ℕ) (args : Lent) (n : ℕ) (y : LentHeap) (a : RunAnswer) (x′ : Lent) (y′ : LentHeap) → _≡_ {A = Ran} (record { answer = a; stack = x′; heap = y′ }) (runModule s f args n x y)
+  pub height-fits : (s : List ℕ) (f : ℕ) (args : Lent) (scan n : ℕ) (y : LentHeap) (a : RunAnswer) (x′ : Lent) (y′ : LentHeap) → _≡_ {A = Ran} (record { answer = a; stack = x′; heap = y′ }) (runModule s f args scan n x y)
       → length (x′ .types) ≡ length (x .types) → heightAfter a 0 ≤ length (x .types)
   unfolding runModule
-  height-fits s f args n y a x′ y′ q l = go (runRefusal s f args) q
+  height-fits s f args scan n y a x′ y′ q l = go (scanRefusal s f args scan) q
     where
       of : (k : ℕ) (t : Tally) → heightAfter (answered k t) 0 ≡ t .height
       of zero t = refl
@@ -79,27 +79,27 @@ all-used : (p t : List ℕ) → length p ≡ 32768 → length t ≡ 4096 → cap
 all-used p t lp lt = rw (lp, lt) refl
 
 -- the program's own slots
-pub height-low : (s : List ℕ) (f : ℕ) (args : Lent) (n : ℕ) (a : RunAnswer) (p t : List ℕ) (y′ : LentHeap)
-    → _≡_ {A = Ran} (record { answer = a; stack = lentOf p t; heap = y′ }) (runModule s f args n programStack programHeap) → length t ≡ length (zeros 4096) → heightAfter a 0 ≤ 4096
-height-low s f args n a p t y′ q l =
+pub height-low : (s : List ℕ) (f : ℕ) (args : Lent) (scan n : ℕ) (a : RunAnswer) (p t : List ℕ) (y′ : LentHeap)
+    → _≡_ {A = Ran} (record { answer = a; stack = lentOf p t; heap = y′ }) (runModule s f args scan n programStack programHeap) → length t ≡ length (zeros 4096) → heightAfter a 0 ≤ 4096
+height-low s f args scan n a p t y′ q l =
     let lp : length (zeros 32768) ≡ 32768 = length-replicate {A = ℕ} 32768 0 in
     let lt : length (zeros 4096) ≡ 4096 = length-replicate {A = ℕ} 4096 0 in
-    let h : heightAfter a 0 ≤ length (zeros 4096) = height-fits programStack (all-used (zeros 32768) (zeros 4096) lp lt) s f args n programHeap a (lentOf p t) y′ q l in omega arith
+    let h : heightAfter a 0 ≤ length (zeros 4096) = height-fits programStack (all-used (zeros 32768) (zeros 4096) lp lt) s f args scan n programHeap a (lentOf p t) y′ q l in omega arith
 
 -- ---- the whole
 
-pub accepted-fills : (s : List ℕ) (f : ℕ) (args : Lent) (p t out : List ℕ) (r : ℕ) (a : RunAnswer) (y′ : LentHeap)
-    → _≡_ {A = Ran} (record { answer = a; stack = lentOf p t; heap = y′ }) (runModule s f args 1000000 programStack programHeap)
-    → Fills (runLines a (lentOf p t)) out r → Fills (acceptedLines s f args) out r
-accepted-fills s f args p t out r a y′ q x = subst (λ (z : Ran). Fills (ranLines z) out r) q x
+pub accepted-fills : (s : List ℕ) (f : ℕ) (args : Lent) (scan : ℕ) (p t out : List ℕ) (r : ℕ) (a : RunAnswer) (y′ : LentHeap)
+    → _≡_ {A = Ran} (record { answer = a; stack = lentOf p t; heap = y′ }) (runModule s f args scan 1000000 programStack programHeap)
+    → Fills (runLines a (lentOf p t)) out r → Fills (acceptedLines s f args scan) out r
+accepted-fills s f args scan p t out r a y′ q x = subst (λ (z : Ran). Fills (ranLines z) out r) q x
 
 -- the lines of an answer of the check whose case is known
-pub checked-fills : (s : List ℕ) (f : ℕ) (args : Lent) (out : List ℕ) (r : ℕ) (a b : CheckAnswer) → a ≡ check s (zeros 16384) .answer → a ≡ b
-    → Fills (checkedLines s f args b) out r → Fills (printedRun s f args) out r
+pub checked-fills : (s : List ℕ) (f : ℕ) (args : Lent) (scan : ℕ) (out : List ℕ) (r : ℕ) (a b : CheckAnswer) → a ≡ check s (zeros 16384) .answer → a ≡ b
+    → Fills (checkedLines s f args scan b) out r → Fills (printedRun s f args scan) out r
 unfolding printedRun
-checked-fills s f args out r a b e d x = subst (λ (z : CheckAnswer). Fills (checkedLines s f args z) out r) (sym d ∙ e) x
+checked-fills s f args scan out r a b e d x = subst (λ (z : CheckAnswer). Fills (checkedLines s f args scan z) out r) (sym d ∙ e) x
 
 -- no more than the limit is lent
-pub entry-fills : (s out : List ℕ) (r : ℕ) → length s ≤ inputLimit → Fills (printedRun s 0xffffffff (lentOf [] [])) out r → Fills (printed s) out r
+pub entry-fills : (s out : List ℕ) (r : ℕ) → length s ≤ inputLimit → Fills (printedRun s 0xffffffff (lentOf [] []) 0) out r → Fills (printed s) out r
 unfolding printed
-entry-fills s out r h x = subst (λ (z : List ℕ). Fills (printedRun z 0xffffffff (lentOf [] [])) out r) (sym (take-all inputLimit s h)) x
+entry-fills s out r h x = subst (λ (z : List ℕ). Fills (printedRun z 0xffffffff (lentOf [] []) 0) out r) (sym (take-all inputLimit s h)) x

@@ -1,19 +1,22 @@
--- What the desk's commands promise: numbers among their arguments, ints lent to a run, and the report of a formula line.
+-- What the desk's commands promise: numbers among their arguments, ints lent to a run, and the reports of formula lines and
+-- conversions.
 use Prim.Native.Nat.{ℕ, _+_, _*_, _≤_}
 use mathlib.Core.Path.{_≡_}
+use mathlib.Core.Bool.{Bool, true, false}
 use mathlib.Core.List.{List, [], _∷_, _++_}
 use lib.ListN.{length, take}
 use Rattle.limpet.specs.declared.numbers.Parsed.{Parsed}
 use Rattle.limpet.specs.declared.numbers.Parsed.the-variants.{Number, Nothing}
 use Rattle.limpet.specs.declared.reports.Compiled.{Compiled}
 use Rattle.limpet.specs.declared.reports.Compiled.the-variants.{Module, Refusal}
-use Rattle.limpet.specs.Text.{lentOf}
+use Rattle.limpet.specs.Text.{Fills, lentOf}
 use Rattle.rules.specs.Numbers.{not-in-grammar}
 use Rattle.rules.specs.Files.{lent}
 use Rattle.rules.specs.Program.{line2, refusedLine}
 use Rattle.rules.specs.Grammar.{Numeral, StopsAt}
 use Rattle.rules.specs.declared.WriteAnswer.the-variants.{Unwritten, Written}
-use Rattle.rules.specs.Writing.{wrote}
+use Rattle.rules.specs.Writing.{Wrote, wrote}
+use Rattle.rules.specs.Converting.{toEdition4, toEdition3}
 use Rattle.rules.specs.Formula.{ints, formula}
 
 -- what a text spells: the grammar's numeral, up to the highest int; or nothing
@@ -41,7 +44,25 @@ pub record Refuses (line : List ℕ) (number : ℕ) (out : List ℕ) (r : ℕ) :
   pub alone : (number ≡ not-in-grammar → ⊥) → take r out ≡ refusedLine number
   pub placed : number ≡ not-in-grammar → (k : ℕ) × StopsAt line k × (take r out ≡ line2 number k)
 
--- the first n bytes of the buffer are the module of the line, or the text of its refusal
-abbrev pub Reports : List ℕ → List ℕ → Compiled → List ℕ → Type 0
-Reports line out (Module n) out′ = (wrote (Written n) out′ ≡ formula line out) × (n ≤ length out′)
-Reports line out (Refusal n) out′ = (k : ℕ) × (Unwritten k ≡ formula line out .answer) × Refuses line k out′ n
+-- the first n bytes of the buffer are the module that w has written, or the text of its refusal by number, of which this is true
+abbrev pub Reports : Wrote → (ℕ → List ℕ → ℕ → Type 0) → Compiled → List ℕ → Type 0
+Reports w refuses (Module n) out′ = (wrote (Written n) out′ ≡ w) × (n ≤ length out′)
+Reports w refuses (Refusal n) out′ = (k : ℕ) × (Unwritten k ≡ w .answer) × refuses k out′ n
+
+-- the bytes of the buffer that are used
+abbrev pub sizeIn : Compiled → ℕ
+sizeIn (Module n) = n
+sizeIn (Refusal n) = n
+
+-- of a formula line
+abbrev pub ReportsLine : List ℕ → List ℕ → Compiled → List ℕ → Type 0
+ReportsLine line out = Reports (formula line out) (Refuses line)
+
+-- the conversion to edition 4, or to edition 3
+abbrev pub convertTo : Bool → List ℕ → List ℕ → Wrote
+convertTo true s out = toEdition4 s out
+convertTo false s out = toEdition3 s out
+
+-- of a conversion: a refusal's number alone on a line
+abbrev pub ReportsConversion : Bool → List ℕ → List ℕ → Compiled → List ℕ → Type 0
+ReportsConversion up s out = Reports (convertTo up s out) (λ k out′ r. Fills (refusedLine k) out′ r)

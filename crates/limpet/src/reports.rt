@@ -1,10 +1,13 @@
-// What the program writes, in a lent buffer: the lines of a run, and the module of a formula line or its refusal.
+// What the program writes, in a lent buffer: the lines of a run, and the module of a formula line, a converted module, or a
+// refusal.
 ghost use Prim.Native.Nat.{_≤_};
 ghost use lib.ListN.{length};
+ghost use mathlib.Core.Path.{_≡_};
 ghost use Rattle.rules.specs.Host.{heightAfter};
+ghost use Rattle.rules.specs.Writing.{wrote};
 ghost use Rattle.rules.specs.Program as Program;
 ghost use Rattle.limpet.specs.Text.{Fills, lentOf, tallyLines, acceptedLines};
-ghost use Rattle.limpet.specs.Commands.{Refuses, Reports};
+ghost use Rattle.limpet.specs.Commands.{Refuses, ReportsLine, sizeIn, convertTo, ReportsConversion};
 use crate::text;
 use rules::CheckAnswer;
 use rules::RunAnswer;
@@ -49,16 +52,17 @@ fn run_text(answer: RunAnswer, p: &[u8], t: &[u8], out: &mut [u8]) -> usize
     }
 }
 
-// The run of a body of an accepted module on 4,096 slots and 1,024 cells.
+// The run of a body of an accepted module, for a scan of this profile, on 4,096 slots and 1,024 cells.
 fn accepted_text(
     file: &[u8],
     function: u32,
     arg_payloads: &[u8],
     arg_types: &[u8],
+    profile: u32,
     out: &mut [u8],
 ) -> usize
     requires { ⌜ 172095 ≤ length (now out) ⌝ }
-    ensures { λ r. ⌜ Fills (acceptedLines (now (file .entry)) function (lentOf (now («arg_payloads» .entry)) (now («arg_types» .entry)))) (now (out .exit)) r ⌝ }
+    ensures { λ r. ⌜ Fills (acceptedLines (now (file .entry)) function (lentOf (now («arg_payloads» .entry)) (now («arg_types» .entry))) profile) (now (out .exit)) r ⌝ }
 {
     let mut payloads = [0u8; 32768];
     let mut types = [0u8; 4096];
@@ -69,6 +73,7 @@ fn accepted_text(
         function,
         arg_payloads,
         arg_types,
+        profile,
         ALLOWANCE,
         &mut payloads,
         &mut types,
@@ -78,23 +83,27 @@ fn accepted_text(
     run_text(answer, &payloads, &types, out)
 }
 
-// What is printed for the run of a body of this file on these arguments: answers how many bytes of `out` it is.
+// What is printed for the run of a body of this file on these arguments, for a scan of this profile: answers how many bytes of
+// `out` it is.
 pub fn run_report(
     file: &[u8],
     function: u32,
     arg_payloads: &[u8],
     arg_types: &[u8],
+    profile: u32,
     out: &mut [u8],
 ) -> usize
     requires { ⌜ 172095 ≤ length (now out) ⌝ }
-    ensures { λ r. ⌜ Fills (Program.printedRun (now (file .entry)) function (lentOf (now («arg_payloads» .entry)) (now («arg_types» .entry)))) (now (out .exit)) r ⌝ }
+    ensures { λ r. ⌜ Fills (Program.printedRun (now (file .entry)) function (lentOf (now («arg_payloads» .entry)) (now («arg_types» .entry))) profile) (now (out .exit)) r ⌝ }
 {
     let mut room = [0u8; 16384];
     let answer = limpetskein::check(file, &mut room);
     match answer {
         CheckAnswer::Refused(n) => number_text(n as u64, out),
         CheckAnswer::Untyped(_body) => number_text(NO_TYPING, out),
-        CheckAnswer::Accepted => accepted_text(file, function, arg_payloads, arg_types, out),
+        CheckAnswer::Accepted => {
+            accepted_text(file, function, arg_payloads, arg_types, profile, out)
+        }
     }
 }
 
@@ -105,7 +114,7 @@ pub fn report(input: &[u8], out: &mut [u8]) -> usize
     ensures { λ r. ⌜ Fills (Program.printed (now (input .entry))) (now (out .exit)) r ⌝ }
 {
     let none = &input[0..0];
-    run_report(input, ENTRY, none, none, out)
+    run_report(input, ENTRY, none, none, 0, out)
 }
 
 // What a buffer holds: a module, for standard output, or a refusal, for standard error.
@@ -129,11 +138,33 @@ fn refusal_text(line: &[u8], number: u64, out: &mut [u8]) -> usize
 // The module of a formula line, or its refusal.
 pub fn formula_report(line: &[u8], out: &mut [u8]) -> Compiled
     requires { ⌜ 42 ≤ length (now out) ⌝ }
-    ensures { λ r. ⌜ Reports (now (line .entry)) (now (out .entry)) r (now (out .exit)) ⌝ }
+    ensures { λ r. ⌜ ReportsLine (now (line .entry)) (now (out .entry)) r (now (out .exit)) ⌝ }
 {
     let answer = limpetskein::formula(line, out);
     match answer {
         WriteAnswer::Unwritten(n) => Compiled::Refusal(refusal_text(line, n as u64, out)),
+        WriteAnswer::Written(n) => Compiled::Module(n as usize),
+    }
+}
+
+// A file in edition 4, or in edition 3.
+fn convert(up: bool, file: &[u8], out: &mut [u8]) -> WriteAnswer
+    ensures { λ r. ⌜ wrote r (now (out .exit)) ≡ convertTo up (now (file .entry)) (now (out .entry)) ⌝ }
+{
+    if up {
+        return limpetskein::to_edition_4(file, out);
+    }
+    limpetskein::to_edition_3(file, out)
+}
+
+// The module in edition 4 or 3, or its refusal.
+pub fn convert_report(up: bool, file: &[u8], out: &mut [u8]) -> Compiled
+    requires { ⌜ 21 ≤ length (now out) ⌝ }
+    ensures { λ r. ⌜ ReportsConversion up (now (file .entry)) (now (out .entry)) r (now (out .exit)) × (sizeIn r ≤ length (now (out .exit))) ⌝ }
+{
+    let answer = convert(up, file, out);
+    match answer {
+        WriteAnswer::Unwritten(n) => Compiled::Refusal(number_text(n as u64, out)),
         WriteAnswer::Written(n) => Compiled::Module(n as usize),
     }
 }

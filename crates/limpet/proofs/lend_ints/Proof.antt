@@ -10,10 +10,10 @@ use Rattle.limpet.proofs.lend_ints.Statement.{statement}
 use Rattle.limpet.proofs.lend_ints.Tie as tie
 
 abbrev Inv-loop : tie.InvT-loop
-Inv-loop count payloads₀ types₀ k₀ payloads types k = (k ≤ count) × (length payloads ≡ length payloads₀) × (length types ≡ length types₀) × LendsInts k payloads types
+Inv-loop from count payloads₀ types₀ k₀ payloads types k = (k ≤ count) × (length payloads ≡ length payloads₀) × (length types ≡ length types₀) × LendsInts k payloads types
 
 abbrev μ-loop : tie.MeasureT-loop
-μ-loop count payloads₀ types₀ k₀ payloads types k = count - k
+μ-loop from count payloads₀ types₀ k₀ payloads types k = count - k
 
 loop-holds : tie.Need-loop-holds Inv-loop μ-loop
 loop-holds c = (omega arith, refl, refl, lends-none _ _)

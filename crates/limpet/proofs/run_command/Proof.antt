@@ -20,6 +20,9 @@ enum-told c = search needs
 returns-2 : tie.Need-returns-2
 returns-2 c = search needs
 
+add-lend-ints : tie.Need-add-lend-ints
+add-lend-ints c = search needs
+
 slice-aggregate-lend-ints : tie.Need-slice-aggregate-lend-ints
 slice-aggregate-lend-ints c = search needs
 
@@ -39,13 +42,13 @@ array-share-prefix-payloads : tie.Need-array-share-prefix-payloads
 array-share-prefix-payloads c = search needs
 
 slice-aggregate-print-run : tie.Need-slice-aggregate-print-run
-slice-aggregate-print-run c = cut-of 128 _ _ (c .before .before .before .before .lend-ints .kept .1 .0) (omega (arith, c .before .before .before .before .before .before .before .before .before .before .before .if1 .left))
+slice-aggregate-print-run c = cut-of 128 _ _ (c .before .before .before .before .lend-ints .kept .1 .1 .0) (omega (arith, c .before .before .before .before .before .before .before .before .before .before .before .if1 .left))
 
 array-share-prefix-types : tie.Need-array-share-prefix-types
 array-share-prefix-types c = search needs
 
 slice-aggregate-print-run-2 : tie.Need-slice-aggregate-print-run-2
-slice-aggregate-print-run-2 c = cut-of 16 _ _ (c .before .before .before .before .before .lend-ints .kept .1 .1 .0) (c .before .before .before .before .before .before .before .before .before .before .before .before .if1 .left)
+slice-aggregate-print-run-2 c = cut-of 16 _ _ (c .before .before .before .before .before .lend-ints .kept .1 .1 .1 .0) (c .before .before .before .before .before .before .before .before .before .before .before .before .if1 .left)
 
 print-run-requires : tie.Need-print-run-requires
 print-run-requires c κs = search needs
@@ -62,6 +65,7 @@ run-command-spec =
     enum-known-function
     enum-told
     returns-2
+    add-lend-ints
     slice-aggregate-lend-ints
     slice-aggregate-lend-ints-2
     lend-ints-requires

@@ -29,13 +29,13 @@ slice-aggregate-run-text-2 : tie.Need-slice-aggregate-run-text-2
 slice-aggregate-run-text-2 c = search needs
 
 run-text-requires : tie.Need-run-text-requires
-run-text-requires c κs = let called = (c .before .before .before .before .before .before .before .run) in (as-long 32768 (called .last .1 .1 .1 .1 .1 .0) (called .kept .1 .1 .1 .1 .1 .0), as-long 4096 (called .last .1 .1 .1 .1 .1 .1 .0) (called .kept .1 .1 .1 .1 .1 .1 .0), (c .before .before .before .before .before .before .before .before .before .before .before .before .before .before .before .before .pre), height-low _ _ _ _ _ _ _ _ (called .ensures .same) (called .kept .1 .1 .1 .1 .1 .1 .0))
+run-text-requires c κs = let called = (c .before .before .before .before .before .before .before .run) in (as-long 32768 (called .last .1 .1 .1 .1 .1 .1 .0) (called .kept .1 .1 .1 .1 .1 .1 .0), as-long 4096 (called .last .1 .1 .1 .1 .1 .1 .1 .0) (called .kept .1 .1 .1 .1 .1 .1 .1 .0), (c .before .before .before .before .before .before .before .before .before .before .before .before .before .before .before .before .pre), height-low _ _ _ _ _ _ _ _ _ (called .ensures .same) (called .kept .1 .1 .1 .1 .1 .1 .1 .0))
 
 same-length : tie.Need-same-length
 same-length c = search needs
 
 returns : tie.Need-returns
-returns c = accepted-fills _ _ _ _ _ _ _ _ _ ((c .before .before .before .before .before .before .before .before .before .before .run) .ensures .same) ((c .before .before .run-text) .ensures)
+returns c = accepted-fills _ _ _ _ _ _ _ _ _ _ ((c .before .before .before .before .before .before .before .before .before .before .run) .ensures .same) ((c .before .before .run-text) .ensures)
 
 pub accepted-text-spec : {M : Type 1} → statement M
 accepted-text-spec =

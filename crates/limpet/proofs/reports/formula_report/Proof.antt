@@ -1,6 +1,8 @@
 -- The proof of `limpet::reports::formula_report`.
-use Rattle.limpet.proofs.Compiling.{reports-refusal, reports-module}
+use Rattle.limpet.proofs.Compiling.{formula-holds, reports-refusal, reports-module}
 use borrow.Author.Needs.{needs}
+use Rattle.rules.specs.Formula.{formula}
+use Rattle.limpet.specs.Commands.{Refuses}
 use Rattle.limpet.proofs.reports.formula_report.Statement.{statement}
 use Rattle.limpet.proofs.reports.formula_report.Tie as tie
 
@@ -23,13 +25,13 @@ same-length : tie.Need-same-length
 same-length c = search needs
 
 returns : tie.Need-returns
-returns c = reports-refusal _ _ _ _ _ _ _ (c .before .before .before .before .before .before .before .before .before .formula .ensures .same) (c .before .before .before .before .before .answer .given .1) (c .before .before .refusal-text .ensures)
+returns c = reports-refusal (formula (c .before .before .before .before .before .before .before .before .before .before .before .before .before .args .line .now) (c .before .before .before .before .before .before .before .before .before .before .before .before .before .args .out .now)) (Refuses (c .before .before .before .before .before .before .before .before .before .before .before .before .before .args .line .now)) _ _ _ _ _ (c .before .before .before .before .before .before .before .before .before .formula .ensures .same) (c .before .before .before .before .before .answer .given .1) (c .before .before .refusal-text .ensures)
 
 same-length-2 : tie.Need-same-length-2
 same-length-2 c = search needs
 
 returns-2 : tie.Need-returns-2
-returns-2 c = reports-module _ _ _ _ _ (c .before .before .before .before .before .formula .ensures .same) (c .before .answer2 .given .1)
+returns-2 c = reports-module (formula (c .before .before .before .before .before .before .before .before .before .args .line .now) (c .before .before .before .before .before .before .before .before .before .args .out .now)) (Refuses (c .before .before .before .before .before .before .before .before .before .args .line .now)) (formula-holds _ _) _ _ _ (c .before .before .before .before .before .formula .ensures .same) (c .before .answer2 .given .1)
 
 pub formula-report-spec : {M : Type 1} → statement M
 formula-report-spec =

@@ -37,19 +37,19 @@ same-length : tie.Need-same-length
 same-length c = search needs
 
 returns : tie.Need-returns
-returns c = checked-fills _ _ _ _ _ _ _ (ap (λ (z : Checked). z .answer) (c .before .before .before .before .before .before .before .before .check .ensures .same)) (c .before .before .before .before .before .answer .given .1) (c .before .before .number-text .ensures)
+returns c = checked-fills _ _ _ _ _ _ _ _ (ap (λ (z : Checked). z .answer) (c .before .before .before .before .before .before .before .before .check .ensures .same)) (c .before .before .before .before .before .answer .given .1) (c .before .before .number-text .ensures)
 
 same-length-2 : tie.Need-same-length-2
 same-length-2 c = search needs
 
 returns-2 : tie.Need-returns-2
-returns-2 c = checked-fills _ _ _ _ _ _ _ (ap (λ (z : Checked). z .answer) (c .before .before .before .before .before .before .before .before .check .ensures .same)) (c .before .before .before .before .before .answer2 .given .1) (c .before .before .number-text2 .ensures)
+returns-2 c = checked-fills _ _ _ _ _ _ _ _ (ap (λ (z : Checked). z .answer) (c .before .before .before .before .before .before .before .before .check .ensures .same)) (c .before .before .before .before .before .answer2 .given .1) (c .before .before .number-text2 .ensures)
 
 same-length-3 : tie.Need-same-length-3
 same-length-3 c = search needs
 
 returns-3 : tie.Need-returns-3
-returns-3 c = checked-fills _ _ _ _ _ _ _ (ap (λ (z : Checked). z .answer) (c .before .before .before .before .before .before .before .check .ensures .same)) (c .before .before .before .before .enum-told .given .1) (c .before .before .accepted-text .ensures)
+returns-3 c = checked-fills _ _ _ _ _ _ _ _ (ap (λ (z : Checked). z .answer) (c .before .before .before .before .before .before .before .check .ensures .same)) (c .before .before .before .before .enum-told .given .1) (c .before .before .accepted-text .ensures)
 
 pub run-report-spec : {M : Type 1} → statement M
 run-report-spec =
