@@ -1,4 +1,5 @@
-// Compares the library and the C of baseline on every row and on every formula line, and measures them on every row.
+// Compares the library and the C of baseline on every row, every formula line and some more conversions, and measures
+// them on every row.
 //
 //     bench MODULES [ROUNDS]           times, the smallest of so many rounds
 //     bench MODULES --count            machine instructions by callgrind; 1 if a ratio is over its limit
@@ -17,8 +18,7 @@ enum { SEED = 12345, ROUNDS = 30 };
 
 enum { LIBRARY, BASELINE, SIDES };
 
-static const Side baseline = {baseline_check,   baseline_run,   baseline_write,   baseline_formula,
-                              "baseline_check", "baseline_run", "baseline_write", "baseline_formula"};
+static const Side baseline = SIDE(baseline);
 static const Side *const sides[SIDES] = {[LIBRARY] = &library, [BASELINE] = &baseline};
 
 static File files[ROWS];
@@ -85,6 +85,58 @@ static int compare_rooms(const Line *line) {
     return compare_line(line, length, LIMPETSKEIN_DONE) &&
            compare_line(line, length - 1, LIMPETSKEIN_OUTPUT_TOO_SHORT) &&
            compare_line(line, 0, LIMPETSKEIN_OUTPUT_TOO_SHORT);
+}
+
+static int compare_conversion(const char *name, Kind kind, const File *file, size_t room, uint32_t answer) {
+    for (int s = 0; s < SIDES; s++) {
+        lend(&lent[s]);
+        lent[s].answers = 0;
+        convert(sides[s], kind, file, room, &lent[s]);
+    }
+    return same(groups[kind].name, name, answer);
+}
+
+// What was just converted to this edition gives, converted back, the file's bytes.
+static int compare_back(const char *name, Kind back, const File *file) {
+    File converted;
+    converted.length = lent[BASELINE].written;
+    memcpy(converted.file, lent[BASELINE].out + GUARD, converted.length);
+    if (!compare_conversion(name, back, &converted, file->length, LIMPETSKEIN_DONE))
+        return 0;
+    if (lent[BASELINE].written == file->length && !memcmp(lent[BASELINE].out + GUARD, file->file, file->length))
+        return 1;
+    printf("DIFFERENT in %s, %s: not the bytes that were converted before\n", groups[back].name, name);
+    return 0;
+}
+
+// A row's conversion with room for all, and back; with just the length, with a byte less, and with none; and the other
+// one, which is for another edition.
+static int compare_conversions(int i) {
+    const char *name = rows[i].name;
+    Kind kind = rows[i].kind, other = kind == UP ? DOWN : UP;
+    const File *file = &files[i];
+    if (!compare_conversion(name, kind, file, LIMPETSKEIN_LONGEST_MODULE, LIMPETSKEIN_DONE))
+        return 0;
+    size_t length = lent[BASELINE].written;
+    return compare_back(name, other, file) && compare_conversion(name, kind, file, length, LIMPETSKEIN_DONE) &&
+           compare_conversion(name, kind, file, length - 1, LIMPETSKEIN_OUTPUT_TOO_SHORT) &&
+           compare_conversion(name, kind, file, 0, LIMPETSKEIN_OUTPUT_TOO_SHORT) &&
+           compare_conversion(name, other, file, LIMPETSKEIN_LONGEST_MODULE, LIMPETSKEIN_OTHER_EDITION);
+}
+
+// All of that, before anything is measured.
+static int compare_all(void) {
+    for (int i = 0; i < ROWS; i++) {
+        if (!compare(i) || (converts(&rows[i]) && !compare_conversions(i)))
+            return 0;
+        // a structure has no place in edition 3
+        if (rows[i].kind == HEAP && !compare_conversion(rows[i].name, DOWN, &files[i], 0, LIMPETSKEIN_NOT_IN_EDITION_3))
+            return 0;
+    }
+    for (int i = 0; i < LINES; i++)
+        if (!compare_rooms(&lines[i]))
+            return 0;
+    return 1;
 }
 
 // ---- times
@@ -214,12 +266,8 @@ int main(int argc, char **argv) {
         counted_turn(atoi(argv[3]), atoi(argv[4]));
         return 0;
     }
-    for (int i = 0; i < ROWS; i++)
-        if (!compare(i))
-            return 1;
-    for (int i = 0; i < LINES; i++)
-        if (!compare_rooms(&lines[i]))
-            return 1;
+    if (!compare_all())
+        return 1;
     if (!strcmp(what, "--count")) {
         for (int i = 0; i < ROWS; i++)
             for (int s = 0; s < SIDES; s++)

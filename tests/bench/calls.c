@@ -5,8 +5,7 @@
 #include <string.h>
 #include <time.h>
 
-const Side library = {limpetskein_check,   limpetskein_run,   limpetskein_write,   limpetskein_formula,
-                      "limpetskein_check", "limpetskein_run", "limpetskein_write", "limpetskein_formula"};
+const Side library = SIDE(limpetskein);
 
 static void load_module(const char *directory, const char *name, File *module) {
     char path[1000];
@@ -30,15 +29,17 @@ void load(const char *directory, const Row *row, File *file) {
 const char *called(const Side *side, const Row *row) {
     if (has_line(row))
         return side->formula_name;
+    if (converts(row))
+        return row->kind == UP ? side->up_name : side->down_name;
     return row->kind == CHECK ? side->check_name : row->kind == WRITE ? side->write_name : side->run_name;
 }
 
 void lend(Lent *lent) { memset(lent, 0xA5, sizeof *lent); }
 
-// A run on the row's slots and cells. Where it has no cells, no heap is lent.
+// A run on the row's slots and cells, of a scan of profile 0. Where it has no cells, no heap is lent.
 static void run(const Side *side, const Row *row, const File *module, uint32_t function, const uint8_t *types,
                 const uint8_t *payloads, uint32_t arguments, uint64_t allowance, Lent *lent) {
-    lent->answers |= side->run(module->file, module->length, function, types, arguments, payloads, 8 * arguments,
+    lent->answers |= side->run(module->file, module->length, function, types, arguments, payloads, 8 * arguments, 0,
                                allowance, lent->payloads + GUARD, 8 * row->slots, lent->types + GUARD, row->slots,
                                row->cells ? lent->heap + GUARD : NULL, LIMPETSKEIN_CELL * row->cells,
                                row->cells ? lent->blocks + GUARD : NULL, LIMPETSKEIN_BLOCK * row->cells, &lent->steps,
@@ -57,8 +58,8 @@ static void run_recipe(const Side *side, const Row *row, const File *module, uin
 
 // A run of a function that does not exist: 12, after the whole module was read.
 static void open_only(const Side *side, const File *module, Lent *lent) {
-    lent->answers |= side->run(module->file, module->length, LIMPETSKEIN_ENTRY - 1, NULL, 0, NULL, 0, 1, NULL, 0, NULL,
-                               0, NULL, 0, NULL, 0, &lent->steps, &lent->height);
+    lent->answers |= side->run(module->file, module->length, LIMPETSKEIN_ENTRY - 1, NULL, 0, NULL, 0, 0, 1, NULL, 0,
+                               NULL, 0, NULL, 0, NULL, 0, &lent->steps, &lent->height);
 }
 
 static uint32_t word(const File *module, size_t at) {
@@ -81,6 +82,11 @@ void compile(const Side *side, const File *line, size_t room, Lent *lent) {
     lent->answers |= side->formula(line->file, line->length, lent->out + GUARD, room, &lent->written);
 }
 
+void convert(const Side *side, Kind kind, const File *module, size_t room, Lent *lent) {
+    lent->answers |=
+        (kind == UP ? side->up : side->down)(module->file, module->length, lent->out + GUARD, room, &lent->written);
+}
+
 void turn(const Side *side, const Row *row, const File *file, uint32_t calls, uint64_t allowance, uint32_t seed,
           Lent *lent) {
     lent->answers = 0;
@@ -100,6 +106,10 @@ void turn(const Side *side, const Row *row, const File *file, uint32_t calls, ui
             break;
         case WRITE:
             write_again(side, file, lent);
+            break;
+        case UP:
+        case DOWN:
+            convert(side, row->kind, file, LIMPETSKEIN_LONGEST_MODULE, lent);
             break;
         case FORMULA:
         case REFUSED:

@@ -8,14 +8,24 @@
 #include "lines.h"
 #include "rows.h"
 
-// The four functions, and their names in the program.
+// The six functions, and their names in the program.
 typedef struct {
     __typeof__(limpetskein_check) *check;
     __typeof__(limpetskein_run) *run;
     __typeof__(limpetskein_write) *write;
     __typeof__(limpetskein_formula) *formula;
-    const char *check_name, *run_name, *write_name, *formula_name;
+    __typeof__(limpetskein_to_edition_4) *up;
+    __typeof__(limpetskein_to_edition_3) *down;
+    const char *check_name, *run_name, *write_name, *formula_name, *up_name, *down_name;
 } Side;
+
+// The functions whose names begin with this.
+#define SIDE(name)                                                                                                 \
+    {                                                                                                              \
+        name##_check, name##_run, name##_write, name##_formula, name##_to_edition_4, name##_to_edition_3,          \
+            #name "_check", #name "_run", #name "_write", #name "_formula", #name "_to_edition_4",                 \
+            #name "_to_edition_3"                                                                                  \
+    }
 
 extern const Side library;
 
@@ -53,6 +63,9 @@ void turn(const Side *side, const Row *row, const File *file, uint32_t calls, ui
 
 // A formula line, with so many bytes of output lent.
 void compile(const Side *side, const File *line, size_t room, Lent *lent);
+
+// A conversion of this kind, in the same way.
+void convert(const Side *side, Kind kind, const File *module, size_t room, Lent *lent);
 
 // The thread's own time.
 double seconds(void);

@@ -4,7 +4,7 @@
 
 #include <stdint.h>
 
-typedef enum { RUN, RECIPE, HEAP, CHECK, OPENING, WRITE, FORMULA, REFUSED, KINDS } Kind;
+typedef enum { RUN, RECIPE, HEAP, CHECK, OPENING, WRITE, UP, DOWN, FORMULA, REFUSED, KINDS } Kind;
 
 // What the rows of a kind have in common. limit: the most machine instructions, as a ratio to C. again_limit: the most
 // of a row that is the one before it again, as a ratio to that row; 0 where this has no limit.
@@ -26,7 +26,7 @@ typedef struct {
     uint32_t cells, pairs;
 } Row;
 
-enum { ROWS = 43 };
+enum { ROWS = 51 };
 
 extern const Group groups[KINDS];
 extern const Row rows[ROWS];
@@ -36,6 +36,9 @@ double limit_of(const Row *row);
 
 // Does it compile a formula line?
 int has_line(const Row *row);
+
+// Does it convert a module, from edition 3 to 4 (UP) or from 4 to 3 (DOWN)?
+int converts(const Row *row);
 
 // The most nanoseconds that a formula line may take.
 double most_time(const Row *row);

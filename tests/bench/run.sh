@@ -1,5 +1,5 @@
 #!/bin/sh
-# Measures the library against the C of baseline, through the same four calls, and compares all that comes out.
+# Measures the library against the C of baseline, through the same six calls, and compares all that comes out.
 #
 #     run.sh [--library ARCHIVE] [ROUNDS]     times and ratios
 #     run.sh [--library ARCHIVE] --count      machine instructions; fails where a ratio is over its limit

@@ -1,4 +1,4 @@
-// The C that the library's speed is measured against: the same four calls, the same refusals and the same lent bytes,
+// The C that the library's speed is measured against: the same six calls, the same refusals and the same lent bytes,
 // written to be fast. Nothing is proved of it; tests/run compares it with the second program.
 #ifndef BASELINE_H
 #define BASELINE_H
@@ -9,5 +9,7 @@ __typeof__(limpetskein_check) baseline_check;
 __typeof__(limpetskein_run) baseline_run;
 __typeof__(limpetskein_write) baseline_write;
 __typeof__(limpetskein_formula) baseline_formula;
+__typeof__(limpetskein_to_edition_4) baseline_to_edition_4;
+__typeof__(limpetskein_to_edition_3) baseline_to_edition_3;
 
 #endif

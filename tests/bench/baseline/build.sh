@@ -6,7 +6,7 @@ shift
 here=$(cd "$(dirname "$0")" && pwd)
 mkdir -p "$made"
 rm -f "$made/libbaseline.a"
-for name in reader writer formula checker heap machine; do
+for name in reader writer converter formula checker heap machine; do
     # each instruction keeps its own jump to the next; a formula line has none
     jumps="-fno-gcse -fno-crossjumping -fno-tree-vectorize"
     if [ "$name" = formula ]; then jumps=; fi

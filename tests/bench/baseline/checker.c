@@ -39,7 +39,7 @@ static int type_body(const Module *m, uint8_t *room, uint32_t body, uint32_t sta
     s.bytes[REACHED] = 1;
     uint8_t returns = 0;
     if (body != ENTRY) {
-        const uint8_t *f = m->functions + FUNCTION * body;
+        const uint8_t *f = function_at(m, body);
         returns = f[RETURNS];
         s.bytes[LOCAL_COUNT] = f[PARAMETERS];
         memcpy(s.bytes + LOCAL_TYPES, f + PARAMETER_TYPES, 8);
@@ -206,7 +206,7 @@ static int type_body(const Module *m, uint8_t *room, uint32_t body, uint32_t sta
             n = OPERAND;
             if (n >= m->function_count)
                 FAIL;
-            const uint8_t *f = m->functions + FUNCTION * n;
+            const uint8_t *f = function_at(m, n);
             uint32_t parameters = f[PARAMETERS];
             if (operands < parameters)
                 FAIL;
@@ -312,7 +312,7 @@ uint32_t baseline_check(const uint8_t *module, size_t module_len, uint8_t *room,
         if (b == m.function_count)
             break;
         start = end;
-        end += read32(m.functions + FUNCTION * b + 4);
+        end += read32(function_at(&m, b) + 4);
     }
     for (uint32_t i = 0; i < m.label_count; i++) {
         uint32_t shown = first[read32(m.labels + LABEL * i + 4)];

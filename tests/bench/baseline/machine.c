@@ -45,6 +45,12 @@ static inline uint64_t double_to_long(double v) {
     return (uint64_t)(int64_t)(v - 9223372036854775808.0) ^ (1ull << 63);
 }
 
+// Is a function of edition 4 made for another profile?
+static inline int is_for_another(const uint8_t *function, uint32_t profile) {
+    uint32_t its = read32(function + PROFILE);
+    return its != 0 && its != profile;
+}
+
 // A moment: the body's end, the allowance, else one instruction; its opcode is one, as the reader found.
 #define NEXT                                                  \
     do {                                                      \
@@ -214,10 +220,10 @@ static inline uint64_t double_to_long(double v) {
     }
 
 uint32_t baseline_run(const uint8_t *module, size_t module_len, uint32_t function, const uint8_t *arg_types,
-                      size_t arg_types_len, const uint8_t *arg_payloads, size_t arg_payloads_len, uint64_t allowance,
-                      uint8_t *const payloads, size_t payloads_len, uint8_t *const types, size_t types_len,
-                      uint8_t *heap, size_t heap_len, uint8_t *table, size_t table_len, uint64_t *steps,
-                      uint64_t *height) {
+                      size_t arg_types_len, const uint8_t *arg_payloads, size_t arg_payloads_len, uint32_t profile,
+                      uint64_t allowance, uint8_t *const payloads, size_t payloads_len, uint8_t *const types,
+                      size_t types_len, uint8_t *heap, size_t heap_len, uint8_t *table, size_t table_len,
+                      uint64_t *steps, uint64_t *height) {
     static const void *const instruction[64] = {
         [PUSH] = &&push, [POP] = &&pop, [LOAD] = &&load, [STORE] = &&store, [LEA] = &&lea, [TLOAD] = &&tload,
         [TSTORE] = &&tstore, [COPY] = &&copy, [SWAP] = &&swap, [ADD] = &&add, [SUB] = &&sub, [MUL] = &&mul,
@@ -244,7 +250,7 @@ uint32_t baseline_run(const uint8_t *module, size_t module_len, uint32_t functio
     if (capacity > LIMPETSKEIN_MOST_SLOTS)
         capacity = LIMPETSKEIN_MOST_SLOTS;
     const uint8_t *const code = m.code, *const constants = m.constants;
-    const uint8_t *const functions = m.functions, *const labels = m.labels;
+    const uint8_t *const labels = m.labels;
     const uint32_t constant_count = m.constant_count, function_count = m.function_count, label_count = m.label_count;
 
     // the first frame
@@ -263,7 +269,7 @@ uint32_t baseline_run(const uint8_t *module, size_t module_len, uint32_t functio
     } else {
         if (unlikely(function >= function_count))
             return LIMPETSKEIN_NO_SUCH_FUNCTION;
-        const uint8_t *f = functions + FUNCTION * (size_t)function;
+        const uint8_t *f = function_at(&m, function);
         uint32_t n = f[PARAMETERS], bad = 0;
         if (unlikely(arg_types_len != n || arg_payloads_len != 8 * (size_t)n))
             return LIMPETSKEIN_BAD_ARGUMENTS;
@@ -274,6 +280,8 @@ uint32_t baseline_run(const uint8_t *module, size_t module_len, uint32_t functio
         }
         if (unlikely(bad))
             return LIMPETSKEIN_BAD_ARGUMENTS;
+        if (unlikely(m.edition == 4 && is_for_another(f, profile)))
+            return LIMPETSKEIN_OTHER_PROFILE;
         if (unlikely(n > capacity)) {
             heap_start(&blocks, &m, heap, heap_len, table, table_len);
             answer = LIMPETSKEIN_STACK_OVERFLOW;
@@ -497,7 +505,7 @@ call: {
     uint32_t n = OPERAND;
     if (unlikely(n >= function_count))
         RAISE(FUNCTION_OUTOFRANGE);
-    const uint8_t *f = functions + FUNCTION * (size_t)n;
+    const uint8_t *f = function_at(&m, n);
     uint32_t parameters = f[PARAMETERS];
     if (unlikely((size_t)(tp - first_operand) < parameters))
         goto stack_empty;

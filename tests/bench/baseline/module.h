@@ -1,4 +1,4 @@
-// What reader, writer, checker and machine share: the module file's layout, and a module that was opened.
+// What reader, writer, converter, checker and machine share: the module file's layout, and a module that was opened.
 #ifndef MODULE_H
 #define MODULE_H
 
@@ -18,10 +18,10 @@ enum { MOST_LOCALS = 16, MOST_OPERANDS = 32, MOST_FRAMES = 64 };
 enum { BITMAP = LONGEST_CODE / 64 + 1 };
 
 // Lengths of the file's header and of the records of its sections.
-enum { HEADER = 48, HEADER_4 = 56, CONSTANT = 12, FUNCTION = 20, LABEL = 8, STRUCTURE = 12 };
+enum { HEADER = 48, HEADER_4 = 56, CONSTANT = 12, FUNCTION = 20, FUNCTION_4 = 24, LABEL = 8, STRUCTURE = 12 };
 
-// In a function's record, after its place and its length in the code.
-enum { PARAMETERS = 8, RETURNS = 9, PARAMETER_TYPES = 10 };
+// In a function's record, after its place and its length in the code. Edition 4 has a profile.
+enum { PARAMETERS = 8, RETURNS = 9, PARAMETER_TYPES = 10, PROFILE = 20 };
 
 enum { INT = LIMPETSKEIN_INT, LONG = LIMPETSKEIN_LONG, DOUBLE = LIMPETSKEIN_DOUBLE, POINTER = LIMPETSKEIN_POINTER };
 
@@ -46,6 +46,7 @@ typedef struct {
     uint32_t constant_count, function_count, label_count, code_length, entry_length;
     uint32_t edition, structure_count; // edition 4 has structures
     const uint8_t *structures;
+    uint32_t function_size; // the bytes of a function's record
 } Module;
 
 static inline uint32_t read32(const uint8_t *at) {
@@ -58,6 +59,11 @@ static inline uint64_t read64(const uint8_t *at) {
     uint64_t v;
     memcpy(&v, at, 8);
     return v;
+}
+
+// The record of a function that there is.
+static inline const uint8_t *function_at(const Module *m, uint32_t i) {
+    return m->functions + (size_t)m->function_size * i;
 }
 
 // The cells of a block of this type; 0 where there is no such type.
@@ -75,6 +81,9 @@ static inline int has_bit(const uint64_t *bitmap, uint32_t place) {
 // Refusals 1 to 9, or 0 and the module. starts: BITMAP words to work in. translated: LONGEST_CODE bytes, where the code
 // of an edition 1 module is put in edition 3's numbers.
 uint32_t open_module(const uint8_t *file, size_t length, Module *module, uint64_t *starts, uint8_t *translated);
+
+// Of an edition 4 file with a whole header: refusals 3 to 9, then 18, or 0 and the module, which edition 3 can hold.
+uint32_t open_for_edition_3(const uint8_t *file, size_t length, Module *module, uint64_t *starts);
 
 // Refusals 6 to 9, or 0, of sections within their limits, the entry no longer than the code.
 uint32_t test_sections(const Module *module, uint64_t *starts);

@@ -42,7 +42,7 @@ static INLINE uint32_t test_labels(const Module *m, const uint8_t *starts) {
         if (owner != ENTRY) {
             if (unlikely(owner >= m->function_count))
                 return LIMPETSKEIN_BAD_LABEL;
-            const uint8_t *f = m->functions + FUNCTION * owner;
+            const uint8_t *f = function_at(m, owner);
             from = read32(f);
             to = from + read32(f + 4);
         }
@@ -59,7 +59,7 @@ static INLINE uint32_t walk_code(const Module *m, uint8_t *starts, uint64_t opco
     const uint8_t *at = m->functions;
     if (m->label_count)
         memset(starts, 0, m->code_length);
-    for (uint32_t i = 0;; i++, at += FUNCTION) {
+    for (uint32_t i = 0;; i++, at += m->function_size) {
         while (place < end) {
             uint32_t op = m->code[place];
             if (unlikely(op > last))
@@ -165,7 +165,7 @@ static INLINE uint32_t test_long_code(const Module *m, uint64_t *starts) {
     if (unlikely(!find_starts(m->code, m->code_length, starts)))
         return LIMPETSKEIN_BAD_CODE;
     const uint8_t *at = m->functions;
-    for (uint32_t i = 0; i < m->function_count; i++, at += FUNCTION)
+    for (uint32_t i = 0; i < m->function_count; i++, at += m->function_size)
         if (unlikely(!has_bit(starts, read32(at))))
             return LIMPETSKEIN_BAD_CODE;
     at = m->labels;
@@ -177,7 +177,7 @@ static INLINE uint32_t test_long_code(const Module *m, uint64_t *starts) {
         } else {
             if (unlikely(owner >= m->function_count))
                 return LIMPETSKEIN_BAD_LABEL;
-            const uint8_t *f = m->functions + FUNCTION * owner;
+            const uint8_t *f = function_at(m, owner);
             from = read32(f);
             to = from + read32(f + 4);
         }
@@ -208,7 +208,7 @@ static INLINE uint32_t test_records(const Module *m) {
     // bodies follow each other from the entry's end to the code's
     uint32_t end = m->entry_length, bad = 0;
     const uint8_t *at = m->functions;
-    for (uint32_t i = 0; i < m->function_count; i++, at += FUNCTION) {
+    for (uint32_t i = 0; i < m->function_count; i++, at += m->function_size) {
         uint32_t start = read32(at), body_length = read32(at + 4), parameters = at[PARAMETERS], returns = at[RETURNS];
         uint64_t types = read64(at + PARAMETER_TYPES);
         bad |= (start != end) | (body_length - 1 >= LONGEST_CODE) | (parameters > 8) | (returns > DOUBLE) |
@@ -250,7 +250,7 @@ static INLINE uint32_t test_old_code(const Module *m, uint8_t *translated) {
         memset(starts, 0, m->code_length);
     if (m->code_length)
         memcpy(translated, m->code, m->code_length);
-    for (uint32_t i = 0;; i++, at += FUNCTION) {
+    for (uint32_t i = 0;; i++, at += m->function_size) {
         while (place < end) {
             uint32_t op = m->code[place];
             if (unlikely(op - 1 >= OLD_OPCODES))
@@ -277,7 +277,7 @@ __attribute__((noinline)) uint32_t test_old_sections(Module *m, uint8_t *transla
     if (unlikely(refusal))
         return refusal;
     const uint8_t *at = m->functions;
-    for (uint32_t i = 0; i < m->function_count; i++, at += FUNCTION)
+    for (uint32_t i = 0; i < m->function_count; i++, at += m->function_size)
         if (unlikely(read64(at + PARAMETER_TYPES) & 0x8080808080808080ull))
             return LIMPETSKEIN_BAD_FUNCTION;
     refusal = test_old_code(m, translated);
@@ -323,7 +323,7 @@ __attribute__((noinline)) uint32_t test_new_sections(const Module *m) {
             return LIMPETSKEIN_BAD_CONSTANT;
     uint32_t end = m->entry_length;
     const uint8_t *at = m->functions;
-    for (uint32_t i = 0; i < m->function_count; i++, at += FUNCTION) {
+    for (uint32_t i = 0; i < m->function_count; i++, at += m->function_size) {
         uint32_t body_length = read32(at + 4);
         if (unlikely(read32(at) != end || body_length - 1 >= LONGEST_CODE || !is_good_signature(m, at)))
             return LIMPETSKEIN_BAD_FUNCTION;
@@ -345,17 +345,18 @@ static INLINE uint32_t find_sections(const uint8_t *file, size_t length, uint32_
     uint32_t nc = read32(file + 8), nf = read32(file + 16), nl = read32(file + 24);
     uint32_t code_length = read32(file + 32), entry_length = read32(file + 40);
     uint32_t header = edition == 4 ? HEADER_4 : HEADER, nz = edition == 4 ? read32(file + 48) : 0;
+    uint32_t size = edition == 4 ? FUNCTION_4 : FUNCTION;
     if (unlikely((nc > MOST_CONSTANTS) | (nf > MOST_FUNCTIONS) | (nl > LIMPETSKEIN_MOST_LABELS) |
                  (nz > LIMPETSKEIN_MOST_STRUCTURES) | (code_length > LONGEST_CODE) | (read32(file + 44) != 0)))
         return LIMPETSKEIN_OVER_LIMIT;
-    uint32_t functions = header + CONSTANT * nc, labels = functions + FUNCTION * nf, code_at = labels + LABEL * nl;
+    uint32_t functions = header + CONSTANT * nc, labels = functions + size * nf, code_at = labels + LABEL * nl;
     uint32_t structures = code_at + code_length, structures_at = edition == 4 ? read32(file + 52) : structures;
     if (unlikely((read32(file + 12) != header) | (read32(file + 20) != functions) | (read32(file + 28) != labels) |
                  (read32(file + 36) != code_at) | (structures_at != structures) |
                  (structures + STRUCTURE * nz != length) | (entry_length > code_length)))
         return LIMPETSKEIN_NOT_PACKED;
     *m = (Module){file + header, file + functions, file + labels, file + code_at, nc, nf, nl, code_length,
-                  entry_length,  edition,          nz,            file + structures};
+                  entry_length,  edition,          nz,            file + structures, size};
     return 0;
 }
 
@@ -369,6 +370,28 @@ static __attribute__((noinline)) uint32_t open_new(const uint8_t *file, size_t l
         return LIMPETSKEIN_TOO_SHORT;
     uint32_t refusal = find_sections(file, length, 4, m);
     return unlikely(refusal) ? refusal : test_new_sections(m);
+}
+
+static INLINE uint32_t has_profile(const Module *m) {
+    const uint8_t *at = m->functions;
+    uint32_t profiles = 0;
+    for (uint32_t i = 0; i < m->function_count; i++, at += FUNCTION_4)
+        profiles |= read32(at + PROFILE);
+    return profiles;
+}
+
+// Without structures the records are tested as in edition 3, and so is the code, unless it has an opcode of edition 4.
+uint32_t open_for_edition_3(const uint8_t *file, size_t length, Module *m, uint64_t *starts) {
+    uint32_t refusal = find_sections(file, length, 4, m);
+    if (unlikely(refusal))
+        return refusal;
+    if (likely(!(m->structure_count | has_profile(m)))) {
+        refusal = test_records_and_code(m, starts);
+        if (likely(refusal != LIMPETSKEIN_BAD_CODE))
+            return refusal;
+    }
+    refusal = test_new_sections(m);
+    return refusal ? refusal : LIMPETSKEIN_NOT_IN_EDITION_3;
 }
 
 uint32_t open_module(const uint8_t *file, size_t length, Module *module, uint64_t *starts, uint8_t *translated) {

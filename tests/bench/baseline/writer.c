@@ -1,22 +1,7 @@
 // Writes a module: all tests first, then the header and a copy of each section.
-#include <emmintrin.h>
-
 #include "baseline.h"
+#include "copy.h"
 #include "module.h"
-
-enum { LONG_COPY = 1024 };
-
-// Long copies by 64 bytes: those of the C library may count as many machine instructions as bytes.
-static inline uint8_t *put(uint8_t *to, const uint8_t *from, size_t length) {
-    uint8_t *end = to + length;
-    if (length >= LONG_COPY)
-        for (; length >= 64; length -= 64, from += 64, to += 64)
-            for (int i = 0; i < 64; i += 16)
-                _mm_storeu_si128((__m128i *)(to + i), _mm_loadu_si128((const __m128i *)(from + i)));
-    if (length)
-        memcpy(to, from, length);
-    return end;
-}
 
 uint32_t baseline_write(uint32_t edition, const uint8_t *constants, size_t constants_len, const uint8_t *functions,
                         size_t functions_len, const uint8_t *labels, size_t labels_len, const uint8_t *structures,
@@ -24,17 +9,18 @@ uint32_t baseline_write(uint32_t edition, const uint8_t *constants, size_t const
                         uint8_t *out, size_t out_len, uint64_t *written) {
     if (unlikely(edition != 3 && edition != 1 && edition != 4))
         return LIMPETSKEIN_OTHER_EDITION;
-    size_t nc = constants_len / CONSTANT, nf = functions_len / FUNCTION, nl = labels_len / LABEL;
-    size_t nz = structures_len / STRUCTURE;
+    uint32_t size = edition == 4 ? FUNCTION_4 : FUNCTION;
+    size_t nc = constants_len / CONSTANT, nl = labels_len / LABEL, nz = structures_len / STRUCTURE;
+    size_t nf = edition == 4 ? functions_len / FUNCTION_4 : functions_len / FUNCTION;
     if (unlikely((nc > MOST_CONSTANTS) | (nf > MOST_FUNCTIONS) | (nl > LIMPETSKEIN_MOST_LABELS) |
                  (nz > (edition == 4 ? LIMPETSKEIN_MOST_STRUCTURES : 0)) | (code_len > LONGEST_CODE)))
         return LIMPETSKEIN_OVER_LIMIT;
-    if (unlikely((nc * CONSTANT != constants_len) | (nf * FUNCTION != functions_len) | (nl * LABEL != labels_len) |
+    if (unlikely((nc * CONSTANT != constants_len) | (nf * size != functions_len) | (nl * LABEL != labels_len) |
                  (nz * STRUCTURE != structures_len) | (entry_length > code_len)))
         return LIMPETSKEIN_NOT_PACKED;
     uint32_t code_length = (uint32_t)code_len;
-    Module m = {constants,    functions,   labels,       code,    (uint32_t)nc, (uint32_t)nf,
-                (uint32_t)nl, code_length, entry_length, edition, (uint32_t)nz, structures};
+    Module m = {constants,    functions,    labels,  code,         (uint32_t)nc, (uint32_t)nf, (uint32_t)nl,
+                code_length,  entry_length, edition, (uint32_t)nz, structures,   size};
     uint64_t starts[BITMAP];
     uint8_t translated[LONGEST_CODE];
     uint32_t refusal = likely(edition == 3) ? test_sections(&m, starts)

@@ -1,5 +1,6 @@
 //! Modules of the largest size, to be checked and opened.
 
+use crate::small::in_edition;
 use second::asm;
 
 /// The longest code.
@@ -8,6 +9,7 @@ const CODE: usize = 16384;
 pub fn modules() -> Vec<(&'static str, Vec<u8>)> {
     let texts = [
         ("full", full()),
+        ("full-edition-4", in_edition(4, &full())),
         ("last-labels", one_byte_instructions(256)),
         ("no-labels", one_byte_instructions(0)),
         ("last-labels-wide", five_byte_instructions(256)),

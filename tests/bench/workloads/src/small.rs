@@ -14,17 +14,20 @@ pub fn modules() -> Vec<(&'static str, Vec<u8>)> {
         ("recipe-8", RECIPE_8.to_string()),
         ("recipe-40", RECIPE_40.to_string()),
         ("recipe-250", RECIPE_250.to_string()),
-        ("loop-int-edition-1", in_edition_1(&counting_loop("int"))),
-        ("recipe-40-edition-1", in_edition_1(RECIPE_40)),
+        ("loop-int-edition-1", in_edition(1, &counting_loop("int"))),
+        ("recipe-40-edition-1", in_edition(1, RECIPE_40)),
+        ("recipe-8-edition-4", in_edition(4, RECIPE_8)),
+        ("recipe-40-edition-4", in_edition(4, RECIPE_40)),
+        ("recipe-250-edition-4", in_edition(4, RECIPE_250)),
     ];
     let mut all = texts.map(|(name, text)| (name, asm::file(&text))).to_vec();
     all.push(("w1", hex::decode(W1).expect("hex digits")));
     all
 }
 
-/// The same instructions with edition 1's numbers.
-fn in_edition_1(text: &str) -> String {
-    format!("edition 1; {text}")
+/// The same program in another edition. Edition 1 has other numbers for its instructions.
+pub fn in_edition(edition: u32, text: &str) -> String {
+    format!("edition {edition}; {text}")
 }
 
 /// Adds and mixes the numbers below 625,000; 16 steps each.
