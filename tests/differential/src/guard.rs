@@ -15,6 +15,7 @@ pub enum Call {
     Run,
     Write,
     Formula,
+    Convert,
 }
 
 /// Before the first case: calls on slices of over 2^32 bytes.
@@ -74,6 +75,7 @@ fn report(what: &str) {
     let (call, cases, show) = match CALL.get() {
         Some(Call::Write) => ("write", "tables", "--write"),
         Some(Call::Formula) => ("formula", "line", "--formula"),
+        Some(Call::Convert) => ("conversion", "module", "--conversion"),
         Some(Call::Run) => ("run", "module", "--case"),
         _ => ("check", "module", "--case"),
     };

@@ -1,6 +1,9 @@
 //! The library under test, through its C interface.
 
-use second::memory::{CheckMemory, FormulaMemory, Lent, RunMemory, WriteMemory};
+use second::memory::{
+    CheckMemory, ConvertMemory, FormulaMemory, Lent, RunMemory, Start, WriteMemory,
+};
+use second::opcode::Edition;
 use second::reader::ENTRY;
 use second::subject::Subject;
 
@@ -21,6 +24,7 @@ extern "C" {
         arg_types_len: usize,
         arg_payloads: *const u8,
         arg_payloads_len: usize,
+        profile: u32,
         allowance: u64,
         payloads: *mut u8,
         payloads_len: usize,
@@ -59,6 +63,32 @@ extern "C" {
         out_len: usize,
         written: *mut u64,
     ) -> u32;
+
+    pub fn limpetskein_to_edition_4(
+        module: *const u8,
+        module_len: usize,
+        out: *mut u8,
+        out_len: usize,
+        written: *mut u64,
+    ) -> u32;
+
+    pub fn limpetskein_to_edition_3(
+        module: *const u8,
+        module_len: usize,
+        out: *mut u8,
+        out_len: usize,
+        written: *mut u64,
+    ) -> u32;
+}
+
+/// The conversion to this edition.
+pub fn conversion(
+    to: Edition,
+) -> unsafe extern "C" fn(*const u8, usize, *mut u8, usize, *mut u64) -> u32 {
+    match to {
+        Edition::Four => limpetskein_to_edition_4,
+        _ => limpetskein_to_edition_3,
+    }
 }
 
 /// `null_if_empty`: slices of length 0 are lent as null pointers.
@@ -84,7 +114,7 @@ impl Subject for Library {
         unsafe { limpetskein_check(module, module_len, room, room_len, &raw mut memory.body) }
     }
 
-    fn run(&mut self, function: u32, allowance: u64, memory: &mut RunMemory) -> u32 {
+    fn run(&mut self, start: Start, memory: &mut RunMemory) -> u32 {
         let module = self.pointer(&mut memory.module);
         let arg_types = self.pointer(&mut memory.arg_types);
         let arg_payloads = self.pointer(&mut memory.arg_payloads);
@@ -97,12 +127,13 @@ impl Subject for Library {
             limpetskein_run(
                 module,
                 memory.module.len(),
-                function,
+                start.function,
                 arg_types,
                 memory.arg_types.len(),
                 arg_payloads,
                 memory.arg_payloads.len(),
-                allowance,
+                start.profile,
+                start.allowance,
                 payloads,
                 memory.payloads.len(),
                 types,
@@ -153,6 +184,14 @@ impl Subject for Library {
         // SAFETY: pointers and lengths are those of separate live buffers.
         unsafe { limpetskein_formula(line, line_len, out, out_len, &raw mut memory.written) }
     }
+
+    fn convert(&mut self, to: Edition, memory: &mut ConvertMemory) -> u32 {
+        let (module_len, out_len) = (memory.module.len(), memory.out.len());
+        let module = self.pointer(&mut memory.module);
+        let out = self.pointer(&mut memory.out);
+        // SAFETY: pointers and lengths are those of separate live buffers.
+        unsafe { conversion(to)(module, module_len, out, out_len, &raw mut memory.written) }
+    }
 }
 
 /// The answer of a run of a module's entry on a few slots.
@@ -169,6 +208,7 @@ pub fn run_entry(module: *const u8, len: usize) -> u32 {
             none,
             0,
             none,
+            0,
             0,
             9,
             payloads.as_mut_ptr(),

@@ -2,12 +2,14 @@
 //! answers, out-parameters, all lent memory and the guard bytes around it, first on what is stated
 //! of runs. With `--checks`, only checks are compared, first with what is stated of them, then on
 //! generated cases; with `--writes`, writes in the same way; with `--formulas`, formula lines, and
-//! the check and the runs of what they are written as.
+//! the check and the runs of what they are written as; with `--conversions`, conversions between
+//! editions 3 and 4, the way back, and the runs of what they give.
 //!
-//! `differential [--checks | --writes | --formulas] [--edition N] [--seed N]
+//! `differential [--checks | --writes | --formulas | --conversions] [--edition N] [--seed N]
 //! [--seconds N | --cases N] [--from N] [--most N]`
 
 mod checks;
+mod conversions;
 mod formulas;
 mod guard;
 mod huge;
@@ -21,6 +23,7 @@ use rounds::{edition_of, Comparison};
 use second::args;
 use second::compare::compare;
 use second::gen::case::Case;
+use second::gen::conversions::ConvertCase;
 use second::gen::lines::LineCase;
 use second::gen::tables::WriteCase;
 use second::hex;
@@ -34,6 +37,9 @@ fn main() {
     }
     if args::has("--formulas") {
         return compare_formulas();
+    }
+    if args::has("--conversions") {
+        return compare_conversions();
     }
     let check = huge::differs("check", |module, len| {
         let mut body = 0;
@@ -87,6 +93,18 @@ fn compare_formulas() {
         edition: |_| 3,
     };
     rounds::run(&formulas, before);
+}
+
+fn compare_conversions() {
+    let before = conversions::huge_differ() + conversions::not_as_stated();
+    let conversions = Comparison {
+        subject: "library's conversion",
+        make: ConvertCase::new,
+        compare: conversions::differs,
+        describe: |case: &ConvertCase| (case.kind, case.describe()),
+        edition: |case: &ConvertCase| edition_of(&case.module),
+    };
+    rounds::run(&conversions, before);
 }
 
 fn describe(case: &Case) -> (&'static str, String) {

@@ -32,6 +32,7 @@ pub fn start() {
         "--checks",
         "--writes",
         "--formulas",
+        "--conversions",
         "--edition",
         "--seed",
         "--cases",
@@ -43,6 +44,8 @@ pub fn start() {
         Call::Write
     } else if args::has("--formulas") {
         Call::Formula
+    } else if args::has("--conversions") {
+        Call::Convert
     } else if args::has("--checks") {
         Call::Check
     } else {

@@ -53,6 +53,7 @@ fn new_three(heap: (*mut u8, usize), blocks: (*mut u8, usize)) -> (u32, u64) {
             0,
             none,
             0,
+            0,
             9,
             payloads.as_mut_ptr(),
             payloads.len(),

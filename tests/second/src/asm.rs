@@ -6,7 +6,8 @@
 //! * `structure int, double`: the next structure, numbered from 10, with these fields;
 //! * `int 7`, `long -1`, `double 1.5`, `double #7FF0000000000001`: the next constant;
 //! * `entry:`, `function int (int, *long, *10):` (return type `void`, `int`, `long`, `double`, or
-//!   a pointer as `*10`): what follows is this body;
+//!   a pointer as `*10`): what follows is this body; `function int () profile 5:` was made for
+//!   profile 5;
 //! * `@0`: label 0 is here (at the next instruction);
 //! * `push 0`, `add`, ...: instructions, operands in decimal.
 
@@ -118,10 +119,10 @@ fn type_byte(word: &str) -> u8 {
     }
 }
 
-/// `int (int, *long):`
+/// `int (int, *long):`, `int (int, *long) profile 5:`
 fn routine(text: &str) -> Routine {
     let (returns, rest) = text.split_once('(').expect("parameters");
-    let (list, _) = rest.split_once(')').expect("closing bracket");
+    let (list, rest) = rest.split_once(')').expect("closing bracket");
     let parameters = list
         .split(',')
         .map(str::trim)
@@ -132,9 +133,14 @@ fn routine(text: &str) -> Routine {
         "void" => 0,
         word => type_byte(word),
     };
+    let profile = match rest.trim().trim_end_matches(':').split_once(' ') {
+        Some(("profile", number)) => number.trim().parse().expect("profile"),
+        _ => 0,
+    };
     Routine {
         parameters,
         returns,
+        profile,
         code: Vec::new(),
     }
 }

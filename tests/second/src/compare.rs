@@ -1,10 +1,11 @@
 //! Two subjects side by side on one case.
 
 use crate::gen::case::{Case, RunCall};
+use crate::gen::conversions::ConvertCase;
 use crate::gen::lines::LineCase;
 use crate::gen::tables::WriteCase;
 use crate::hex;
-use crate::memory::{CheckMemory, FormulaMemory, Lent, RunMemory, WriteMemory};
+use crate::memory::{CheckMemory, ConvertMemory, FormulaMemory, Lent, RunMemory, WriteMemory};
 use crate::subject::Subject;
 
 /// What differs, in words; nothing if the two agree on the check and on every run.
@@ -39,8 +40,8 @@ fn compare_runs(
 ) -> Option<String> {
     let mut memory_a = case.run_memory(run);
     let mut memory_b = memory_a.clone();
-    let answer_a = a.run(run.function, run.allowance, &mut memory_a);
-    let answer_b = b.run(run.function, run.allowance, &mut memory_b);
+    let answer_a = a.run(run.start(), &mut memory_a);
+    let answer_b = b.run(run.start(), &mut memory_b);
     if answer_a == answer_b && memory_a == memory_b {
         return None;
     }
@@ -96,14 +97,39 @@ pub fn compare_formulas(
         .or_else(|| case.otherwise(&made, b))
 }
 
+/// What differs in a conversion; and where it is made, what `b` does otherwise with it.
+pub fn compare_conversions(
+    case: &ConvertCase,
+    a: &mut dyn Subject,
+    b: &mut dyn Subject,
+) -> Option<String> {
+    let mut memory_a = case.memory();
+    let mut memory_b = memory_a.clone();
+    let answer_a = a.convert(case.to, &mut memory_a);
+    let answer_b = b.convert(case.to, &mut memory_b);
+    if answer_a != answer_b || memory_a != memory_b {
+        return Some(format!(
+            "conversion to edition {}, to {} bytes: answers {answer_a} and {answer_b}{}",
+            case.to.word(),
+            case.out.len(),
+            conversion_difference(&memory_a, &memory_b)
+        ));
+    }
+    if answer_a != 0 {
+        return None;
+    }
+    case.otherwise(&memory_a.out.slice()[..memory_a.written as usize], b)
+}
+
 /// A run's numbers and arguments, enough to repeat it by hand.
 pub fn describe(run: &RunCall) -> String {
     format!(
-        "function {:08X}, argument types {}, argument payloads {}, allowance {}, \
+        "function {:08X}, argument types {}, argument payloads {}, profile {}, allowance {}, \
          {} payload bytes, {} type bytes, {} heap bytes, {} block bytes",
         run.function,
         quoted(&run.arg_types),
         quoted(&run.arg_payloads),
+        run.profile,
         run.allowance,
         run.payloads.len(),
         run.types.len(),
@@ -165,6 +191,16 @@ pub fn formula_difference(a: &FormulaMemory, b: &FormulaMemory) -> String {
         text += &format!("; length {} and {}", a.written, b.written);
     }
     text += &slice_difference("line", &a.line, &b.line);
+    text + &slice_difference("output", &a.out, &b.out)
+}
+
+/// How what was lent to two conversions differs, in words.
+pub fn conversion_difference(a: &ConvertMemory, b: &ConvertMemory) -> String {
+    let mut text = String::new();
+    if a.written != b.written {
+        text += &format!("; length {} and {}", a.written, b.written);
+    }
+    text += &slice_difference("module", &a.module, &b.module);
     text + &slice_difference("output", &a.out, &b.out)
 }
 

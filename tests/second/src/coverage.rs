@@ -2,16 +2,18 @@
 
 use crate::check::Checked;
 use crate::claims::{is_an_end_of_demand_3, Claims};
-use crate::compare::compare_formulas;
+use crate::compare::{compare_conversions, compare_formulas};
 use crate::edges;
 use crate::formula::split;
 use crate::gen::case::{Case, RunCall};
+use crate::gen::conversions::ConvertCase;
 use crate::gen::lines::LineCase;
 use crate::gen::tables::WriteCase;
 use crate::heap::{address, Address, Part};
 use crate::machine::{Machine, Slot, Watch};
 use crate::opcode::{Edition, Op};
 use crate::possible::IN_A_CELL;
+use crate::profile_edges::{self, is_an_outcome};
 use crate::rules::Rules;
 use crate::subject::{checked_number, Second, Subject};
 use crate::types::{POINTER, STRUCTURE};
@@ -26,6 +28,8 @@ pub struct Coverage {
     pub checks: Counts<(Edition, u32)>,
     pub runs: Counts<(Edition, u32)>,
     pub writes: Counts<(Edition, u32)>,
+    /// By the edition that was asked for, and the module's.
+    pub conversions: Counts<(Edition, Edition, u32)>,
     pub formulas: Counts<u32>,
     pub line_edges: Counts<&'static str>,
     /// Lines by generator: all, and accepted ones.
@@ -38,6 +42,10 @@ pub struct Coverage {
     pub raised: Counts<(Edition, Op, u32)>,
     pub reasons: Counts<(Edition, Reason)>,
     pub heap_edges: Counts<&'static str>,
+    pub profile_edges: Counts<&'static str>,
+    pub conversion_edges: Counts<&'static str>,
+    /// Conversions that don't come back, or whose module does otherwise.
+    pub unlike: u64,
     /// Arguments that didn't fit (20 without an instruction).
     pub misfits: u64,
     /// Modules by generator: all, and accepted ones.
@@ -93,6 +101,18 @@ impl Coverage {
         count(&mut self.writes, (edition, answer));
     }
 
+    pub fn add_conversion(&mut self, case: &ConvertCase) {
+        let mut second = Second(Rules::PLAIN);
+        let answer = second.convert(case.to, &mut case.memory());
+        let edition = edition_of(&case.module);
+        count(&mut self.conversions, (case.to, edition, answer));
+        let otherwise = compare_conversions(case, &mut second, &mut Second(Rules::PLAIN));
+        self.unlike += u64::from(otherwise.is_some());
+        for edge in profile_edges::of_conversion(case, answer) {
+            count(&mut self.conversion_edges, edge);
+        }
+    }
+
     pub fn add_line(&mut self, case: &LineCase) {
         let mut second = Second(Rules::PLAIN);
         let answer = second.formula(&mut case.memory());
@@ -117,12 +137,15 @@ impl Coverage {
         let mut memory = case.run_memory(run);
         self.raises = 0;
         let second = Second(Rules::PLAIN);
-        let answer = second.run_watched(run.function, run.allowance, &mut memory, self);
+        let answer = second.run_watched(run.start(), &mut memory, self);
         let edition = edition_of(&case.module);
         count(&mut self.runs, (edition, answer));
         let misfit = answer == 20 && self.raises == 0;
         self.misfits += u64::from(misfit);
-        if answer == 0 || answer >= 15 {
+        for edge in profile_edges::of_run(&case.module, run, answer) {
+            count(&mut self.profile_edges, edge);
+        }
+        if is_an_outcome(answer) {
             for edge in edges::lent(edition, run, misfit) {
                 count(&mut self.heap_edges, edge);
             }
@@ -130,8 +153,10 @@ impl Coverage {
         if accepted {
             let mut claims = Claims::default();
             let mut memory = case.run_memory(run);
-            second.run_watched(run.function, run.allowance, &mut memory, &mut claims);
-            let ends = is_an_end_of_demand_3(edition, answer) || [12, 13].contains(&answer);
+            second.run_watched(run.start(), &mut memory, &mut claims);
+            // "17 profile differs, after 13, no run in demand 3's sense"
+            let refused = [12, 13, 17].contains(&answer);
+            let ends = is_an_end_of_demand_3(edition, answer) || refused;
             self.broken += claims.broken + u64::from(!ends);
         }
     }

@@ -60,6 +60,14 @@ pub struct CheckMemory {
     pub body: u32,
 }
 
+/// A run's numbers: which body it starts, for which profile and how long.
+#[derive(Clone, Copy, Debug, PartialEq, Eq)]
+pub struct Start {
+    pub function: u32,
+    pub profile: u32,
+    pub allowance: u64,
+}
+
 /// Everything lent to a run, and its out-parameters.
 #[derive(Clone, Debug, PartialEq, Eq)]
 pub struct RunMemory {
@@ -93,6 +101,14 @@ pub struct WriteMemory {
 #[derive(Clone, Debug, PartialEq, Eq)]
 pub struct FormulaMemory {
     pub line: Lent,
+    pub out: Lent,
+    pub written: u64,
+}
+
+/// Everything lent to a conversion, and its out-parameter.
+#[derive(Clone, Debug, PartialEq, Eq)]
+pub struct ConvertMemory {
+    pub module: Lent,
     pub out: Lent,
     pub written: u64,
 }

@@ -46,6 +46,11 @@ impl Edition {
         self == Edition::Four
     }
 
+    /// "Each function record of edition 4 ... gets one more word".
+    pub fn has_profiles(self) -> bool {
+        self == Edition::Four
+    }
+
     /// The edition's opcodes.
     pub fn ops(self) -> Vec<Op> {
         let all = ALL.iter().map(|&(op, _)| op);

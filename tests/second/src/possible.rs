@@ -131,13 +131,55 @@ pub const CHECK_ANSWERS: [u32; 12] = [0, 1, 2, 3, 4, 5, 6, 7, 8, 9, 10, 11];
 /// The answers that a write can give.
 pub const WRITE_ANSWERS: [u32; 9] = [0, 2, 4, 5, 6, 7, 8, 9, 16];
 
+/// The answers that a conversion of a module of this edition can give. (Those of words that are
+/// no edition are counted as edition 3's.)
+pub fn conversion_answers(to: Edition, edition: Edition) -> Vec<u32> {
+    match (to, edition) {
+        (Edition::Four, Edition::Three) => vec![0, 1, 2, 3, 4, 5, 6, 7, 8, 9, 16],
+        (Edition::Three, Edition::Four) => vec![0, 1, 3, 4, 5, 6, 7, 8, 9, 18, 16],
+        _ => vec![1, 2],
+    }
+}
+
+/// What runs and their profiles must reach, by name, as in `profile_edges`.
+pub const PROFILE_EDGES: [&str; 8] = [
+    "17 where 0 is named",
+    "17 with equal low bytes",
+    "17 where arguments don't fit",
+    "13 and another profile",
+    "its own profile",
+    "any profile",
+    "the entry beside other profiles",
+    "a call of another profile's function",
+];
+
+/// What conversions must reach, by name, as in `profile_edges`. A type byte that edition 3 lacks
+/// points to a structure, so that it is never the only loss.
+pub const CONVERSION_EDGES: [&str; 15] = [
+    "up, a header of edition 4 under 56 bytes",
+    "another edition, and more is wrong",
+    "the exact length",
+    "one byte longer",
+    "one byte short",
+    "no output",
+    "no functions",
+    "128 functions",
+    "no typing",
+    "18 by a profile",
+    "18 by a structure",
+    "18 by an opcode",
+    "18 by an opcode after jmp or ret",
+    "18 and no output",
+    "an operand like an opcode",
+];
+
 /// Can this answer be given where this is the edition word? (Those of words that are no edition
 /// are counted as edition 3's.)
 pub fn answer_of(edition: Edition, number: u32) -> bool {
     let heap = [36, 37, 38, 39, 50].contains(&number);
     match edition {
-        Edition::One => ![2, 31, 32, 33].contains(&number) && !heap,
-        Edition::Three => !heap,
+        Edition::One => ![2, 17, 31, 32, 33].contains(&number) && !heap,
+        Edition::Three => number != 17 && !heap,
         Edition::Four => number != 2,
     }
 }
@@ -182,7 +224,7 @@ pub const HEAP_EDGES: [&str; 16] = [
 ];
 
 /// The answers that a run can give.
-pub const RUN_ANSWERS: [u32; 34] = [
-    0, 1, 2, 3, 4, 5, 6, 7, 8, 9, 12, 13, 15, 20, 21, 22, 23, 24, 25, 26, 27, 28, 29, 30, 31, 32,
-    33, 34, 35, 36, 37, 38, 39, 50,
+pub const RUN_ANSWERS: [u32; 35] = [
+    0, 1, 2, 3, 4, 5, 6, 7, 8, 9, 12, 13, 15, 17, 20, 21, 22, 23, 24, 25, 26, 27, 28, 29, 30, 31,
+    32, 33, 34, 35, 36, 37, 38, 39, 50,
 ];

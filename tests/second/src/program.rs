@@ -1,7 +1,7 @@
 //! A module in parts that can be changed and written as a file.
 
 use crate::opcode::{Edition, Op};
-use crate::reader::{header, CONSTANT, ENTRY, FUNCTION, LABEL, STRUCTURE_RECORD};
+use crate::reader::{function_size, header, CONSTANT, ENTRY, LABEL, STRUCTURE_RECORD};
 use crate::types::{is_number, structure};
 
 #[derive(Clone, Copy, Debug, PartialEq, Eq)]
@@ -21,6 +21,8 @@ pub struct Instr {
 pub struct Routine {
     pub parameters: Vec<u8>,
     pub returns: u8,
+    /// Written in edition 4.
+    pub profile: u32,
     pub code: Vec<Instr>,
 }
 
@@ -101,6 +103,7 @@ impl Program {
         code.all(|instr| instr.op.byte(edition).is_some())
             && types.all(known)
             && (edition.has_heap() || self.structures.is_empty())
+            && (edition.has_profiles() || self.functions.iter().all(|f| f.profile == 0))
     }
 
     /// The module file.
@@ -114,6 +117,9 @@ impl Program {
         let mut start = size(&self.entry);
         for function in &self.functions {
             put_function(&mut bytes, function, start);
+            if self.edition.has_profiles() {
+                put(&mut bytes, function.profile as usize);
+            }
             start += size(&function.code);
         }
         for &mark in &self.labels {
@@ -137,7 +143,7 @@ impl Program {
             size(&self.entry) + self.functions.iter().map(|f| size(&f.code)).sum::<usize>();
         let constants_at = header(self.edition);
         let functions_at = constants_at + CONSTANT * self.constants.len();
-        let labels_at = functions_at + FUNCTION * self.functions.len();
+        let labels_at = functions_at + function_size(self.edition) * self.functions.len();
         let code_at = labels_at + LABEL * self.labels.len();
         put(bytes, self.edition.word() as usize);
         let mut structures = 0;

@@ -11,6 +11,8 @@ pub const ENTRY: u32 = 0xFFFF_FFFF;
 pub const HEADER: usize = 48;
 pub const CONSTANT: usize = 12;
 pub const FUNCTION: usize = 20;
+/// "Each function record of edition 4 ... gets one more word at its end".
+pub const LONG_FUNCTION: usize = 24;
 pub const LABEL: usize = 8;
 /// "12-byte structure records"
 pub const STRUCTURE_RECORD: usize = 12;
@@ -32,11 +34,20 @@ pub fn header(edition: Edition) -> usize {
     }
 }
 
+/// The bytes of an edition's function record.
+pub fn function_size(edition: Edition) -> usize {
+    if edition.has_profiles() {
+        LONG_FUNCTION
+    } else {
+        FUNCTION
+    }
+}
+
 /// The longest module possible, which is of edition 4.
 pub const LONGEST: usize = LONG_HEADER
     + STRUCTURE_RECORD * MAX_STRUCTURES as usize
     + CONSTANT * MAX_CONSTANTS as usize
-    + FUNCTION * MAX_FUNCTIONS as usize
+    + LONG_FUNCTION * MAX_FUNCTIONS as usize
     + LABEL * MAX_LABELS as usize
     + MAX_CODE as usize;
 
@@ -61,6 +72,8 @@ pub struct Function {
     /// Parameter types, parameter 0 first.
     pub parameters: Vec<u8>,
     pub returns: u8,
+    /// "the profile it was made for, 0 for any"; 0 in editions 1 and 3.
+    pub profile: u32,
 }
 
 #[derive(Clone, Copy, Debug, PartialEq, Eq)]
@@ -149,7 +162,17 @@ impl<'a> Module<'a> {
     }
 
     fn labels_at(&self) -> usize {
-        self.functions_at() + FUNCTION * self.functions as usize
+        self.function_at(self.functions)
+    }
+
+    /// Where the record of function `n` begins.
+    fn function_at(&self, n: u32) -> usize {
+        self.functions_at() + function_size(self.edition) * n as usize
+    }
+
+    /// The record of function `n`, which must be there.
+    fn record(&self, n: u32) -> &'a [u8] {
+        &self.file[self.function_at(n)..self.function_at(n + 1)]
     }
 
     fn code_at(&self) -> usize {
@@ -222,8 +245,7 @@ impl<'a> Module<'a> {
 
     /// One function record whose body must start at `packed`; gives the body's end.
     fn function_record(&self, rules: Rules, n: u32, packed: u64) -> Result<u64, u32> {
-        let at = self.functions_at() + FUNCTION * n as usize;
-        let record = &self.file[at..at + FUNCTION];
+        let record = self.record(n);
         let (start, length) = (word(record, 0), word(record, 4));
         // "start, length (≥ 1)"
         refuse(u64::from(start) != packed || length < 1, 7)?;
@@ -238,6 +260,9 @@ impl<'a> Module<'a> {
             refuse(unused.iter().any(|&byte| byte != 0), 7)?;
         }
         refuse(record[18] != 0 || record[19] != 0, 7)?;
+        // any profile is good
+        let profile = rules.wrong(Fault::ProfileRefused) && profile(record) != 0;
+        refuse(profile, 7)?;
         Ok(packed + u64::from(length))
     }
 
@@ -311,9 +336,9 @@ impl<'a> Module<'a> {
         if body >= self.functions {
             return 0..self.entry_length as usize;
         }
-        let at = self.functions_at() + FUNCTION * body as usize;
-        let start = word(self.file, at) as usize;
-        start..start + word(self.file, at + 4) as usize
+        let record = self.record(body);
+        let start = word(record, 0) as usize;
+        start..start + word(record, 4) as usize
     }
 
     /// The instruction starts of a body, cut from its own start; and whether the cutting came
@@ -397,13 +422,13 @@ impl<'a> Module<'a> {
         if n >= self.functions {
             return None;
         }
-        let at = self.functions_at() + FUNCTION * n as usize;
-        let record = &self.file[at..at + FUNCTION];
+        let record = self.record(n);
         Some(Function {
             start: word(record, 0),
             length: word(record, 4),
             parameters: record[10..10 + record[8] as usize].to_vec(),
             returns: record[9],
+            profile: profile(record),
         })
     }
 
@@ -430,6 +455,14 @@ impl<'a> Module<'a> {
         }
         Some(function)
     }
+}
+
+/// "one more word at its end: the profile it was made for, 0 for any"
+fn profile(record: &[u8]) -> u32 {
+    if record.len() < LONG_FUNCTION {
+        return 0;
+    }
+    word(record, FUNCTION)
 }
 
 /// "field count 1 to 8, eight type bytes (3, 4, 6, unused 0), three zeros"

@@ -102,6 +102,7 @@ pub enum Fault {
     EditionLast,
     StructureInThree,
     StructurePartFour,
+    WritesShortRecords,
     EditionFourRefused,
     HeapOpcodesInThree,
     ShortFourIsThree,
@@ -154,6 +155,37 @@ pub enum Fault {
     DeleteOfField,
     DeleteTwice,
     PointersSigned,
+    ProfileRefused,
+    ProfileIgnored,
+    ProfileZeroIsAny,
+    AnyProfileRefused,
+    ProfileLowByte,
+    EntryProfiled,
+    CalledProfiled,
+    EveryFunctionProfiled,
+    ProfileBeforeArguments,
+    ProfileAfterMisfit,
+    ProfileClears,
+    AnotherEditionFirst,
+    AnotherEditionLast,
+    LossBeforeReading,
+    ConvertTypingAsked,
+    ProfileDropped,
+    StructuresDropped,
+    OpcodesKept,
+    DeadOpcodesKept,
+    OperandsLookedAt,
+    ProfileFirst,
+    ProfileOne,
+    ProfilesLast,
+    FirstWordDropped,
+    OffsetsKept,
+    ConvertOutputFirst,
+    ConvertOutputBefore,
+    ConvertOutputFull,
+    ConvertHeaderFirst,
+    ConvertRestCleared,
+    ConvertLengthOfOutput,
     GrammarBeforeLength,
     SpacesUncounted,
     LengthAtMost255,
@@ -562,7 +594,7 @@ pub const FAULTS: [(Fault, &str, &str); 76] = [
 ];
 
 /// The wrong variants of the writer.
-pub const WRITER_FAULTS: [(Fault, &str, &str); 21] = [
+pub const WRITER_FAULTS: [(Fault, &str, &str); 22] = [
     (
         Fault::LimitByBytes,
         "limit-by-bytes",
@@ -667,6 +699,11 @@ pub const WRITER_FAULTS: [(Fault, &str, &str); 21] = [
         Fault::StructurePartFour,
         "structure-part-4",
         "part of a structure for another edition is 4",
+    ),
+    (
+        Fault::WritesShortRecords,
+        "records-of-20",
+        "function records of edition 4 are taken with 20 bytes",
     ),
 ];
 
@@ -930,6 +967,169 @@ pub const HEAP_FAULTS: [(Fault, &str, &str); 52] = [
     ),
 ];
 
+/// The wrong variants of reader and run in what they have of profiles.
+pub const PROFILE_FAULTS: [(Fault, &str, &str); 11] = [
+    (
+        Fault::ProfileRefused,
+        "profile-refused",
+        "a function record with a profile is 7",
+    ),
+    (
+        Fault::ProfileIgnored,
+        "profile-ignored",
+        "the profile is not looked at",
+    ),
+    (
+        Fault::ProfileZeroIsAny,
+        "profile-0-is-any",
+        "a run that names profile 0 is never refused",
+    ),
+    (
+        Fault::AnyProfileRefused,
+        "any-profile-refused",
+        "a function for any profile is refused for another than 0",
+    ),
+    (
+        Fault::ProfileLowByte,
+        "profile-low-byte",
+        "profiles are compared by their low bytes",
+    ),
+    (
+        Fault::EntryProfiled,
+        "entry-profiled",
+        "a run of the entry is refused by function 0's profile",
+    ),
+    (
+        Fault::CalledProfiled,
+        "called-profiled",
+        "a run is refused by a called function's profile",
+    ),
+    (
+        Fault::EveryFunctionProfiled,
+        "every-function-profiled",
+        "a run is refused by any function's profile",
+    ),
+    (
+        Fault::ProfileBeforeArguments,
+        "17-before-13",
+        "the profile before the arguments",
+    ),
+    (
+        Fault::ProfileAfterMisfit,
+        "17-after-20",
+        "arguments that don't fit before the profile",
+    ),
+    (
+        Fault::ProfileClears,
+        "17-clears",
+        "a run that is refused with 17 clears the stack",
+    ),
+];
+
+/// The wrong variants of the conversions.
+pub const CONVERSION_FAULTS: [(Fault, &str, &str); 20] = [
+    (
+        Fault::AnotherEditionFirst,
+        "convert-2-before-1",
+        "a short header of edition 4 is another edition",
+    ),
+    (
+        Fault::AnotherEditionLast,
+        "convert-2-last",
+        "another edition after the reader's refusals",
+    ),
+    (
+        Fault::LossBeforeReading,
+        "18-before-3",
+        "a structure before the reader's refusals",
+    ),
+    (
+        Fault::ConvertTypingAsked,
+        "convert-typing-asked",
+        "a module without typing is refused with 11",
+    ),
+    (
+        Fault::ProfileDropped,
+        "profile-dropped",
+        "a nonzero profile is left out on the way down",
+    ),
+    (
+        Fault::StructuresDropped,
+        "structures-dropped",
+        "a structure that no signature names is left out",
+    ),
+    (
+        Fault::OpcodesKept,
+        "opcodes-kept",
+        "opcodes are not looked at",
+    ),
+    (
+        Fault::DeadOpcodesKept,
+        "dead-opcodes-kept",
+        "opcodes are looked at up to the first jmp or ret of a body",
+    ),
+    (
+        Fault::OperandsLookedAt,
+        "operands-looked-at",
+        "bytes of operands are taken for opcodes",
+    ),
+    (
+        Fault::ProfileFirst,
+        "profile-first",
+        "the profile is put at a record's start",
+    ),
+    (
+        Fault::ProfileOne,
+        "profile-1",
+        "functions are converted with profile 1",
+    ),
+    (
+        Fault::ProfilesLast,
+        "profiles-last",
+        "all profiles are put after the records",
+    ),
+    (
+        Fault::FirstWordDropped,
+        "first-word-dropped",
+        "a record's first word is left out on the way down",
+    ),
+    (
+        Fault::OffsetsKept,
+        "offsets-kept",
+        "the functions' offset stays",
+    ),
+    (
+        Fault::ConvertOutputFirst,
+        "convert-16-first",
+        "an output shorter than the module before the reader's refusals",
+    ),
+    (
+        Fault::ConvertOutputBefore,
+        "16-before-18",
+        "output too short before 18",
+    ),
+    (
+        Fault::ConvertOutputFull,
+        "convert-16-when-full",
+        "output of the module's length is too short",
+    ),
+    (
+        Fault::ConvertHeaderFirst,
+        "convert-header-first",
+        "edition and length are written before the output's length is tested",
+    ),
+    (
+        Fault::ConvertRestCleared,
+        "convert-rest-cleared",
+        "output past the length is cleared",
+    ),
+    (
+        Fault::ConvertLengthOfOutput,
+        "convert-length-of-output",
+        "the output's length is given",
+    ),
+];
+
 /// The wrong variants of the formula line.
 pub const FORMULA_FAULTS: [(Fault, &str, &str); 33] = [
     (
@@ -1093,7 +1293,9 @@ impl Rules {
         FAULTS
             .iter()
             .chain(&HEAP_FAULTS)
+            .chain(&PROFILE_FAULTS)
             .chain(&WRITER_FAULTS)
+            .chain(&CONVERSION_FAULTS)
             .chain(&FORMULA_FAULTS)
             .find(|(_, n, _)| *n == name)
             .map(|&(fault, _, _)| Rules::with(fault))

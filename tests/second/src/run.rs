@@ -1,8 +1,10 @@
-//! A run as the host calls it: answers 1 to 9, 12, 13, and outcomes with the lent stack and heap.
+//! A run as the host calls it: answers 1 to 9, 12, 13, 17, and outcomes with the lent stack and
+//! heap.
 
 use crate::heap::{self, Heap, LentHeap};
 use crate::machine::{Machine, Slot, Unwatched, Watch};
-use crate::reader::{read, Function, Module, ENTRY};
+use crate::profile;
+use crate::reader::{read, refuse, Function, Module, ENTRY};
 use crate::rules::{Fault, Rules};
 use crate::types::{is_number, INT};
 use crate::words::payload;
@@ -13,6 +15,8 @@ pub struct Call<'a> {
     pub function: u32,
     pub arg_types: &'a [u8],
     pub arg_payloads: &'a [u8],
+    /// "A run now names the scan's profile".
+    pub profile: u32,
     pub allowance: u64,
 }
 
@@ -25,7 +29,7 @@ pub struct LentStack<'a> {
 
 #[derive(Clone, Copy, Debug, PartialEq, Eq)]
 pub enum Ran {
-    /// 1 to 9, 12, 13: "change no lent memory and return only the number"
+    /// 1 to 9, 12, 13, 17: "change no lent memory and return only the number"
     Refused(u32),
     Ended {
         outcome: u32,
@@ -56,11 +60,20 @@ pub fn run_watched(
     // be read gets 1 to 9."
     let admitted = read(rules, file).and_then(|module| {
         let arguments = admit(rules, module, call)?;
+        if !profile::late(rules, &arguments, &stack) {
+            // "17 profile differs, after 13"
+            refuse(profile::differs(rules, module, call), 17)?;
+        }
         Ok((module, arguments))
     });
     let (module, arguments) = match admitted {
         Ok(admitted) => admitted,
-        Err(number) => return Ran::Refused(number),
+        Err(number) => {
+            if number == 17 && rules.wrong(Fault::ProfileClears) {
+                write_back(rules, &[], capacity(rules, &stack), stack);
+            }
+            return Ran::Refused(number);
+        }
     };
     let capacity = capacity(rules, &stack);
     let heap = Heap::new(rules, heap::capacity(rules, &lent));
@@ -128,6 +141,8 @@ fn admit(rules: Rules, module: Module<'_>, call: Call<'_>) -> Result<Vec<Slot>, 
         }
         None => return Err(12),
     };
+    let early = rules.wrong(Fault::ProfileBeforeArguments);
+    refuse(early && profile::differs(rules, module, call), 17)?;
     // 13: "argument payload bytes are not 8 per type byte, types differ from the declaration,
     // an int argument has upper bits, or a parameter is a pointer"
     let eight = call.arg_types.len().checked_mul(8) == Some(call.arg_payloads.len());

@@ -1,10 +1,12 @@
 //! The samples: W1 to W12 of the paper and more modules that show a rule each.
 
 mod heap;
+mod profiles;
 
 use crate::asm;
 use crate::hex;
 pub use heap::HEAP;
+pub use profiles::{CONVERSIONS, PROFILES};
 
 /// One sample module.
 pub struct Sample {
@@ -25,6 +27,8 @@ enum Source {
     Cut(&'static str, usize),
     /// Another sample's text, assembled in edition 1.
     Again(&'static str),
+    /// Another sample's text, assembled in edition 4.
+    Above(&'static str),
 }
 
 impl Sample {
@@ -42,14 +46,18 @@ impl Sample {
                 file.truncate(len);
                 file
             }
-            Source::Again(name) => {
-                let other = all().find(|sample| sample.name == name);
-                match other.map(|sample| &sample.source) {
-                    Some(Source::Text(text)) => asm::file(&format!("edition 1; {text}")),
-                    _ => panic!("{name} has no text"),
-                }
-            }
+            Source::Again(name) => asm::file(&format!("edition 1; {}", text_of(name))),
+            Source::Above(name) => asm::file(&format!("edition 4; {}", text_of(name))),
         }
+    }
+}
+
+/// The text of the sample of this name.
+fn text_of(name: &str) -> &'static str {
+    let other = all().find(|sample| sample.name == name);
+    match other.map(|sample| &sample.source) {
+        Some(Source::Text(text)) => text,
+        _ => panic!("{name} has no text"),
     }
 }
 
@@ -796,6 +804,8 @@ pub fn all() -> impl Iterator<Item = &'static Sample> {
         .chain(&REFUSED)
         .chain(&OLD)
         .chain(&HEAP)
+        .chain(&PROFILES)
+        .chain(&CONVERSIONS)
 }
 
 /// A formula line, and the parameters of runs of its module.

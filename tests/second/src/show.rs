@@ -18,7 +18,8 @@ pub fn small(rules: Rules, input: &[u8]) -> String {
     let file = &input[..input.len().min(MOST_READ)];
     let mut room = vec![0; RECORD * MAX_LABELS as usize];
     match check(rules, file, &mut room) {
-        Checked::Accepted => ran(rules, file, ENTRY, &[], &[]),
+        // the entry was made for no profile, so that none needs to be named
+        Checked::Accepted => ran(rules, file, (ENTRY, 0), &[], &[]),
         Checked::Refused(number) => format!("{number}\n"),
         Checked::NoTyping { .. } => "11\n".to_string(),
     }
@@ -27,11 +28,11 @@ pub fn small(rules: Rules, input: &[u8]) -> String {
 /// "(the program lends 1,024)"; nothing of it is printed.
 const LENT_CELLS: usize = 1024;
 
-/// What is printed of a run of an accepted module.
+/// What is printed of a run of an accepted module: of a function, for a profile.
 pub fn ran(
     rules: Rules,
     file: &[u8],
-    function: u32,
+    (function, profile): (u32, u32),
     arg_types: &[u8],
     arg_payloads: &[u8],
 ) -> String {
@@ -41,6 +42,7 @@ pub fn ran(
         function,
         arg_types,
         arg_payloads,
+        profile,
         allowance: 1_000_000,
     };
     let stack = LentStack {

@@ -1,10 +1,12 @@
-//! What is compared: something that answers the four calls of the C interface.
+//! What is compared: something that answers the calls of the C interface.
 
 use crate::check::{check, Checked};
+use crate::conversion::convert;
 use crate::formula::formula;
 use crate::heap::LentHeap;
 use crate::machine::{Unwatched, Watch};
-use crate::memory::{CheckMemory, FormulaMemory, RunMemory, WriteMemory};
+use crate::memory::{CheckMemory, ConvertMemory, FormulaMemory, RunMemory, Start, WriteMemory};
+use crate::opcode::Edition;
 use crate::rules::Rules;
 use crate::run::{run_watched, Call, LentStack, Ran};
 use crate::writer::{write, Tables};
@@ -14,13 +16,16 @@ pub trait Subject {
     fn check(&mut self, memory: &mut CheckMemory) -> u32;
 
     /// The paper's number; `steps` and `height` are written with 0, 15 and the exceptions only.
-    fn run(&mut self, function: u32, allowance: u64, memory: &mut RunMemory) -> u32;
+    fn run(&mut self, start: Start, memory: &mut RunMemory) -> u32;
 
     /// The paper's number; `written` is written with 0 only.
     fn write(&mut self, memory: &mut WriteMemory) -> u32;
 
     /// The paper's number; `written` is written with 0 only.
     fn formula(&mut self, memory: &mut FormulaMemory) -> u32;
+
+    /// A conversion to edition 4 or 3: the paper's number; `written` is written with 0 only.
+    fn convert(&mut self, to: Edition, memory: &mut ConvertMemory) -> u32;
 }
 
 /// The second program with these rules.
@@ -31,8 +36,8 @@ impl Subject for Second {
         checked_number(self.checked(memory), &mut memory.body)
     }
 
-    fn run(&mut self, function: u32, allowance: u64, memory: &mut RunMemory) -> u32 {
-        self.run_watched(function, allowance, memory, &mut Unwatched)
+    fn run(&mut self, start: Start, memory: &mut RunMemory) -> u32 {
+        self.run_watched(start, memory, &mut Unwatched)
     }
 
     fn write(&mut self, memory: &mut WriteMemory) -> u32 {
@@ -53,6 +58,11 @@ impl Subject for Second {
         let answer = formula(self.0, memory.line.slice(), memory.out.slice_mut());
         wrote_number(answer, &mut memory.written)
     }
+
+    fn convert(&mut self, to: Edition, memory: &mut ConvertMemory) -> u32 {
+        let answer = convert(self.0, to, memory.module.slice(), memory.out.slice_mut());
+        wrote_number(answer, &mut memory.written)
+    }
 }
 
 impl Second {
@@ -61,18 +71,13 @@ impl Second {
         check(self.0, memory.module.slice(), memory.room.slice_mut())
     }
 
-    pub fn run_watched(
-        &self,
-        function: u32,
-        allowance: u64,
-        memory: &mut RunMemory,
-        watch: &mut dyn Watch,
-    ) -> u32 {
+    pub fn run_watched(&self, start: Start, memory: &mut RunMemory, watch: &mut dyn Watch) -> u32 {
         let call = Call {
-            function,
+            function: start.function,
             arg_types: memory.arg_types.slice(),
             arg_payloads: memory.arg_payloads.slice(),
-            allowance,
+            profile: start.profile,
+            allowance: start.allowance,
         };
         let stack = LentStack {
             payloads: memory.payloads.slice_mut(),
@@ -115,7 +120,7 @@ pub fn ran_number(answer: Ran, steps_out: &mut u64, height_out: &mut u64) -> u32
     }
 }
 
-/// The number of a write's or a formula's answer; the length is given with 0 only.
+/// The number of a write's, a formula's or a conversion's answer; the length is given with 0 only.
 pub fn wrote_number(answer: Result<usize, u32>, out: &mut u64) -> u32 {
     match answer {
         Err(number) => number,

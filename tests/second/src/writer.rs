@@ -1,11 +1,11 @@
-//! The writer, document 02's A1, A5 and A6: answers 2, 4 to 9 and 16, and the module that is
+//! The writer, document 02's A1, A5, A6 and A7: answers 2, 4 to 9 and 16, and the module that is
 //! written, of any edition.
 
 use crate::check::{check, Checked, RECORD};
 use crate::opcode::Edition;
 use crate::reader::{
-    header, read, refuse, Module, CONSTANT, FUNCTION, HEADER, LABEL, MAX_CODE, MAX_CONSTANTS,
-    MAX_FUNCTIONS, MAX_LABELS, MAX_STRUCTURES, STRUCTURE_RECORD,
+    function_size, header, read, refuse, Module, CONSTANT, FUNCTION, HEADER, LABEL, MAX_CODE,
+    MAX_CONSTANTS, MAX_FUNCTIONS, MAX_LABELS, MAX_STRUCTURES, STRUCTURE_RECORD,
 };
 use crate::rules::{Fault, Rules};
 use crate::types::INT;
@@ -135,7 +135,7 @@ impl<'a> Tables<'a> {
         };
         [
             (self.constants, CONSTANT, MAX_CONSTANTS),
-            (self.functions, FUNCTION, MAX_FUNCTIONS),
+            (self.functions, self.function_size(rules), MAX_FUNCTIONS),
             (self.labels, LABEL, MAX_LABELS),
             (self.code, 1, MAX_CODE),
             (self.structures, STRUCTURE_RECORD, structures),
@@ -145,6 +145,14 @@ impl<'a> Tables<'a> {
     /// Bytes of the header.
     fn header(&self, rules: Rules) -> usize {
         Edition::from_word(rules, self.edition).map_or(HEADER, header)
+    }
+
+    /// Bytes of a function record.
+    fn function_size(&self, rules: Rules) -> usize {
+        if rules.wrong(Fault::WritesShortRecords) {
+            return FUNCTION;
+        }
+        Edition::from_word(rules, self.edition).map_or(FUNCTION, function_size)
     }
 
     /// The module's length, its header included.
@@ -177,7 +185,7 @@ impl<'a> Tables<'a> {
 
     /// "A header of counts and offsets, then four sections without gaps."; in edition 4 "words 48
     /// and 52: structure count, at most 16, and offset" and "a last section".
-    fn file(&self, rules: Rules) -> Vec<u8> {
+    pub fn file(&self, rules: Rules) -> Vec<u8> {
         let mut file = vec![0; self.header(rules)];
         let put = |file: &mut Vec<u8>, at: usize, number: usize| {
             file[at..at + 4].copy_from_slice(&(number as u32).to_le_bytes());
@@ -221,7 +229,8 @@ impl<'a> Tables<'a> {
         if rules.wrong(Fault::StartsComputed) {
             let mut place = self.entry_length;
             let from = start + constants;
-            for record in file[from..from + functions].chunks_mut(FUNCTION) {
+            let size = self.function_size(rules);
+            for record in file[from..from + functions].chunks_mut(size) {
                 record[..4].copy_from_slice(&place.to_le_bytes());
                 place = place.wrapping_add(word(record, 4));
             }

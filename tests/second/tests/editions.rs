@@ -344,7 +344,7 @@ fn same(rng: &mut Rng, mut program: Program) -> bool {
         };
         let run = |run| {
             let mut memory = case.run_memory(run);
-            let answer = Second(Rules::PLAIN).run(run.function, run.allowance, &mut memory);
+            let answer = Second(Rules::PLAIN).run(run.start(), &mut memory);
             (
                 answer,
                 memory.payloads,

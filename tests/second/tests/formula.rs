@@ -283,14 +283,17 @@ fn desk_commands() {
         desk::formula(rules, b"(r*3+g)/4"),
         Left::Printed(file.clone())
     );
-    assert_eq!(desk::run(rules, &file, 0, &[10, 20, 30]), "0 8 1\n3 12\n");
-    assert_eq!(desk::run(rules, &file, 0, &[10, 20]), "13\n");
-    assert_eq!(desk::run(rules, &file, 1, &[]), "12\n");
-    assert_eq!(desk::run(rules, &file, 0xFFFF_FFFF, &[]), "0 0 0\n");
-    assert_eq!(desk::run(rules, &file[1..], 0, &[]), "2\n");
+    assert_eq!(
+        desk::run(rules, &file, 0, 0, &[10, 20, 30]),
+        "0 8 1\n3 12\n"
+    );
+    assert_eq!(desk::run(rules, &file, 0, 0, &[10, 20]), "13\n");
+    assert_eq!(desk::run(rules, &file, 0, 1, &[]), "12\n");
+    assert_eq!(desk::run(rules, &file, 0, 0xFFFF_FFFF, &[]), "0 0 0\n");
+    assert_eq!(desk::run(rules, &file[1..], 0, 0, &[]), "2\n");
     let zero = accepted(b"r/g");
     assert_eq!(
-        desk::run(rules, &zero, 0, &[7, 0, 9]),
+        desk::run(rules, &zero, 0, 0, &[7, 0, 9]),
         "24 2 5\n3 7\n3 0\n3 9\n3 7\n3 0\n"
     );
     assert_eq!(desk::decimal("4294967295"), Some(0xFFFF_FFFF));

@@ -197,6 +197,7 @@ fn capacity(payloads: usize, types: usize) -> usize {
         function: ENTRY,
         arg_types: &[],
         arg_payloads: &[],
+        profile: 0,
         allowance: 0,
     };
     let stack = LentStack {

@@ -256,6 +256,7 @@ fn thirteen_lengths() {
             function,
             arg_types: types,
             arg_payloads: payloads,
+            profile: 0,
             allowance: 9,
         };
         let (mut lent, mut lent_types) = ([0xEE; 80], [0xEE; 10]);
@@ -290,8 +291,8 @@ fn thirteen_lengths() {
 
 #[test]
 fn longest() {
-    // 56 + 12 · 1,024 + 20 · 128 + 8 · 256 + 16,384 + 12 · 16, of edition 4
-    assert_eq!(LONGEST, 33_528);
+    // 56 + 12 · 1,024 + 24 · 128 + 8 · 256 + 16,384 + 12 · 16, of edition 4
+    assert_eq!(LONGEST, 34_040);
     let mut file = asm::file("entry:");
     file.resize(LONGEST + 1, 0);
     assert_eq!(read(Rules::PLAIN, &file).err(), Some(3));

@@ -5,8 +5,10 @@
 mod misuse;
 
 use second::check::check;
+use second::conversion::convert;
 use second::formula::formula;
 use second::heap::LentHeap;
+use second::opcode::Edition;
 use second::rules::Rules;
 use second::run::{run, Call, LentStack};
 use second::subject::{checked_number, ran_number, wrote_number};
@@ -75,6 +77,7 @@ pub unsafe extern "C" fn limpetskein_run(
     arg_types_len: usize,
     arg_payloads: *const u8,
     arg_payloads_len: usize,
+    profile: u32,
     allowance: u64,
     payloads: *mut u8,
     payloads_len: usize,
@@ -91,6 +94,7 @@ pub unsafe extern "C" fn limpetskein_run(
         function,
         arg_types: lent(arg_types, arg_types_len),
         arg_payloads: lent(arg_payloads, arg_payloads_len),
+        profile,
         allowance,
     };
     let stack = LentStack {
@@ -166,5 +170,50 @@ pub unsafe extern "C" fn limpetskein_formula(
         length,
         written,
     );
+    number
+}
+
+/// # Safety
+/// As the C interface says: slices that don't overlap, a valid out-parameter.
+#[no_mangle]
+pub unsafe extern "C" fn limpetskein_to_edition_4(
+    module: *const u8,
+    module_len: usize,
+    out: *mut u8,
+    out_len: usize,
+    written: *mut u64,
+) -> u32 {
+    to_edition(Edition::Four, module, module_len, out, out_len, written)
+}
+
+/// # Safety
+/// As the C interface says: slices that don't overlap, a valid out-parameter.
+#[no_mangle]
+pub unsafe extern "C" fn limpetskein_to_edition_3(
+    module: *const u8,
+    module_len: usize,
+    out: *mut u8,
+    out_len: usize,
+    written: *mut u64,
+) -> u32 {
+    to_edition(Edition::Three, module, module_len, out, out_len, written)
+}
+
+/// # Safety
+/// As for the conversions.
+unsafe fn to_edition(
+    to: Edition,
+    module: *const u8,
+    module_len: usize,
+    out: *mut u8,
+    out_len: usize,
+    written: *mut u64,
+) -> u32 {
+    let (file, output) = (lent(module, module_len), lent_mut(out, out_len));
+    let answer = convert(rules(), to, file, output);
+    let length = answer.unwrap_or(0);
+    let number = wrote_number(answer, &mut *written);
+    let input = (module.cast_mut(), module_len);
+    misuse::after_conversion(fault(), input, (out, out_len), length, written);
     number
 }

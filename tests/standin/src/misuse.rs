@@ -103,3 +103,24 @@ pub unsafe fn after_formula(
         _ => {}
     }
 }
+
+/// `length`: the converted module's, or 0 where there is none.
+///
+/// # Safety
+/// As for the conversions; and there are bytes around the slices.
+pub unsafe fn after_conversion(
+    fault: &str,
+    (module, module_len): (*mut u8, usize),
+    (out, out_len): (*mut u8, usize),
+    length: usize,
+    written: *mut u64,
+) {
+    match fault {
+        "misuse-past-output" if out_len > 0 => *out.add(out_len) = 0,
+        "misuse-past-module" if length > 0 && length < out_len => *out.add(length) ^= 1,
+        "misuse-length-written" => *written = out_len as u64,
+        "misuse-module-changed" if module_len > 0 && out_len > 0 => *module ^= 1,
+        "misuse-crash" if out_len > 200 => std::process::abort(),
+        _ => {}
+    }
+}

@@ -1,18 +1,24 @@
 //! Compares the desk's commands of a program with the second program's: `formula LINE` on the
-//! samples and on generated lines, `run FILE FUNCTION [INT...]` on the samples, on the modules
-//! that come of lines, and on generated ones; and what is said to bad usage.
+//! samples and on generated lines, `run [--profile N] FILE FUNCTION [INT...]` on the samples, on
+//! the modules that come of lines, and on generated ones, `convert 4` and `convert 3` on the
+//! samples and on generated modules; and what is said to bad usage.
 //!
 //! `commands <executable> <samples> [--seed N] [--seconds N | --cases N] [--from N] [--most N]`
 
 use second::args;
+use second::conversion::TARGETS;
 use second::desk::{self, Left};
 use second::formula;
 use second::gen::case::Case;
+use second::gen::conversions::ConvertCase;
 use second::gen::lines::{line, LineCase};
+use second::gen::profiles::named;
 use second::gen::rng::Rng;
 use second::hex;
-use second::reader::{read, ENTRY};
+use second::opcode::Edition;
+use second::reader::{read, ENTRY, LONGEST};
 use second::rules::Rules;
+use second::show::MOST_READ;
 use std::ffi::OsString;
 use std::io::Read;
 use std::os::unix::ffi::{OsStrExt, OsStringExt};
@@ -39,6 +45,7 @@ fn main() {
         most: args::number("--most", 5),
     };
     desk.usage(Path::new(samples));
+    desk.long_inputs();
     let files = desk.samples(Path::new(samples));
     let cases = desk.generated();
     let _ = std::fs::remove_file(&desk.scratch);
@@ -50,6 +57,9 @@ fn main() {
         std::process::exit(1);
     }
 }
+
+/// The profile, where one is named, and the function.
+type Start = (Option<u32>, u32);
 
 struct Desk {
     executable: String,
@@ -70,10 +80,33 @@ impl Desk {
             words.extend(more.iter().map(|text| word(text)));
             words
         };
+        let profiled = |number: &str, more: &[&str]| {
+            let option = [word("run"), word("--profile"), word(number), file.clone()];
+            let more = more.iter().map(|text| word(text));
+            option.into_iter().chain(more).collect()
+        };
         for words in [
             vec![word("formula")],
             vec![word("formula"), word("r"), word("g")],
             vec![word("run")],
+            vec![word("run"), word("--profile")],
+            vec![word("run"), word("--profile"), word("5")],
+            profiled("5", &[]),
+            profiled("x", &["0", "1", "1", "2"]),
+            profiled("", &["0", "1", "1", "2"]),
+            profiled("-1", &["0", "1", "1", "2"]),
+            profiled("4294967296", &["0", "1", "1", "2"]),
+            profiled("0", &["0", "1x", "1", "2"]),
+            run(&["--profile", "5", "0", "1", "1", "2"]),
+            run(&["0", "1", "1", "2", "--profile", "5"]),
+            vec![word("convert")],
+            vec![word("convert"), word("1")],
+            vec![word("convert"), word("5")],
+            vec![word("convert"), word("34")],
+            vec![word("convert"), word("-4")],
+            vec![word("convert"), word("")],
+            vec![word("convert"), word("4"), word("3")],
+            vec![word("convert"), word("3"), file.clone()],
             run(&[]),
             run(&["x"]),
             run(&["4294967296"]),
@@ -85,6 +118,20 @@ impl Desk {
             run(&["0", "1", "2", "18446744073709551616"]),
         ] {
             self.compare("usage", &words, &Left::Usage);
+        }
+    }
+
+    /// More bytes than are read: what is past one more than the longest module does not count.
+    fn long_inputs(&mut self) {
+        for to in TARGETS {
+            for length in [LONGEST, MOST_READ, MOST_READ + 5] {
+                let mut file = vec![0; MOST_READ + 5];
+                file[0] = if to == Edition::Four { 3 } else { 4 };
+                file[4..8].copy_from_slice(&(length as u32).to_le_bytes());
+                std::fs::write(&self.scratch, &file).expect("a file for the module");
+                let path = self.scratch.clone();
+                self.convert("a long input", &path, &file, to);
+            }
         }
     }
 
@@ -125,8 +172,10 @@ impl Desk {
                 let file = std::fs::read(path).expect("a sample");
                 let calls: [(u32, &[u32]); 2] = [(0, &[100, 50, 25]), (ENTRY, &[])];
                 for (function, ints) in calls {
-                    self.compare_run("sample", path, &file, function, ints);
+                    self.compare_run("sample", path, &file, (None, function), ints);
                 }
+                self.profiles(path);
+                self.convert("sample", path, &file, other(&file));
                 self.runs(path);
             }
         }
@@ -135,6 +184,20 @@ impl Desk {
             self.differences += 1;
         }
         paths.len() as u64
+    }
+
+    /// What is printed of runs for profiles is the text beside a module of these.
+    fn profiles(&mut self, path: &Path) {
+        let text = std::fs::read_to_string(path.with_extension("profiles")).unwrap_or_default();
+        for run in text.lines() {
+            let (numbers, printed) = run.split_once(": ").expect("numbers and what is printed");
+            let (profile, numbers) = numbers.split_once(' ').expect("profile and function");
+            let mut words: Vec<OsString> = ["run", "--profile", profile].map(Into::into).into();
+            words.push(path.into());
+            words.extend(numbers.split(' ').map(OsString::from));
+            let wanted = format!("{}\n", printed.replace(", ", "\n"));
+            self.compare("sample", &words, &Left::Printed(wanted.into_bytes()));
+        }
     }
 
     /// What is printed of runs is the text beside a formula's module.
@@ -149,7 +212,8 @@ impl Desk {
         }
     }
 
-    /// Generated lines and their modules; every fourth time a generated module.
+    /// Generated lines and their modules; every fourth time a generated module, every fourth time a
+    /// conversion.
     fn generated(&mut self) -> u64 {
         let seed = args::number("--seed", 1);
         let from = args::number("--from", 0);
@@ -170,6 +234,12 @@ impl Desk {
             if number.is_multiple_of(4) {
                 self.module(&place, seed, number);
             }
+            if number % 4 == 2 {
+                let case = ConvertCase::new(seed, number);
+                std::fs::write(&self.scratch, &case.module).expect("a file for the module");
+                let path = self.scratch.clone();
+                self.convert(&place, &path, &case.module, case.to);
+            }
             number += 1;
         }
     }
@@ -184,7 +254,7 @@ impl Desk {
         self.compare(place, &formula_words(&line), &wanted);
         if let Ok(file) = formula::module(Rules::PLAIN, &line) {
             let names = LineCase::new(seed, number).names[0];
-            self.run_of(place, &file, 0, &names);
+            self.run_of(place, &file, (None, 0), &names);
         }
     }
 
@@ -200,6 +270,7 @@ impl Desk {
         let declared = read(Rules::PLAIN, &case.module)
             .ok()
             .and_then(|module| module.function(function));
+        let own = declared.as_ref().map_or(0, |function| function.profile);
         let mut count = declared.map_or(0, |function| function.parameters.len());
         if rng.one_in(10) {
             count = rng.below(10);
@@ -207,23 +278,26 @@ impl Desk {
         let ints: Vec<u32> = (0..count)
             .map(|_| rng.pick(&[0, 1, 7, 300, u32::MAX]))
             .collect();
-        self.run_of(place, &case.module, function, &ints);
+        let profile = (!rng.one_in(4)).then(|| named(&mut rng, own));
+        self.run_of(place, &case.module, (profile, function), &ints);
     }
 
-    fn run_of(&mut self, place: &str, file: &[u8], function: u32, ints: &[u32]) {
+    fn run_of(&mut self, place: &str, file: &[u8], start: Start, ints: &[u32]) {
         std::fs::write(&self.scratch, file).expect("a file for the module");
         let path = self.scratch.clone();
-        self.compare_run(place, &path, file, function, ints);
+        self.compare_run(place, &path, file, start, ints);
     }
 
-    fn compare_run(&mut self, place: &str, path: &Path, file: &[u8], function: u32, ints: &[u32]) {
-        let mut words = vec![
-            OsString::from("run"),
-            path.into(),
-            function.to_string().into(),
-        ];
+    fn compare_run(&mut self, place: &str, path: &Path, file: &[u8], start: Start, ints: &[u32]) {
+        let (profile, function) = start;
+        let mut words = vec![OsString::from("run")];
+        if let Some(profile) = profile {
+            words.extend(["--profile".into(), profile.to_string().into()]);
+        }
+        words.extend([path.into(), function.to_string().into()]);
         words.extend(ints.iter().map(|int| OsString::from(int.to_string())));
-        let printed = desk::run(Rules::PLAIN, file, function, ints);
+        let profile = profile.unwrap_or(0);
+        let printed = desk::run(Rules::PLAIN, file, profile, function, ints);
         let wanted = Left::Printed(printed.into_bytes());
         let differences = self.differences;
         self.compare(place, &words, &wanted);
@@ -232,12 +306,27 @@ impl Desk {
         }
     }
 
+    /// The module of a path on standard input.
+    fn convert(&mut self, place: &str, path: &Path, file: &[u8], to: Edition) {
+        let words = ["convert".into(), to.word().to_string().into()];
+        let wanted = desk::convert(Rules::PLAIN, to, file);
+        let differences = self.differences;
+        self.compare_on(place, Some(path), &words, &wanted);
+        if self.differences > differences {
+            println!("  module: {}", hex::encode(file));
+        }
+    }
+
     fn compare(&mut self, place: &str, words: &[OsString], wanted: &Left) {
+        self.compare_on(place, None, words, wanted);
+    }
+
+    fn compare_on(&mut self, place: &str, input: Option<&Path>, words: &[OsString], wanted: &Left) {
         if self.differences >= self.most {
             return;
         }
         self.calls += 1;
-        let (status, output, errors) = called(&self.executable, words);
+        let (status, output, errors) = called(&self.executable, input, words);
         let same = match wanted {
             // the small program's status is not laid down: a run's must be no sign of bad usage
             Left::Printed(bytes) if words[0] == "run" => {
@@ -274,6 +363,14 @@ impl Desk {
     }
 }
 
+/// The edition that a file is not of.
+fn other(file: &[u8]) -> Edition {
+    match file {
+        [4, ..] => Edition::Three,
+        _ => Edition::Four,
+    }
+}
+
 fn formula_words(line: &[u8]) -> Vec<OsString> {
     vec![OsString::from("formula"), OsString::from_vec(line.to_vec())]
 }
@@ -293,10 +390,15 @@ fn shortened(bytes: &[u8]) -> String {
 
 /// Status, standard output and standard error. A program that doesn't run or doesn't end has no
 /// status, which differs from everything.
-fn called(executable: &str, words: &[OsString]) -> (Option<i32>, Vec<u8>, Vec<u8>) {
+fn called(
+    executable: &str,
+    input: Option<&Path>,
+    words: &[OsString],
+) -> (Option<i32>, Vec<u8>, Vec<u8>) {
+    let file = |path| std::fs::File::open(path).expect("a module");
     let child = Command::new(executable)
         .args(words)
-        .stdin(Stdio::null())
+        .stdin(input.map_or_else(Stdio::null, |path| file(path).into()))
         .stdout(Stdio::piped())
         .stderr(Stdio::piped())
         .spawn();

@@ -3,15 +3,22 @@
 //! `coverage [--seed N] [--cases N] [--full]`
 
 use second::args;
+use second::conversion::TARGETS;
 use second::coverage::Coverage;
 use second::gen::case::Case;
+use second::gen::conversions::ConvertCase;
 use second::gen::lines::LineCase;
 use second::gen::tables::WriteCase;
 use second::opcode::{Edition, EDITIONS};
 use second::possible::{
-    answer_of, exceptions, executions, reasons, CHECK_ANSWERS, FORMULA_ANSWERS, HEAP_EDGES,
-    LINE_EDGES, RUN_ANSWERS, WRITE_ANSWERS,
+    answer_of, conversion_answers, exceptions, executions, reasons, CHECK_ANSWERS,
+    CONVERSION_EDGES, FORMULA_ANSWERS, HEAP_EDGES, LINE_EDGES, PROFILE_EDGES, RUN_ANSWERS,
+    WRITE_ANSWERS,
 };
+use std::collections::BTreeMap;
+
+/// Conversions have fewer edges: one for so many cases is enough.
+const CONVERSIONS: u64 = 6;
 
 fn main() {
     args::expect(&["--seed", "--cases", "--full"]);
@@ -23,6 +30,9 @@ fn main() {
         coverage.add_write(&WriteCase::new(seed, number));
         coverage.add_line(&LineCase::new(seed, number));
     }
+    for number in 0..cases / CONVERSIONS {
+        coverage.add_conversion(&ConvertCase::new(seed, number));
+    }
     println!("coverage of {cases} cases from seed {seed}");
     let full = args::has("--full");
     let mut missing = kinds(&coverage) + lines(&coverage) + answers(&coverage);
@@ -30,7 +40,8 @@ fn main() {
         missing += answers_of(&coverage, edition)
             + executed(&coverage, edition, full)
             + raised(&coverage, edition, full)
-            + refused(&coverage, edition, full);
+            + refused(&coverage, edition, full)
+            + converted(&coverage, edition);
     }
     println!(
         "runs of accepted modules that break demand 3: {}",
@@ -40,8 +51,9 @@ fn main() {
         "formula lines that come out otherwise: {}",
         coverage.misread
     );
+    println!("conversions that come out otherwise: {}", coverage.unlike);
     println!("possible but not reached: {missing}");
-    if missing > 0 || coverage.broken > 0 || coverage.misread > 0 {
+    if missing + coverage.broken + coverage.misread + coverage.unlike > 0 {
         std::process::exit(1);
     }
 }
@@ -96,19 +108,38 @@ fn answers(coverage: &Coverage) -> u64 {
         let count = coverage.formulas.get(&n).copied();
         (n.to_string(), count.unwrap_or(0))
     });
-    let edges = LINE_EDGES.iter().map(|&edge| {
-        let count = coverage.line_edges.get(edge).copied();
-        (edge.to_string(), count.unwrap_or(0))
-    });
-    let heaps = HEAP_EDGES.iter().map(|&edge| {
-        let count = coverage.heap_edges.get(edge).copied();
-        (edge.to_string(), count.unwrap_or(0))
-    });
     let misfit = std::iter::once(("20".to_string(), coverage.misfits));
     row("answers of formulas:", formulas)
-        + row("edges of formula lines:", edges)
-        + row("edges of heaps:", heaps)
         + row("arguments that don't fit:", misfit)
+        + edges("formula lines", &LINE_EDGES, &coverage.line_edges)
+        + edges("heaps", &HEAP_EDGES, &coverage.heap_edges)
+        + edges("profiles", &PROFILE_EDGES, &coverage.profile_edges)
+        + edges("conversions", &CONVERSION_EDGES, &coverage.conversion_edges)
+}
+
+/// One row of edges with their counts.
+fn edges(of: &str, all: &[&'static str], counts: &BTreeMap<&'static str, u64>) -> u64 {
+    let counted = all.iter().map(|&edge| {
+        let count = counts.get(edge).copied();
+        (edge.to_string(), count.unwrap_or(0))
+    });
+    row(&format!("edges of {of}:"), counted)
+}
+
+/// The answers of conversions of an edition's modules, up and down.
+fn converted(coverage: &Coverage, edition: Edition) -> u64 {
+    let mut missing = 0;
+    for to in TARGETS {
+        let numbers = conversion_answers(to, edition).into_iter();
+        let counted = numbers.map(|n| {
+            let count = coverage.conversions.get(&(to, edition, n)).copied();
+            (n.to_string(), count.unwrap_or(0))
+        });
+        let (word, to) = (edition.word(), to.word());
+        let title = format!("answers of conversions to {to}, edition {word}:");
+        missing += row(&title, counted);
+    }
+    missing
 }
 
 fn answers_of(coverage: &Coverage, edition: Edition) -> u64 {

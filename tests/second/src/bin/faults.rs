@@ -1,15 +1,19 @@
 //! Tests the tests: every deliberately wrong variant of the second program must be found by
 //! comparing it with the plain one, on generated cases, or on generated tables for those of the
-//! writer, and lines for those of the formula.
+//! writer, lines for those of the formula, and modules to be converted for those of conversions.
 //!
 //! `faults [--seed N] [--cases N] [--show]`: at most N cases for each variant.
 
 use second::args;
-use second::compare::{compare, compare_formulas, compare_writes};
+use second::compare::{compare, compare_conversions, compare_formulas, compare_writes};
 use second::gen::case::Case;
+use second::gen::conversions::ConvertCase;
 use second::gen::lines::LineCase;
 use second::gen::tables::WriteCase;
-use second::rules::{Fault, Rules, FAULTS, FORMULA_FAULTS, HEAP_FAULTS, WRITER_FAULTS};
+use second::rules::{
+    Fault, Rules, CONVERSION_FAULTS, FAULTS, FORMULA_FAULTS, HEAP_FAULTS, PROFILE_FAULTS,
+    WRITER_FAULTS,
+};
 use second::subject::Second;
 
 /// A wrong variant, its name, and what is wrong.
@@ -23,7 +27,7 @@ fn main() {
     let seed = args::number("--seed", 1);
     let limit = args::number("--cases", 50_000);
     println!("wrong variants, found after how many cases from seed {seed} (at most {limit}):");
-    let variants = [&FAULTS[..], &HEAP_FAULTS[..]].concat();
+    let variants = [&FAULTS[..], &HEAP_FAULTS, &PROFILE_FAULTS].concat();
     let missed = search(&variants, limit, |number| {
         let case = Case::new(seed, number);
         move |wrong: &mut Second| {
@@ -45,8 +49,16 @@ fn main() {
             difference.map(|text| (number + 1, case.kind, text))
         }
     });
-    let all = variants.len() + WRITER_FAULTS.len() + FORMULA_FAULTS.len();
-    let missed = missed + missed_writers + missed_formulas;
+    let missed_conversions = search(&CONVERSION_FAULTS, limit, |number| {
+        let case = ConvertCase::new(seed, number);
+        move |wrong: &mut Second| {
+            let difference = compare_conversions(&case, &mut Second(Rules::PLAIN), wrong);
+            difference.map(|text| (number + 1, case.kind, text))
+        }
+    });
+    let written = WRITER_FAULTS.len() + FORMULA_FAULTS.len() + CONVERSION_FAULTS.len();
+    let all = variants.len() + written;
+    let missed = missed + missed_writers + missed_formulas + missed_conversions;
     println!("{all} wrong variants, {missed} missed");
     if missed > 0 {
         std::process::exit(1);

@@ -4,10 +4,12 @@
 
 use second::desk::{self, Left};
 use second::formula;
+use second::opcode::Edition;
+use second::reader::read;
 use second::rules::Rules;
 use second::samples::{
-    all, LineSample, Sample, HEAP, LIMITS, LINES, NUMBERS, OLD, PROGRAMS, REFUSED, REFUSED_LINES,
-    W_SAMPLES,
+    all, LineSample, Sample, CONVERSIONS, HEAP, LIMITS, LINES, NUMBERS, OLD, PROFILES, PROGRAMS,
+    REFUSED, REFUSED_LINES, W_SAMPLES,
 };
 use second::show::small;
 use std::collections::BTreeMap;
@@ -54,6 +56,17 @@ fn wanted() -> BTreeMap<String, Vec<u8>> {
         files.insert(format!("{}.{MODULE}", sample.name), file);
         files.insert(format!("{}.txt", sample.name), output);
     }
+    for sample in &PROFILES {
+        let runs = profile_runs(&sample.file());
+        if !runs.is_empty() {
+            files.insert(format!("{}.profiles", sample.name), runs.into_bytes());
+        }
+    }
+    for sample in &CONVERSIONS {
+        if let Left::Refused(line) = other_edition(&sample.file()) {
+            files.insert(format!("{}.refused", sample.name), line.into_bytes());
+        }
+    }
     for sample in LINES.iter().chain(&REFUSED_LINES) {
         let mut put = |extension: &str, content: Vec<u8>| {
             files.insert(format!("{}.{extension}", sample.name), content);
@@ -76,11 +89,38 @@ fn wanted() -> BTreeMap<String, Vec<u8>> {
 /// A line for each run of a formula's function: its parameters, and what is printed.
 fn runs(sample: &LineSample, file: &[u8]) -> String {
     let run = |&[r, g, b]: &[u32; 3]| {
-        let printed = desk::run(Rules::PLAIN, file, 0, &[r, g, b]);
+        let printed = desk::run(Rules::PLAIN, file, 0, 0, &[r, g, b]);
         let lines: Vec<&str> = printed.lines().collect();
         format!("{r} {g} {b}: {}\n", lines.join(", "))
     };
     sample.runs.iter().map(run).collect()
+}
+
+/// The profiles that runs of samples name.
+const NAMED: [u32; 6] = [0, 1, 5, 6, 256, u32::MAX];
+
+/// A line for each function and each of these profiles: profile, function, the argument 9, and
+/// what is printed.
+fn profile_runs(file: &[u8]) -> String {
+    let functions = read(Rules::PLAIN, file).map_or(0, |module| module.functions);
+    let mut text = String::new();
+    for function in 0..functions {
+        for profile in NAMED {
+            let printed = desk::run(Rules::PLAIN, file, profile, function, &[9]);
+            let lines: Vec<&str> = printed.lines().collect();
+            text += &format!("{profile} {function} 9: {}\n", lines.join(", "));
+        }
+    }
+    text
+}
+
+/// The module of edition 4 converted to 3, any other to 4.
+fn other_edition(file: &[u8]) -> Left {
+    let to = match file {
+        [4, ..] => Edition::Three,
+        _ => Edition::Four,
+    };
+    desk::convert(Rules::PLAIN, to, file)
 }
 
 /// Files that are missing, different, or not wanted.
@@ -109,7 +149,7 @@ fn readme() -> String {
          Formula lines (`.line`) stand beside their modules, at the end of this list.\n\
          All files of this directory are made by `target/tests/release/samples write samples`,\n\
          which `tests/run` builds; it looks whether they are up to date. Their sources are in\n\
-         `tests/second/src/samples.rs` and `tests/second/src/samples/heap.rs`.\n\n\
+         `tests/second/src/samples.rs` and the files of `tests/second/src/samples`.\n\n\
          The first line of an output is outcome, steps and height; then each slot's type and\n\
          payload, deepest first. A refused module has only its refusal number.\n",
     );
@@ -124,7 +164,54 @@ fn readme() -> String {
     ] {
         text += &table(title, samples);
     }
-    text + &lines()
+    text + &profiles() + &conversions() + &lines()
+}
+
+/// The profiles.
+fn profiles() -> String {
+    let rows = table("Profiles, edition 4", &PROFILES);
+    let text = "\n`NAME.profiles` has for some profiles and each function what\n\
+         `./limpet run --profile PROFILE NAME.lsk FUNCTION 9` prints: the two numbers and 9, then\n\
+         its lines joined by commas. 17 is a function made for another profile.\n";
+    rows + text
+}
+
+/// The conversions: what each module becomes.
+fn conversions() -> String {
+    let mut text = String::from(
+        "\n## Conversions between editions 3 and 4\n\n\
+         `NAME-3.lsk` and `NAME-4.lsk` become each other: `./limpet convert 4 < NAME-3.lsk` writes\n\
+         the bytes of `NAME-4.lsk`, and `./limpet convert 3 < NAME-4.lsk` those of `NAME-3.lsk`.\n\
+         `NAME.refused` is what the command prints on standard error: a module of edition 4 is\n\
+         converted to 3, one of edition 1 to 4.\n\n\
+         | sample | first line of output | becomes | shows |\n|--|--|--|--|\n",
+    );
+    for sample in &CONVERSIONS {
+        let becomes = match other_edition(&sample.file()) {
+            Left::Refused(line) => line.trim_end().to_string(),
+            _ => twin(sample.name),
+        };
+        text += &format!(
+            "| `{}.{MODULE}` | `{}` | `{becomes}` | {} |\n",
+            sample.name,
+            first(sample),
+            sample.shows
+        );
+    }
+    text
+}
+
+/// The file of a sample's twin.
+fn twin(name: &str) -> String {
+    let (start, edition) = name.rsplit_once('-').unwrap_or((name, ""));
+    let other = if edition == "3" { "4" } else { "3" };
+    format!("{start}-{other}.{MODULE}")
+}
+
+/// The first line of the small program's output.
+fn first(sample: &Sample) -> String {
+    let output = small(Rules::PLAIN, &sample.file());
+    output.lines().next().unwrap_or("").to_string()
 }
 
 /// The formula lines.
@@ -180,11 +267,11 @@ fn table(title: &str, samples: &[Sample]) -> String {
     let mut text =
         format!("\n## {title}\n\n| sample | first line of output | shows |\n|--|--|--|\n");
     for sample in samples {
-        let output = small(Rules::PLAIN, &sample.file());
-        let first = output.lines().next().unwrap_or("");
         text += &format!(
-            "| `{}.{MODULE}` | `{first}` | {} |\n",
-            sample.name, sample.shows
+            "| `{}.{MODULE}` | `{}` | {} |\n",
+            sample.name,
+            first(sample),
+            sample.shows
         );
     }
     text

@@ -1,7 +1,8 @@
-//! Shows a generated case, generated tables, a generated formula line, or a module or a line
-//! that is given, and the second program's answers.
+//! Shows a generated case, generated tables, a generated formula line, a generated conversion, or a
+//! module or a line that is given, and the second program's answers.
 //!
-//! `show [--seed N] --case N`, `--write N` or `--formula N`, `show --module HEX`, `show --line LINE`
+//! `show [--seed N] --case N`, `--write N`, `--formula N` or `--conversion N`, `show --module HEX`,
+//! `show --line LINE`
 
 use second::args;
 use second::check::{check, Checked};
@@ -9,6 +10,7 @@ use second::compare::describe;
 use second::formula;
 use second::formula::split;
 use second::gen::case::Case;
+use second::gen::conversions::ConvertCase;
 use second::gen::lines::LineCase;
 use second::gen::tables::WriteCase;
 use second::hex;
@@ -23,6 +25,7 @@ fn main() {
         "--case",
         "--write",
         "--formula",
+        "--conversion",
         "--module",
         "--line",
     ]);
@@ -45,6 +48,9 @@ fn main() {
     if args::value("--formula").is_some() {
         return show_formula(seed, args::number("--formula", 0));
     }
+    if args::value("--conversion").is_some() {
+        return show_conversion(seed, args::number("--conversion", 0));
+    }
     let number = args::number("--case", 0);
     let case = Case::new(seed, number);
     println!("case {number} of seed {seed} ({})", case.kind);
@@ -54,7 +60,7 @@ fn main() {
     println!("check with a room of {} bytes: {answer}", case.room.len());
     for run in &case.runs {
         let mut memory = case.run_memory(run);
-        let answer = Second(Rules::PLAIN).run(run.function, run.allowance, &mut memory);
+        let answer = Second(Rules::PLAIN).run(run.start(), &mut memory);
         println!("run of {}: {answer}", describe(run));
         println!("  steps {}, height {}", memory.steps, memory.height);
         println!("  types {}", hex::encode(memory.types.slice()));
@@ -82,6 +88,20 @@ fn show_formula(seed: u64, number: u64) {
     let answer = Second(Rules::PLAIN).formula(&mut memory);
     println!("formula: {answer}, length {}", memory.written);
     show_line(&case.line, case.names[0]);
+}
+
+fn show_conversion(seed: u64, number: u64) {
+    let case = ConvertCase::new(seed, number);
+    println!("conversion {number} of seed {seed} ({})", case.kind);
+    println!("{}", case.describe());
+    show_module(&case.module);
+    let mut memory = case.memory();
+    let answer = Second(Rules::PLAIN).convert(case.to, &mut memory);
+    println!("conversion: {answer}, length {}", memory.written);
+    println!("output {}", hex::encode(memory.out.slice()));
+    for run in &case.runs {
+        println!("run of {}", describe(run));
+    }
 }
 
 fn show_line(line: &[u8], names: [u32; 3]) {
@@ -135,9 +155,10 @@ fn show_body(module: Module<'_>, body: u32) {
     match module.function(body) {
         None => println!("entry:"),
         Some(function) => println!(
-            "function {body} ({}), returns {}:",
+            "function {body} ({}), returns {}, profile {}:",
             hex::encode(&function.parameters),
-            function.returns
+            function.returns,
+            function.profile
         ),
     }
     for place in module.starts(Rules::PLAIN, body).0 {

@@ -1,6 +1,6 @@
 //! The small program, of the second program: a module on standard input, its output on
 //! standard output. And the desk's commands: `small formula LINE`,
-//! `small run FILE FUNCTION [INT...]`.
+//! `small run [--profile N] FILE FUNCTION [INT...]`, `small convert 4`, `small convert 3`.
 //!
 //! `--fault NAME` first: a wrong variant.
 
@@ -22,12 +22,13 @@ fn main() {
         words.drain(..2);
     }
     let left = match words.first().and_then(|word| word.to_str()) {
-        None => Left::Printed(from_input(rules).into_bytes()),
+        None => Left::Printed(small(rules, &input()).into_bytes()),
         Some("formula") => match &words[1..] {
             [line] => desk::formula(rules, line.as_bytes()),
             _ => Left::Usage,
         },
         Some("run") => run(rules, &words[1..]).unwrap_or(Left::Usage),
+        Some("convert") => convert(rules, &words[1..]).unwrap_or(Left::Usage),
         _ => Left::Usage,
     };
     match left {
@@ -42,22 +43,39 @@ fn main() {
             std::process::exit(1);
         }
         Left::Usage => {
-            eprintln!("usage: small [formula LINE | run FILE FUNCTION [INT...]]");
+            eprintln!(
+                "usage: small [formula LINE | run [--profile N] FILE FUNCTION [INT...] | convert 4 | convert 3]"
+            );
             std::process::exit(2);
         }
     }
 }
 
-fn from_input(rules: Rules) -> String {
+/// Standard input, as much as is read of it.
+fn input() -> Vec<u8> {
     let mut input = Vec::new();
     let mut limited = std::io::stdin().take(MOST_READ as u64);
     limited
         .read_to_end(&mut input)
         .expect("standard input can be read");
-    small(rules, &input)
+    input
+}
+
+fn convert(rules: Rules, words: &[OsString]) -> Option<Left> {
+    let [word] = words else {
+        return None;
+    };
+    let to = desk::target(word.to_str()?)?;
+    Some(desk::convert(rules, to, &input()))
 }
 
 fn run(rules: Rules, words: &[OsString]) -> Option<Left> {
+    let (profile, words) = match words {
+        [option, number, rest @ ..] if option == "--profile" => {
+            (desk::decimal(number.to_str()?)?, rest)
+        }
+        _ => (0, words),
+    };
     let [file, numbers @ ..] = words else {
         return None;
     };
@@ -68,6 +86,6 @@ fn run(rules: Rules, words: &[OsString]) -> Option<Left> {
     let numbers = numbers?;
     let (&function, ints) = numbers.split_first()?;
     let input = std::fs::read(file).ok()?;
-    let printed = desk::run(rules, &input, function, ints);
+    let printed = desk::run(rules, &input, profile, function, ints);
     Some(Left::Printed(printed.into_bytes()))
 }

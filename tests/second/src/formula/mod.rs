@@ -130,6 +130,7 @@ fn program(rules: Rules, items: &[Item]) -> Program {
         parameters: vec![INT; 3],
         returns: INT,
         code,
+        ..Routine::default()
     });
     program
 }

@@ -1,7 +1,8 @@
-//! Calls: function numbers, arguments, allowances, capacities.
+//! Calls: function numbers, arguments, profiles, allowances, capacities.
 
 use super::case::RunCall;
 use super::constants::payload;
+use super::profiles::named;
 use super::rng::Rng;
 use crate::heap::{LentHeap, CELL, ENTRY as BLOCK, MOST_CELLS};
 use crate::machine::{Machine, Watch};
@@ -48,14 +49,15 @@ pub fn runs(rng: &mut Rng, file: &[u8]) -> Vec<RunCall> {
 fn run(rng: &mut Rng, file: &[u8]) -> RunCall {
     let module = read(Rules::PLAIN, file).ok();
     let function = function(rng, module);
-    let parameters = module
-        .and_then(|m| m.function(function))
-        .map_or(Vec::new(), |f| f.parameters);
+    let declared = module.and_then(|m| m.function(function));
+    let own = declared.as_ref().map_or(0, |f| f.profile);
+    let parameters = declared.map_or(Vec::new(), |f| f.parameters);
     let (arg_types, arg_payloads) = arguments(rng, &parameters);
     let mut call = RunCall {
         function,
         arg_types,
         arg_payloads,
+        profile: named(rng, own),
         allowance: 2000,
         payloads: Vec::new(),
         types: Vec::new(),
@@ -150,6 +152,7 @@ fn trial(file: &[u8], call: &RunCall, cells: usize) -> Trial {
         function: call.function,
         arg_types: &call.arg_types,
         arg_payloads: &call.arg_payloads,
+        profile: call.profile,
         allowance: call.allowance,
     };
     let heap = LentHeap {

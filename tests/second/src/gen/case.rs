@@ -1,9 +1,10 @@
 //! A case: one module, one check of it, some runs.
 
+use super::profiles::given;
 use super::rng::Rng;
 use super::{calls, damage, expression, flow, heap, limits, loose, mixed, near, pointers, typed};
 use crate::check::RECORD;
-use crate::memory::{CheckMemory, Lent, RunMemory};
+use crate::memory::{CheckMemory, Lent, RunMemory, Start};
 use crate::opcode::Edition;
 use crate::program::Program;
 use crate::reader::{read, LONGEST};
@@ -15,6 +16,7 @@ pub struct RunCall {
     pub function: u32,
     pub arg_types: Vec<u8>,
     pub arg_payloads: Vec<u8>,
+    pub profile: u32,
     pub allowance: u64,
     /// What the lent slices hold before the run.
     pub payloads: Vec<u8>,
@@ -24,6 +26,16 @@ pub struct RunCall {
     pub blocks: Vec<u8>,
     /// How far the lent slices are off alignment.
     pub shift: usize,
+}
+
+impl RunCall {
+    pub fn start(&self) -> Start {
+        Start {
+            function: self.function,
+            profile: self.profile,
+            allowance: self.allowance,
+        }
+    }
 }
 
 #[derive(Clone, Debug)]
@@ -103,35 +115,47 @@ pub fn module(rng: &mut Rng) -> (&'static str, Vec<u8>) {
         return heap_module(rng);
     }
     match rng.below(100) {
-        0..=21 => ("typed", well_typed(rng, edition).file()),
-        22..=25 => ("flow", flow::program(rng, edition).file()),
-        26..=43 => {
-            let mut program = well_typed(rng, edition);
-            near::change(rng, &mut program);
-            ("near miss", program.file())
-        }
-        44..=45 => ("pointers", pointers::program(rng, edition).file()),
-        46..=55 => ("expression", expression::program(rng, edition).file()),
-        56..=67 => ("mixed operands", mixed::program(rng, edition).file()),
-        68..=75 => ("loose", loose::program(rng, edition).file()),
-        76..=80 => ("stale pointer", loose::stale(rng, edition).file()),
-        81..=84 => ("limit", limits::program(rng, edition).file()),
-        85..=87 => ("random code", loose::random(rng, edition).file()),
         88 => ("random bytes", random_bytes(rng)),
-        _ => {
+        89..=99 => {
             let program = well_typed(rng, edition);
+            let program = given(rng, program);
             ("damaged", damage::file(rng, &program))
         }
+        kind => {
+            let (kind, program) = readable(rng, edition, kind);
+            (kind, given(rng, program).file())
+        }
+    }
+}
+
+/// A program of one of 88 kinds, not all of which can be read.
+pub fn readable(rng: &mut Rng, edition: Edition, kind: usize) -> (&'static str, Program) {
+    match kind {
+        0..=18 => ("typed", well_typed(rng, edition)),
+        19..=22 => ("flow", flow::program(rng, edition)),
+        23..=39 => {
+            let mut program = well_typed(rng, edition);
+            near::change(rng, &mut program);
+            ("near miss", program)
+        }
+        40..=41 => ("pointers", pointers::program(rng, edition)),
+        42..=51 => ("expression", expression::program(rng, edition)),
+        52..=67 => ("mixed operands", mixed::program(rng, edition)),
+        68..=75 => ("loose", loose::program(rng, edition)),
+        76..=80 => ("stale pointer", loose::stale(rng, edition)),
+        81..=84 => ("limit", limits::program(rng, edition)),
+        _ => ("random code", loose::random(rng, edition)),
     }
 }
 
 /// A module of edition 4 that is about its heap.
 fn heap_module(rng: &mut Rng) -> (&'static str, Vec<u8>) {
-    match rng.below(10) {
-        0..=4 => ("heap", heap::program(rng).file()),
-        5..=8 => ("heap astray", heap::astray(rng).file()),
-        _ => ("heap filled", heap::filled(rng).file()),
-    }
+    let (kind, program) = match rng.below(10) {
+        0..=4 => ("heap", heap::program(rng)),
+        5..=8 => ("heap astray", heap::astray(rng)),
+        _ => ("heap filled", heap::filled(rng)),
+    };
+    (kind, given(rng, program).file())
 }
 
 /// Each edition about as often.

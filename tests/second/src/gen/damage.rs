@@ -3,7 +3,7 @@
 use super::rng::Rng;
 use crate::opcode::Edition;
 use crate::program::{Mark, Program};
-use crate::reader::{header, CONSTANT, FUNCTION, LABEL, STRUCTURE_RECORD};
+use crate::reader::{function_size, header, CONSTANT, LABEL, STRUCTURE_RECORD};
 use crate::words::word;
 
 /// Bytes that are no opcode of edition 3, of edition 4, and of edition 1.
@@ -183,8 +183,9 @@ impl Damage<'_> {
     fn function(&mut self, rng: &mut Rng) {
         let count = self.program.functions.len();
         let functions_at = header(self.program.edition) + CONSTANT * self.program.constants.len();
-        let at = functions_at + FUNCTION * rng.below(count);
-        match rng.below(8) {
+        let size = function_size(self.program.edition);
+        let at = functions_at + size * rng.below(count);
+        match rng.below(9) {
             0 => self.change_word(rng, at),
             1 => self.change_word(rng, at + 4),
             2 => {
@@ -203,6 +204,8 @@ impl Damage<'_> {
                 ]);
                 self.put_byte(byte, ty);
             }
+            // any profile is good; the other editions have the next record there
+            7 => self.change_word(rng, at + 20),
             _ => {
                 let byte = at + rng.range(18, 19);
                 self.put_byte(byte, 1);
@@ -274,7 +277,7 @@ impl Damage<'_> {
     fn code_at(&self) -> usize {
         header(self.program.edition)
             + CONSTANT * self.program.constants.len()
-            + FUNCTION * self.program.functions.len()
+            + function_size(self.program.edition) * self.program.functions.len()
             + LABEL * self.program.labels.len()
     }
 

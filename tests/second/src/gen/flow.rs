@@ -48,6 +48,7 @@ pub fn program(rng: &mut Rng, edition: Edition) -> Program {
             parameters: vec![rng.pick(&[INT, LONG]); rng.below(3)],
             returns: rng.pick(&[0, INT]),
             code: Vec::new(),
+            ..Routine::default()
         });
     }
     let owners: Vec<u32> = program.owners();

@@ -97,12 +97,14 @@ impl Writer {
             parameters: vec![ty],
             returns: 0,
             code: instrs(&fill),
+            ..Routine::default()
         });
         let give = [(Op::New, u32::from(STRUCTURE + n)), (Op::Ret, 0)];
         self.program.functions.push(Routine {
             parameters: Vec::new(),
             returns: ty,
             code: instrs(&give),
+            ..Routine::default()
         });
     }
 

@@ -118,11 +118,13 @@ fn frames(rng: &mut Rng) -> Program {
         parameters: vec![INT],
         returns: INT,
         code: instrs(&code),
+        ..Routine::default()
     });
     program.functions.push(Routine {
         parameters: vec![LONG],
         returns: 0,
         code: instrs(&[(Op::Ret, 0)]),
+        ..Routine::default()
     });
     program.labels.push(Mark { owner: 0, index });
     program

@@ -63,6 +63,7 @@ impl LineCase {
                 .iter()
                 .flat_map(|&n| u64::from(n).to_le_bytes())
                 .collect(),
+            profile: self.shift as u32,
             allowance: self.allowance,
             payloads: vec![0xEE; 8 * self.slots],
             types: vec![0xEE; self.slots],
@@ -92,7 +93,7 @@ impl LineCase {
         }
         for (names, run) in self.names.iter().zip(&made.runs) {
             let mut memory = made.run_memory(run);
-            let answer = subject.run(run.function, run.allowance, &mut memory);
+            let answer = subject.run(run.start(), &mut memory);
             let (ty, value) = (memory.types.slice()[0], payload(memory.payloads.slice(), 0));
             let good = match reading.value(*names) {
                 None => answer == 24,

@@ -41,6 +41,7 @@ pub fn program(rng: &mut Rng, edition: Edition) -> Program {
             parameters,
             returns,
             code: Vec::new(),
+            ..Routine::default()
         });
     }
     let strict = rng.pick(&[70, 90, 97, 100]);
@@ -270,6 +271,7 @@ pub fn stale(rng: &mut Rng, edition: Edition) -> Program {
         parameters: vec![0x80 | INT],
         returns,
         code: leak(rng, &program, returns),
+        ..Routine::default()
     });
     program.entry = instrs(&uses(rng, program.edition, returns));
     program
@@ -350,6 +352,7 @@ pub fn random(rng: &mut Rng, edition: Edition) -> Program {
             parameters,
             returns,
             code,
+            ..Routine::default()
         });
     }
     program.entry = random_code(rng, edition, 0);

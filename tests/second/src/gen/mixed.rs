@@ -44,6 +44,7 @@ pub fn program(rng: &mut Rng, edition: Edition) -> Program {
         parameters: vec![first, second][..rng.below(3)].to_vec(),
         returns: structures::returns(rng, edition, count),
         code: instrs(&code(rng, edition, count)),
+        ..Routine::default()
     });
     program.entry = instrs(&code(rng, edition, count));
     for owner in [ENTRY, 0] {

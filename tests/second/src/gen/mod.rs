@@ -1,9 +1,10 @@
-//! Seeded generators of modules, calls, tables and formula lines.
+//! Seeded generators of modules, calls, tables, formula lines and conversions.
 
 pub mod body;
 pub mod calls;
 pub mod case;
 pub mod constants;
+pub mod conversions;
 pub mod damage;
 pub mod expression;
 pub mod flow;
@@ -14,6 +15,7 @@ pub mod loose;
 pub mod mixed;
 pub mod near;
 pub mod pointers;
+pub mod profiles;
 pub mod rng;
 pub mod shapes;
 pub mod structures;

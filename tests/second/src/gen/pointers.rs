@@ -27,6 +27,7 @@ pub fn program(rng: &mut Rng, edition: Edition) -> Program {
             (rng.pick(&[Op::Inc, Op::Dec]), 0),
             (Op::Ret, 0),
         ]),
+        ..Routine::default()
     });
     let code = code(rng);
     let index = rng.below(code.len());

@@ -3,13 +3,14 @@
 use super::case::{edition, module, well_typed};
 use super::constants::constant;
 use super::damage;
+use super::profiles::{given, profile};
 use super::rng::Rng;
 use crate::hex;
 use crate::memory::{Lent, WriteMemory};
 use crate::opcode::{Edition, Op};
 use crate::reader::{
-    header, read, CONSTANT, ENTRY, FUNCTION, HEADER, LABEL, LONGEST, MAX_CODE, MAX_CONSTANTS,
-    MAX_FUNCTIONS, MAX_LABELS, MAX_STRUCTURES, STRUCTURE_RECORD,
+    function_size, header, read, CONSTANT, ENTRY, FUNCTION, HEADER, LABEL, LONGEST, MAX_CODE,
+    MAX_CONSTANTS, MAX_FUNCTIONS, MAX_LABELS, MAX_STRUCTURES, STRUCTURE_RECORD,
 };
 use crate::rules::Rules;
 use crate::types::NUMBERS;
@@ -65,7 +66,8 @@ impl Owned {
         let edition = word(file, 0);
         let known = Edition::from_word(Rules::PLAIN, edition);
         let (constants, rest) = file[known.map_or(HEADER, header)..].split_at(CONSTANT * count(8));
-        let (functions, rest) = rest.split_at(FUNCTION * count(16));
+        let size = known.map_or(FUNCTION, function_size);
+        let (functions, rest) = rest.split_at(size * count(16));
         let (labels, rest) = rest.split_at(LABEL * count(24));
         let (code, structures) = rest.split_at(count(32));
         Owned {
@@ -166,6 +168,7 @@ fn tables(rng: &mut Rng) -> (&'static str, Owned) {
         7..=12 => {
             let edition = edition(rng);
             let program = well_typed(rng, edition);
+            let program = given(rng, program);
             ("damaged", Owned::cut(&damage::records(rng, &program)))
         }
         13..=15 => {
@@ -192,9 +195,10 @@ fn good(rng: &mut Rng) -> Owned {
 
 /// A table that ends in part of a record.
 fn part(rng: &mut Rng, tables: &mut Owned) {
+    let known = Edition::from_word(Rules::PLAIN, tables.edition);
     let (table, record) = match rng.below(4) {
         0 => (&mut tables.constants, CONSTANT),
-        1 => (&mut tables.functions, FUNCTION),
+        1 => (&mut tables.functions, known.map_or(FUNCTION, function_size)),
         2 => (&mut tables.labels, LABEL),
         _ => (&mut tables.structures, STRUCTURE_RECORD),
     };
@@ -241,6 +245,9 @@ fn limits(rng: &mut Rng) -> Owned {
         tables.functions.extend((n as u32).to_le_bytes());
         tables.functions.extend([1, 0, 0, 0]);
         tables.functions.extend([0; 12]);
+        if edition.has_profiles() {
+            tables.functions.extend(profile(rng).to_le_bytes());
+        }
     }
     for _ in 0..labels {
         tables.labels.extend(ENTRY.to_le_bytes());
@@ -300,7 +307,7 @@ fn entry_length(rng: &mut Rng, tables: &Owned) -> u32 {
 }
 
 /// The output's length: enough, or not quite.
-fn output(rng: &mut Rng, needed: usize) -> usize {
+pub fn output(rng: &mut Rng, needed: usize) -> usize {
     match rng.below(20) {
         0..=8 => needed,
         9..=11 => needed - 1,

@@ -74,6 +74,7 @@ pub fn program(rng: &mut Rng, edition: Edition, size: Size) -> Program {
             parameters,
             returns,
             code: Vec::new(),
+            ..Routine::default()
         });
     }
     let limit = (200 / (size.functions + 1)).clamp(4, 14);

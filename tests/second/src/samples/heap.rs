@@ -3,7 +3,7 @@
 use super::{text, Sample, Source};
 
 /// One structure of an int and a double, and a function that takes a pointer to it; the module
-/// that the damaged samples start from. Sections at 56, 68, 88; the structure's record at 110.
+/// that the damaged samples start from. Sections at 56, 68, 92; the structure's record at 114.
 const PLAIN: &str = "edition 4; int 7; structure int, double; entry: new 10; call 0; push 0
     function void (*10): load 0; delete; ret";
 
@@ -255,13 +255,13 @@ pub const HEAP: [Sample; 39] = [
         "heap-refused-5",
         "the structures' offset is not the code's end",
         52,
-        &[105],
+        &[109],
     ),
-    patched("heap-refused-6", "a structure without fields", 110, &[0]),
+    patched("heap-refused-6", "a structure without fields", 114, &[0]),
     patched(
         "heap-refused-6-field",
         "a field that is a pointer",
-        111,
+        115,
         &[0x83],
     ),
     Sample {
@@ -269,7 +269,7 @@ pub const HEAP: [Sample; 39] = [
         shows: "a bad structure and a bad function: 6, though the structure stands last",
         source: Source::Patched(
             "edition 4; structure int; entry: function void (*11): ret",
-            77,
+            81,
             &[9],
         ),
     },
@@ -291,7 +291,7 @@ pub const HEAP: [Sample; 39] = [
         77,
         &[0x83],
     ),
-    patched("heap-refused-8", "opcode 33", 88, &[0x33]),
+    patched("heap-refused-8", "opcode 33", 92, &[0x33]),
     Sample {
         name: "heap-refused-8-old",
         shows: "opcode 30 (null) in edition 3",

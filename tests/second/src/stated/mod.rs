@@ -1,9 +1,11 @@
 //! Checks with their answers stated: module, room before, and what the paper says of number,
 //! body and the whole room afterwards. They are written out from the paper, not computed.
-//! `runs`, `writes` and `formulas` have the same for runs, writes and formula lines.
+//! `runs`, `writes`, `formulas` and `conversions` have the same for runs, writes, formula lines and
+//! conversions.
 
 mod bodies;
 mod calls;
+pub mod conversions;
 pub mod editions;
 mod ends;
 pub mod formulas;

@@ -1,12 +1,13 @@
 //! Runs on a lent heap with their answers stated: what document 02's A6 says of outcome, steps,
-//! stack, cells and table, with everything that was lent written out.
+//! stack, cells and table, with everything that was lent written out. `profiles` has what A7 says.
 
+mod profiles;
 mod rows;
 
 use crate::asm;
 use crate::compare::run_difference;
 use crate::gen::case::{HEIGHT_BEFORE, STEPS_BEFORE};
-use crate::memory::{Lent, RunMemory};
+use crate::memory::{Lent, RunMemory, Start};
 use crate::reader::ENTRY;
 use crate::subject::Subject;
 use rows::{Row, GIVEN, RAISED, TAKEN_BACK};
@@ -21,6 +22,7 @@ pub struct StatedRun {
     pub file: Vec<u8>,
     pub function: u32,
     pub args: Vec<Slot>,
+    pub profile: u32,
     pub allowance: u64,
     pub slots: usize,
     /// Bytes of heap and of table that are lent.
@@ -107,7 +109,12 @@ impl StatedRun {
         if let Some(left) = &self.left {
             left.write(&mut wanted);
         }
-        let answer = subject.run(self.function, self.allowance, &mut memory);
+        let start = Start {
+            function: self.function,
+            profile: self.profile,
+            allowance: self.allowance,
+        };
+        let answer = subject.run(start, &mut memory);
         if answer == self.answer && memory == wanted {
             return None;
         }
@@ -131,6 +138,7 @@ pub fn all() -> Vec<StatedRun> {
     all.extend(functions());
     all.extend(capacities());
     all.extend(other_editions());
+    all.extend(profiles::cases());
     all
 }
 
@@ -162,6 +170,7 @@ fn run(answer: u32, steps: u64, code: &str, stack: &[Slot], table: &[[u64; 3]]) 
         file: asm::file(&format!("{START} {code}")),
         function: ENTRY,
         args: Vec::new(),
+        profile: 0,
         allowance: 1000,
         slots: SLOTS,
         heap: 8 * CELLS,

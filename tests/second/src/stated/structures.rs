@@ -32,22 +32,22 @@ pub fn file(entry: &str, label: usize, (parameter, returns): (u8, u8), function:
     let (entry, function) = (bytes(entry), bytes(function));
     let length = entry.len() + function.len();
     let mut file = Vec::new();
-    // sections at 56, 92, 112, 120, and after the code
+    // sections at 56, 92, 116, 124, and after the code
     for word in [
         4,
-        120 + length + 24,
+        124 + length + 24,
         3,
         56,
         1,
         92,
         1,
-        112,
+        116,
         length,
-        120,
+        124,
         entry.len(),
         0,
         2,
-        120 + length,
+        124 + length,
     ] {
         file.extend((word as u32).to_le_bytes());
     }
@@ -56,6 +56,8 @@ pub fn file(entry: &str, label: usize, (parameter, returns): (u8, u8), function:
         file.extend((word as u32).to_le_bytes());
     }
     file.extend([1, returns, parameter, 0, 0, 0, 0, 0, 0, 0, 0, 0]);
+    // its profile, at 112
+    file.extend([0; 4]);
     file.extend(ENTRY.to_le_bytes());
     file.extend((label as u32).to_le_bytes());
     file.extend(entry);
@@ -226,6 +228,7 @@ pub fn cases() -> Vec<Stated> {
     cases.extend(patched());
     cases.extend(signatures());
     cases.extend(opcodes());
+    cases.extend(profiles());
     cases
 }
 
@@ -358,41 +361,41 @@ fn short_files() -> Vec<Stated> {
     cases
 }
 
-/// Number, what is wrong, and bytes that replace others. Structures begin at 131.
+/// Number, what is wrong, and bytes that replace others. Structures begin at 135.
 const PATCHES: [(u32, &str, usize, &[u8]); 33] = [
     (2, "edition 260", 1, &[1]),
-    (3, "total length", 4, &[156]),
+    (3, "total length", 4, &[160]),
     (4, "17 structures", 48, &[17]),
     (4, "2^24 structures and two", 51, &[1]),
     (4, "word 44", 44, &[1]),
     (5, "one structure", 48, &[1]),
     (5, "three structures", 48, &[3]),
-    (5, "offset of structures", 52, &[130]),
+    (5, "offset of structures", 52, &[134]),
     (5, "offset of structures, upper byte", 55, &[1]),
     (5, "offset of constants", 12, &[48]),
-    (5, "offset of code", 36, &[121]),
+    (5, "offset of code", 36, &[125]),
     (6, "constant of type 10", 56, &[10]),
     (6, "constant of type 8A", 56, &[0x8A]),
-    (6, "no fields", 131, &[0]),
-    (6, "nine fields", 131, &[9]),
-    (6, "255 fields", 143, &[255]),
-    (6, "three fields, two types", 131, &[3]),
-    (6, "one field, two types", 131, &[1]),
-    (6, "field of type 0", 132, &[0]),
-    (6, "field of type 5", 133, &[5]),
-    (6, "field of type 7", 132, &[7]),
-    (6, "field of type 10", 144, &[10]),
-    (6, "field of type 83", 144, &[0x83]),
-    (6, "field of type 8B", 132, &[0x8B]),
-    (6, "unused field byte", 134, &[3]),
-    (6, "last unused field byte", 139, &[6]),
-    (6, "first zero", 140, &[1]),
-    (6, "second zero", 141, &[3]),
-    (6, "last zero of the last structure", 154, &[1]),
-    (6, "a structure and a function", 143, &[0]),
+    (6, "no fields", 135, &[0]),
+    (6, "nine fields", 135, &[9]),
+    (6, "255 fields", 147, &[255]),
+    (6, "three fields, two types", 135, &[3]),
+    (6, "one field, two types", 135, &[1]),
+    (6, "field of type 0", 136, &[0]),
+    (6, "field of type 5", 137, &[5]),
+    (6, "field of type 7", 136, &[7]),
+    (6, "field of type 10", 148, &[10]),
+    (6, "field of type 83", 148, &[0x83]),
+    (6, "field of type 8B", 136, &[0x8B]),
+    (6, "unused field byte", 138, &[3]),
+    (6, "last unused field byte", 143, &[6]),
+    (6, "first zero", 144, &[1]),
+    (6, "second zero", 145, &[3]),
+    (6, "last zero of the last structure", 158, &[1]),
+    (6, "a structure and a function", 147, &[0]),
     (7, "byte 18 of the function", 110, &[1]),
-    (8, "opcode 33", 120, &[0x33]),
-    (9, "label on the entry's end", 116, &[5]),
+    (8, "opcode 33", 124, &[0x33]),
+    (9, "label on the entry's end", 120, &[5]),
 ];
 
 fn patched() -> Vec<Stated> {
@@ -465,5 +468,31 @@ fn opcodes() -> Vec<Stated> {
             cases.push(stated);
         }
     }
+    cases
+}
+
+/// "the profile it was made for, 0 for any": a check takes any, and does not look at it.
+fn profiles() -> Vec<Stated> {
+    let mut cases = Vec::new();
+    for at in 112..116 {
+        for byte in [1, 5, 0x80, 0xFF] {
+            let name = format!("edition 4, profile byte {byte:02X} at {at}");
+            let mut file = file("0100000000", 0, STRUCTURE, FUNCTION);
+            file[at] = byte;
+            let mut stated = Stated::new(&name, file.clone(), 64 + REST);
+            stated.after[..64].copy_from_slice(&record(Some((&[], &[]))));
+            cases.push(stated);
+            // the two zero bytes before it are still looked at
+            file[111] = 1;
+            cases.push(refused(&format!("{name}, and at 111"), file, 64, 7));
+        }
+    }
+    // a record of 20 bytes, with the offsets that this gives
+    let mut short = file("0100000000", 0, STRUCTURE, FUNCTION);
+    short.drain(112..116);
+    for at in [4, 28, 36, 52] {
+        short[at] -= 4;
+    }
+    cases.push(refused("edition 4, a record of 20 bytes", short, 64, 5));
     cases
 }

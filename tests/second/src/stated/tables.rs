@@ -4,22 +4,34 @@ use super::writes::{base, bytes, counts, joined, refused, stated, with, StatedWr
 use crate::gen::tables::Owned;
 
 /// Two of each: structure 10 of an int and a double, structure 11 of a long; a function of an int
-/// and a pointer to structure 10 that returns one to structure 11.
+/// and a pointer to structure 10 that returns one to structure 11, made for profile 5.
 fn two() -> Owned {
     Owned {
         edition: 4,
         functions: bytes(
-            "0A000000 06000000 02 8B 038A000000000000 0000
-             10000000 01000000 00 00 0000000000000000 0000",
+            "0A000000 06000000 02 8B 038A000000000000 0000 05000000
+             10000000 01000000 00 00 0000000000000000 0000 00000000",
         ),
         structures: bytes("02 0306000000000000 000000 01 0400000000000000 000000"),
         ..base()
     }
 }
 
-/// Sections at 56, 80, 120, 136 and 153; 177 bytes.
-const HEADER: &str = "04000000 B1000000 02000000 38000000 02000000 50000000 02000000 78000000
-    11000000 88000000 0A000000 00000000 02000000 99000000";
+/// Sections at 56, 80, 128, 144 and 161; 185 bytes.
+const HEADER: &str = "04000000 B9000000 02000000 38000000 02000000 50000000 02000000 80000000
+    11000000 90000000 0A000000 00000000 02000000 A1000000";
+
+/// Tables of edition 3 for edition 4: each function record has one more word, 0.
+fn long(tables: Owned) -> Owned {
+    let records = tables.functions.chunks(20);
+    Owned {
+        edition: 4,
+        functions: records
+            .flat_map(|record| [record, &[0; 4]].concat())
+            .collect(),
+        ..tables
+    }
+}
 
 /// A structure of eight doubles.
 const EIGHT: &str = "08 0606060606060606 000000";
@@ -32,6 +44,7 @@ pub fn cases() -> Vec<StatedWrite> {
     all.extend(first_number());
     all.extend(for_other_editions());
     all.extend(opcodes());
+    all.extend(records());
     all
 }
 
@@ -41,22 +54,19 @@ fn written() -> Vec<StatedWrite> {
         00000000 38000000 00000000 00000000 00000000 38000000";
     let nothing = || with(Owned::default(), 4);
     // no structure: its offset is the code's end
-    let none = Owned {
-        structures: Vec::new(),
-        ..with(base(), 4)
-    };
-    let none_header = "04000000 99000000 02000000 38000000 02000000 50000000 02000000 78000000
-        11000000 88000000 0A000000 00000000 00000000 99000000";
+    let none = long(base());
+    let none_header = "04000000 A1000000 02000000 38000000 02000000 50000000 02000000 80000000
+        11000000 90000000 0A000000 00000000 00000000 A1000000";
     let none_file = joined(none_header, &none);
     let mut all = vec![
-        stated("edition 4, two of each", two(), 177, Ok(file.clone())),
+        stated("edition 4, two of each", two(), 185, Ok(file.clone())),
         stated("edition 4 to more", two(), 200, Ok(file.clone())),
         stated("edition 4 to 40,000", two(), 40_000, Ok(file)),
         stated("edition 4, nothing", nothing(), 56, Ok(bytes(empty))),
         stated("edition 4, nothing to 60", nothing(), 60, Ok(bytes(empty))),
-        stated("edition 4, no structures", none, 153, Ok(none_file)),
+        stated("edition 4, no structures", none, 161, Ok(none_file)),
     ];
-    for out in [0, 1, 48, 55, 56, 153, 165, 176] {
+    for out in [0, 1, 48, 55, 56, 161, 173, 184] {
         let name = format!("edition 4 to {out} bytes");
         all.push(stated(&name, two(), out, Err(16)));
     }
@@ -70,27 +80,27 @@ fn written() -> Vec<StatedWrite> {
 /// "structure count, at most 16"; "(part of a record at a table's end is 5)"
 fn limits() -> Vec<StatedWrite> {
     let structures = |count: usize, more: usize| {
-        let mut tables = with(counts(1, 1, 1, 9), 4);
+        let mut tables = long(counts(1, 1, 1, 9));
         tables.structures = bytes(EIGHT).repeat(count);
         tables.structures.extend(vec![0; more]);
         tables
     };
-    let mut full = with(counts(1024, 128, 256, 16_384), 4);
+    let mut full = long(counts(1024, 128, 256, 16_384));
     full.structures = bytes(EIGHT).repeat(16);
-    let header = "04000000 F8820000 00040000 38000000 80000000 38300000 00010000 383A0000
-        00400000 38420000 803F0000 00000000 10000000 38820000";
+    let header = "04000000 F8840000 00040000 38000000 80000000 38300000 00010000 383C0000
+        00400000 38440000 803F0000 00000000 10000000 38840000";
     let file = joined(header, &full);
     let mut all = vec![
         stated(
             "edition 4, all at their limits",
             full.clone(),
-            33_528,
+            34_040,
             Ok(file),
         ),
         stated(
             "edition 4, the longest, a byte short",
             full,
-            33_527,
+            34_039,
             Err(16),
         ),
         refused(4, "17 structures", structures(17, 0)),
@@ -174,7 +184,7 @@ fn patched() -> Vec<StatedWrite> {
         let name = format!("edition 4, {name}");
         all.push(refused(number, &name, tables.clone()));
         let short = format!("{name}, a byte short");
-        all.push(stated(&short, tables, 176, Err(number)));
+        all.push(stated(&short, tables, 184, Err(number)));
     }
     all
 }
@@ -215,8 +225,11 @@ fn first_number() -> Vec<StatedWrite> {
 
 /// The same tables for other editions.
 fn for_other_editions() -> Vec<StatedWrite> {
-    let mut without = with(two(), 3);
-    without.structures.clear();
+    let mut longer = with(two(), 3);
+    longer.structures.clear();
+    let mut without = longer.clone();
+    without.functions.drain(44..48);
+    without.functions.drain(20..24);
     let mut wrong = with(two(), 5);
     wrong.structures = bytes(EIGHT).repeat(17);
     wrong.labels.push(0);
@@ -227,6 +240,7 @@ fn for_other_editions() -> Vec<StatedWrite> {
             with(two(), 3),
         ),
         refused(7, "edition 3, pointers to structures alone", without),
+        refused(5, "edition 3, records of 24 bytes", longer),
         refused(2, "edition 5, all wrong", wrong),
     ]
 }
@@ -255,5 +269,49 @@ fn opcodes() -> Vec<StatedWrite> {
             all.push(refused(8, &name, tables));
         }
     }
+    all
+}
+
+/// "one more word at its end": a record of edition 4 has 24 bytes, and any word in the last four.
+fn records() -> Vec<StatedWrite> {
+    let mut all = Vec::new();
+    for profile in ["01000000", "00010000", "00000080", "FFFFFFFF"] {
+        for at in [20, 44] {
+            let mut tables = two();
+            tables.functions[at..at + 4].copy_from_slice(&bytes(profile));
+            let name = format!("edition 4, profile {profile} at {at}");
+            let file = joined(HEADER, &tables);
+            all.push(stated(&name, tables.clone(), 185, Ok(file)));
+            // the zero before it is still looked at
+            tables.functions[at - 1] = 1;
+            all.push(refused(7, &format!("{name}, no zero before"), tables));
+        }
+    }
+    for length in [1, 4, 12, 20, 23] {
+        let mut tables = with(Owned::default(), 4);
+        tables.functions = vec![0; length];
+        let name = format!("edition 4, {length} bytes of a function");
+        all.push(refused(5, &name, tables));
+        let mut tables = two();
+        tables.functions.truncate(24 + length);
+        let name = format!("edition 4, a function and {length} bytes");
+        all.push(refused(5, &name, tables));
+    }
+    // six records of 20 bytes are five of 24, of which the second is bad
+    let six = with(counts(0, 6, 0, 6), 4);
+    all.push(refused(7, "edition 4, six records of 20 bytes", six));
+    let one = with(counts(0, 1, 0, 1), 4);
+    all.push(refused(5, "edition 4, a record of 20 bytes", one));
+    for (functions, number) in [(128, 5), (129, 4)] {
+        let mut tables = long(counts(0, functions, 0, functions));
+        tables.functions.extend([0; 20]);
+        let name = format!("edition 4, {functions} functions and 20 bytes");
+        all.push(refused(number, &name, tables));
+    }
+    all.push(refused(
+        4,
+        "edition 4, 129 functions",
+        long(counts(0, 129, 0, 129)),
+    ));
     all
 }

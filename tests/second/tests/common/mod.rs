@@ -33,6 +33,7 @@ pub fn run_file(
         function,
         arg_types: &arg_types,
         arg_payloads: &arg_payloads,
+        profile: 0,
         allowance,
     };
     let stack = LentStack {
