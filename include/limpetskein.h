@@ -207,8 +207,8 @@ uint32_t limpetskein_run(const uint8_t *module, size_t module_len, uint32_t func
  *                                     .types = types, .types_len = sizeof types};
  *     uint32_t number = limpetskein_call_run(&call);
  *
- * Members that are not named are 0: no arguments, no heap, function 0, a scan of profile 0. steps and height are written as *steps and *height
- * are; a refusal leaves them as they were.
+ * Members that are not named are 0: no arguments, no heap, function 0, a scan of profile 0. steps and height are written as
+ * *steps and *height are; a refusal leaves them as they were.
  */
 struct limpetskein_call {
     const uint8_t *module;
@@ -307,6 +307,9 @@ uint32_t limpetskein_formula(const uint8_t *line, size_t line_len, uint8_t *out,
  *   0               the new module, and past it unchanged. It can be read. Converted back it has the same bytes as
  *                   before, both ways. Its runs answer as those of the old module do, with the same steps, slots and
  *                   heap, whatever the scan's profile is.
+ *                   The check of the module of edition 4 answers as that of the module of edition 3, label records
+ *                   included, wherever the latter is accepted or has neither cmp nor icmp. Edition 4's take any two
+ *                   pointers, so what only these keep from being accepted in edition 3 is accepted in edition 4.
  */
 uint32_t limpetskein_to_edition_4(const uint8_t *module, size_t module_len, uint8_t *out, size_t out_len,
                                   uint64_t *written);
