@@ -50,7 +50,7 @@ Shows m b p bytes =
 
 -- ---- the second part: "how a run can end"
 
--- "The four ends are outcomes 0, 15, 20 and 24." 02: "Demand 3's ends .. gain this", 35 (A2); "gain, in edition 4, 33 and 36" (A6). By
+-- "The four ends are outcomes 0, 15, 20 and 24." 02: "Demand 3's ends .. gain this", 35 (A2), and 44 but in edition 1 (A8); "gain, in edition 4, 33 and 36" (A6). By
 -- edition; exactly these: `Ends`
 pub data End : ℕ → ℕ → Type 0 where
   finished : {e : ℕ} → End e 0
@@ -58,6 +58,7 @@ pub data End : ℕ → ℕ → Type 0 where
   overflow : {e : ℕ} → End e 20
   zero-divide : {e : ℕ} → End e 24
   no-order : {e : ℕ} → End e 35
+  no-fit : {e : ℕ} → (e ≡ 1 → ⊥) → End e 44
   no-block : End 4 33
   null-followed : End 4 36
 
@@ -127,7 +128,7 @@ pub record Demand3 : Type 0 where
   pub same-lists : (m : Module) (b : Body) (p : ℕ) → Reached m b p → (T U : Typing) → Consistent m b T → Consistent m b U → T p ≡ U p
   -- "Take any accepted module, run from its entry or from any function without pointer parameters on any arguments that
   -- document 01 admits. Whatever the allowance and the lent stack, this run can only finish, use up its allowance, overflow
-  -- the stack or divide by zero"; or compare with a NaN (02, A2); or, in edition 4, follow a pointer to no live block, or null (A6). (With a pointer parameter, or with arguments that are not admitted, the run is
+  -- the stack or divide by zero"; or compare with a NaN (02, A2); or, but in edition 1, convert what is out of range (A8); or, in edition 4, follow a pointer to no live block, or null (A6). (With a pointer parameter, or with arguments that are not admitted, the run is
   -- refused: 13; 17 is "no run in demand 3's sense" (A7).)
   pub ends : (s room : List ℕ) → IsAccepted s room → (f : ℕ) (args : Lent) (scan : ℕ) → scanRefusal s f args scan ≡ 0
       → (n : ℕ) (x : Lent) (y : LentHeap) → End (read s .edition) (runNumber (runModule s f args scan n x y .answer))
