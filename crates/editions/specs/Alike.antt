@@ -1,19 +1,18 @@
 -- 02, A7: code and tables of editions 3 and 4 with paired function records are cut alike and refused alike.
-use mathlib.Core.Path.{_≡_, refl, sym, ap, _∙_}
+use mathlib.Core.Path.{_≡_, refl, ap, _∙_}
 use Prim.Native.Nat.{ℕ, zero, suc, _+_, _*_, _%_, _≤_, _<_}
 use native.Mathlib.Omega.{arith}
-use mathlib.Core.Bool.{Bool, true, false}
+use mathlib.Core.Bool.{Bool, false}
 use mathlib.Core.List.{List, [], _∷_}
-use lib.ListN.{length, getD, set}
-use lib.Seq.{getD-set-other}
+use lib.ListN.{length, getD}
 use lib.Dec.{ltb, eqb}
 use Rattle.rules.specs.Bytes.{byte, word, some-below}
-use Rattle.rules.specs.Instructions.{Opcode, absent, bare, edition3, edition4, opcodeOf, isAbsent}
+use Rattle.rules.specs.Instructions.{isAbsent}
 use Rattle.rules.specs.Tables.{Bodies, Tables, tables, functionAt, labelAt, badParam, badRecord, badFunction, badFunctions, endBefore, opcodeAt, dueAfter, due, unknownAt, crossed, badCode, owns, badLabel, badLabels, labelCount, firstOf, contentTests}
 use Rattle.rules.specs.Writing.{tooMany, broken, tableRefusal}
-use Rattle.soundness.specs.Names.{one, count}
-use Rattle.soundness.specs.Tests.{decide, eqb-is, ltb-is, ltb-isnt, false-true}
-use Rattle.soundness.specs.Numbering.{keyed}
+use Rattle.soundness.specs.Names.{one}
+use Rattle.soundness.specs.Tests.{decide, eqb-is, ltb-is, ltb-isnt}
+use Rattle.soundness.specs.Numbering.{third-in-fourth}
 use Rattle.editions.specs.Paired.{Paired, pair-byte, pair-byte-at, pair-start, pair-length, pair-counts}
 
 -- tests that agree below n
@@ -24,14 +23,6 @@ same-below (suc n) f g h = rw (same-below n f g (λ i l. h i (omega arith)), h n
 
 -- ---- opcodes
 
--- edition 4 has edition 3's
-more-opcodes : (b : ℕ) → isAbsent (opcodeOf edition3 b) ≡ false → opcodeOf edition4 b ≡ opcodeOf edition3 b
-more-opcodes b h =
-    let inc : Opcode = bare (one (count true)) in
-    let dec : Opcode = bare (one (count false)) in
-    sym (getD-set-other (set edition4 0x29 inc) 0x2a b dec absent (λ q. false-true (sym (rw q at h)))
-    ∙ getD-set-other edition4 0x29 b inc absent (λ q. false-true (sym (rw q at h)))) ∙ keyed 3 b h
-
 -- code of which edition 3 knows every instruction, by either edition's cut
 abbrev pub Known : List ℕ → Type 0
 Known code = (p : ℕ) → p < length code → due 3 code p ≡ 0 → due 4 code p ≡ 0 → isAbsent (opcodeAt 3 code p) ≡ false
@@ -40,7 +31,7 @@ module _ (code : List ℕ) (known : Known code) where
   -- where an instruction begins in both cuts it has the same opcode; past the code's end there is none
   opcode-at : (p : ℕ) → due 3 code p ≡ 0 → due 4 code p ≡ 0 → opcodeAt 4 code p ≡ opcodeAt 3 code p
   opcode-at p d e =
-      decide (ltb p (length code)) (λ y. more-opcodes (byte code p) (known p (ltb-is p (length code) y) d e))
+      decide (ltb p (length code)) (λ y. third-in-fourth (byte code p) (known p (ltb-is p (length code) y) d e))
       (λ y. let z : byte code p ≡ 0 = getD-past code p (ltb-isnt p (length code) y) in rw z refl)
     where
       getD-past : (l : List ℕ) (i : ℕ) → length l ≤ i → getD l i 0 ≡ 0

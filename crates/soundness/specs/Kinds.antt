@@ -15,9 +15,9 @@ use Rattle.rules.specs.Tables.{constantCount, constantAt, constantOf, bodyOf, M
 use Rattle.rules.specs.ModuleFile.{constantsIn, refusal, read}
 use Rattle.rules.specs.Stack.{Lent}
 use Rattle.rules.specs.Heap.{Block, Heap}
-use Rattle.rules.specs.Operations.{zeroDivide, unordered, class1, class2, refuse, eval1, eval2}
+use Rattle.rules.specs.Operations.{zeroDivide, unordered, class1, class2, refuse, eval1, eval2, unfit}
 use Rattle.rules.specs.Answers.{fits, declared, arguments, runRefusal, startState}
-use Rattle.rules.specs.Claims.{Each, HeapLaid}
+use Rattle.rules.specs.Claims.{Each, HeapLaid, no-fit}
 use Rattle.soundness.specs.Tests.{decide, none-some, some-inj, eqb-is, ltb-is, false-true, and-both}
 use Rattle.soundness.specs.Readable.{NumberByte, constant-type}
 use Rattle.soundness.specs.Cutting.{constants-good}
@@ -59,7 +59,7 @@ ones pop v p = tt
 ones copy v p = (p, (p, tt))
 ones neg v p = (p, tt)
 ones complement v p = (p, tt)
-ones (convert τ) v p = (num-kind τ, tt)
+ones (convert r τ) v p = decide (r && unfit τ (v .kind) (v .payload)) (λ y. rw y no-fit) (λ y. rw y (num-kind τ, tt))
 ones (count u) v p = (p, tt)
 
 twos : (o : Binary) (v w : Slot) → OfKind v → OfKind w → Yielded OfKind (eval2 o v w)

@@ -16,12 +16,12 @@ use lib.Ieee.{Float, nan, inf, fin, up, down}
 use Rattle.soundness.specs.Names.{Num, int, long, double, Slot, Operator, add, sub, mul, imul, div, idiv, rem, irem, and, or, xor, shl, sal, shr, sar, Unary, pop, copy, neg, complement, convert, count, Binary, swap, arith as arithmetic, cmp}
 use Rattle.rules.specs.Bytes.{byte, number, word, maybe}
 use Rattle.rules.specs.Words.{signedOf, patternOf, idivOf, imodOf, shlOf, shrOf, sarOf, notOf, orderOf, cmpOf, icmpOf}
-use Rattle.rules.specs.Doubles.{decodeOf, wordOf, cutOf}
+use Rattle.rules.specs.Doubles.{decodeOf, truncated, cutFits, cutOf}
 use Rattle.rules.specs.Tables.{constantCount, constantAt, badConstants, differs, oddConstant, badConstant, constantOf, Module, moduleOf}
 use Rattle.rules.specs.ModuleFile.{constants, constantsAt, constantsIn, refusal, read}
 use Rattle.rules.specs.Stack.{slot, pointerTo}
-use Rattle.rules.specs.Operations.{low, onWords, computed, zeroDivide, negated, complemented, converted, compared, unordered, bumped, Class, any, number as numbers, whole, class1, class2, refuse, Result, yields, raises, eval1, eval2, apply1, apply2}
-use Rattle.rules.specs.Claims.{RunEnd, AreBytes}
+use Rattle.rules.specs.Operations.{low, onWords, computed, zeroDivide, negated, complemented, converted, compared, unordered, bumped, Class, any, number as numbers, whole, class1, class2, refuse, Result, yields, raises, eval1, eval2, apply1, apply2, unfit}
+use Rattle.rules.specs.Claims.{RunEnd, AreBytes, no-fit}
 use Rattle.soundness.specs.Tests.{decide, none-some, some-inj, eqb-is, ltb-is, or-neither, not-false}
 use Rattle.soundness.specs.Readable.{good-constant, constant-word}
 use Rattle.soundness.specs.Cutting.{constants-good, bytes-cut}
@@ -44,16 +44,9 @@ order-narrow true same = omega arith
 order-narrow false true = omega arith
 order-narrow false false = omega arith
 
-word-narrow : (z : ℤ) → wordOf 32 z < 2 ^ 32
-unfolding wordOf
-word-narrow (pos t) = decide (ltb t (2 ^ 32)) (λ y. rw y (ltb-is t (2 ^ 32) y)) (λ y. rw y (omega arith))
-word-narrow (negsuc t) = decide (ltb t (2 ^ 31)) (λ y. rw y (omega arith)) (λ y. rw y (omega arith))
-
-cut-narrow : (x : Float) → cutOf 32 x < 2 ^ 32
+pub cut-narrow : (x : Float) → cutOf 32 x < 2 ^ 32
 unfolding cutOf
-cut-narrow nan = omega arith
-cut-narrow (inf s) = omega arith
-cut-narrow (fin s m e) = word-narrow (cond s (negℤ (pos (m * up e / down e))) (pos (m * up e / down e)))
+cut-narrow x = decide (cutFits 32 x) (λ y. rw y (pattern-narrow (truncated x))) (λ y. rw y (omega arith))
 
 shr-narrow : (a k : ℕ) → a < 2 ^ 32 → shrOf 32 a k < 2 ^ 32
 unfolding shrOf
@@ -139,9 +132,9 @@ module _ (B : Type 0) where
   ones copy v p = (p, (p, tt))
   ones neg v p = ((λ b e. negated-narrow (v .kind) (v .payload) e), tt)
   ones complement v p = ((λ b e. complemented-narrow (v .kind) (v .payload) e), tt)
-  ones (convert int) v p = ((λ b e. converted-narrow (v .kind) (v .payload) (p b)), tt)
-  ones (convert long) v p = ((λ b e. absurd (omega arith)), tt)
-  ones (convert double) v p = ((λ b e. absurd (omega arith)), tt)
+  ones (convert r int) v p = decide (r && unfit int (v .kind) (v .payload)) (λ y. rw y no-fit) (λ y. rw y ((λ b e. converted-narrow (v .kind) (v .payload) (p b)), tt))
+  ones (convert r long) v p = decide (r && unfit long (v .kind) (v .payload)) (λ y. rw y no-fit) (λ y. rw y ((λ b e. absurd (omega arith)), tt))
+  ones (convert r double) v p = decide (r && unfit double (v .kind) (v .payload)) (λ y. rw y no-fit) (λ y. rw y ((λ b e. absurd (omega arith)), tt))
   ones (count u) v p = ((λ b e. bumped-narrow u (v .kind) (v .payload) e), tt)
 
   twos : (o : Binary) (v w : Slot) → Narrow B v → Narrow B w → Yielded (Narrow B) (eval2 o v w)

@@ -9,7 +9,7 @@ use mathlib.Core.List.{List, [], _∷_}
 use lib.ListN.{length, getD, take, drop}
 use lib.Seq.{getD-drop}
 use lib.Dec.{ltb, leb, eqb}
-use Rattle.soundness.specs.Names.{Num, Instruction, push, load, store, lea, one, two, tload, tstore, bump, jmp, branch, call, ret, null, new, delete, flea, count, copy, convert, swap, int, long, double}
+use Rattle.soundness.specs.Names.{Num, Instruction, push, load, store, lea, one, two, tload, tstore, bump, jmp, branch, call, ret, null, new, delete, flea, count, copy, pop, neg, complement, convert, swap, int, long, double, Unary}
 use Rattle.rules.specs.Bytes.{byte, word, number, some-below}
 use Rattle.rules.specs.Instructions.{struct, Ty, ptr, typeByte, tyOf, Opcode, absent, bare, wide, fromZero, fromAdd, edition1, edition3, opcodes, opcodeOf, isAbsent, operandBytes, instructionOf, size}
 use Rattle.rules.specs.Tables.{Bodies, Tables, functionSize, constantCount, functionCount, labelCount, structureCount, constantAt, functionAt, labelAt, structureAt, differs, unknownEdition, structureLimit, oddConstant, badConstant, badConstants, numberType, badField, badStructureRecord, badStructure, badStructures, structureType, oddReturn, pointerType, oddParam, badParam, badRecord, badFunction, badFunctions, endBefore, opcodeAt, dueAfter, due, dueIn, unknownAt, crossed, badCode, owns, badLabel, badLabels, firstOf, contentTests, Body, entry, fn, bodyOf, Function, Module, paramsFrom, resultOf, functionOf, fieldsFrom, structureOf, labelOf, codeOf, bodyStart, bodyEnd, placeIn, moduleOf}
@@ -418,7 +418,7 @@ rows-at P n (h ∷ t) a (suc b) = rows-at P n t (a .1) b
 
 all-sized : Rows Sized keyTable
 all-sized =
-    (tt, ((λ w. refl), (refl, ((λ w. refl), ((λ w. refl), ((λ w. refl), ((λ w. refl), (refl, (refl, (refl, (refl, (refl, (refl, (refl, (refl, (refl, (refl, (refl, (refl, (refl, (refl, (refl, (refl, (refl, (refl, (refl, (refl, (refl, (refl, (refl, (refl, (refl, ((λ w. refl), ((λ w. refl), ((λ w. refl), ((λ w. refl), ((λ w. refl), ((λ w. refl), ((λ w. refl), ((λ w. refl), (refl, (refl, (refl, (refl, (refl, (tt, (refl, (tt, (refl, ((λ w. refl), (refl, tt)))))))))))))))))))))))))))))))))))))))))))))))))))
+    (tt, ((λ w. refl), (refl, ((λ w. refl), ((λ w. refl), ((λ w. refl), ((λ w. refl), (refl, (refl, (refl, (refl, (refl, (refl, (refl, (refl, (refl, (refl, (refl, (refl, (refl, (refl, (refl, (refl, (refl, (refl, (refl, (refl, (refl, (refl, (refl, (refl, (refl, ((λ w. refl), ((λ w. refl), ((λ w. refl), ((λ w. refl), ((λ w. refl), ((λ w. refl), ((λ w. refl), ((λ w. refl), (refl, (refl, (refl, (refl, (refl, (refl, (refl, (refl, (refl, ((λ w. refl), (refl, tt)))))))))))))))))))))))))))))))))))))))))))))))))))
 
 pub sized : (e b : ℕ) → Sized (opcodeOf (opcodes e) b)
 sized e b = go (opcodeOf (opcodes e) b) (λ h. keyed e b h)
@@ -450,9 +450,37 @@ usesHeap (new n) = true
 usesHeap delete = true
 usesHeap (flea n) = true
 
+-- an operation that raises where a double does not fit
+abbrev pub asksFit1 : Unary → Bool
+asksFit1 pop = false
+asksFit1 copy = false
+asksFit1 neg = false
+asksFit1 complement = false
+asksFit1 (convert r τ) = r
+asksFit1 (count u) = false
+
+abbrev pub asksFit : Instruction → Bool
+asksFit (push k) = false
+asksFit (load n) = false
+asksFit (store n) = false
+asksFit (lea n) = false
+asksFit (one o) = asksFit1 o
+asksFit (two o) = false
+asksFit tload = false
+asksFit tstore = false
+asksFit (bump u) = false
+asksFit (jmp l) = false
+asksFit (branch c l) = false
+asksFit (call k) = false
+asksFit ret = false
+asksFit null = false
+asksFit (new n) = false
+asksFit delete = false
+asksFit (flea n) = false
+
 -- code of edition e may have the instruction
 abbrev pub Native : ℕ → Instruction → Type 0
-Native e i = usesHeap i ≡ true → e ≡ 4
+Native e i = (usesHeap i ≡ true → e ≡ 4) × (asksFit i ≡ true → e ≡ 1 → ⊥)
 
 -- a row that needs no heap
 abbrev NoHeap : Opcode → Type 0
@@ -470,29 +498,51 @@ no-heap-add i q r h =
 no-heap-first : Rows NoHeap edition1
 no-heap-first =
     let i : Bool → Instruction = λ u. one (count u) in
-    let r : List Opcode = bare (one (convert int)) ∷ bare (one (convert long)) ∷ bare (one (convert double)) ∷ [] in
+    let r : List Opcode = bare (one (convert false int)) ∷ bare (one (convert false long)) ∷ bare (one (convert false double)) ∷ [] in
     no-heap-zero (fromAdd i r) (no-heap-add i (λ u. refl) r (refl, (refl, (refl, tt))))
 
 no-heap-third : Rows NoHeap edition3
 no-heap-third =
-    let r : List Opcode = absent ∷ absent ∷ bare (one (convert int)) ∷ bare (one (convert long)) ∷ absent ∷ bare (one (convert double)) ∷ [] in
+    let r : List Opcode = absent ∷ absent ∷ bare (one (convert true int)) ∷ bare (one (convert true long)) ∷ absent ∷ bare (one (convert false double)) ∷ [] in
     no-heap-zero (wide lea ∷ absent ∷ bare tload ∷ bare tstore ∷ bare (one copy) ∷ bare (two swap) ∷ fromAdd bump r)
     ((λ w. refl), (tt, (refl, (refl, (refl, (refl, no-heap-add bump (λ u. refl) r (tt, (tt, (refl, (refl, (tt, (refl, tt))))))))))))
+
+-- a row that raises nothing of the kind: edition 1's
+abbrev NoFit : Opcode → Type 0
+NoFit absent = Unit {0}
+NoFit (bare i) = asksFit i ≡ false
+NoFit (wide i) = (w : ℕ) → asksFit (i w) ≡ false
+
+no-fit-first : Rows NoFit edition1
+no-fit-first =
+    (tt, ((λ w. refl), (refl, ((λ w. refl), ((λ w. refl), (refl, (refl, (refl, (refl, (refl, (refl, (refl, (refl, (refl, (refl, (refl, (refl, (refl, (refl, (refl, (refl, (refl, (refl, (refl, (refl, (refl, ((λ w. refl), ((λ w. refl), ((λ w. refl), ((λ w. refl), ((λ w. refl), ((λ w. refl), ((λ w. refl), ((λ w. refl), (refl, (refl, (refl, (refl, tt))))))))))))))))))))))))))))))))))))))
+
+no-fit-row : (o : Opcode) → NoFit o → (w : ℕ) (i : Instruction) → instructionOf o w ≡ some i → asksFit i ≡ false
+no-fit-row absent h w i q = none-some q
+no-fit-row (bare j) h w i q = sym (ap asksFit (some-inj j i q)) ∙ h
+no-fit-row (wide f) h w i q = sym (ap asksFit (some-inj (f w) i q)) ∙ h w
 
 -- so may it have the row's
 abbrev NativeRow : ℕ → Opcode → Type 0
 NativeRow e o = (w : ℕ) (i : Instruction) → instructionOf o w ≡ some i → Native e i
 
-no-heap-row : (e : ℕ) (o : Opcode) → NoHeap o → NativeRow e o
-no-heap-row e absent h w i q = none-some q
-no-heap-row e (bare j) h w i q = λ u. false-true (sym h ∙ ap usesHeap (some-inj j i q) ∙ u)
-no-heap-row e (wide f) h w i q = λ u. false-true (sym (h w) ∙ ap usesHeap (some-inj (f w) i q) ∙ u)
+no-heap-row : (o : Opcode) → NoHeap o → (w : ℕ) (i : Instruction) → instructionOf o w ≡ some i → usesHeap i ≡ false
+no-heap-row absent h w i q = none-some q
+no-heap-row (bare j) h w i q = sym (ap usesHeap (some-inj j i q)) ∙ h
+no-heap-row (wide f) h w i q = sym (ap usesHeap (some-inj (f w) i q)) ∙ h w
 
 native-row : (e b : ℕ) → NativeRow e (opcodeOf (opcodes e) b)
 native-row e b w i h =
-    decide (eqb e 3) (λ y. let q : e ≡ 3 = eqb-is e 3 y in no-heap-row e (opcodeOf edition3 b) (rows-at NoHeap tt edition3 no-heap-third b) w i (rw q at h))
-    (λ y. decide (eqb e 1) (λ z. let q : e ≡ 1 = eqb-is e 1 z in no-heap-row e (opcodeOf edition1 b) (rows-at NoHeap tt edition1 no-heap-first b) w i (rw q at h))
-    (λ z. decide (eqb e 4) (λ v u. eqb-is e 4 v) (λ v. none-some (rw (y, z, v) at h))))
+    decide (eqb e 3)
+    (λ y. let q : e ≡ 3 = eqb-is e 3 y in
+    let bare-of-heap : usesHeap i ≡ false = no-heap-row (opcodeOf edition3 b) (rows-at NoHeap tt edition3 no-heap-third b) w i (rw q at h) in
+    ((λ u. false-true (sym bare-of-heap ∙ u)), λ u o. absurd (omega arith)))
+    (λ y. decide (eqb e 1)
+    (λ z. let q : e ≡ 1 = eqb-is e 1 z in
+    let bare-of-heap : usesHeap i ≡ false = no-heap-row (opcodeOf edition1 b) (rows-at NoHeap tt edition1 no-heap-first b) w i (rw q at h) in
+    let raises-none : asksFit i ≡ false = no-fit-row (opcodeOf edition1 b) (rows-at NoFit tt edition1 no-fit-first b) w i (rw q at h) in
+    ((λ u. false-true (sym bare-of-heap ∙ u)), λ u o. false-true (sym raises-none ∙ u)))
+    (λ z. decide (eqb e 4) (λ v. let q : e ≡ 4 = eqb-is e 4 v in ((λ u. q), λ u o. absurd (omega arith))) (λ v. none-some (rw (y, z, v) at h))))
 
 module _ (ed : ℕ) (s : List ℕ) where
   pub due-suc : (p : ℕ) → due ed s (suc p) ≡ dueAfter (due ed s p) (opcodeAt ed s p)
