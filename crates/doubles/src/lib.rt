@@ -1,9 +1,11 @@
 // Doubles: from patterns and back, their order, and conversions from and to whole numbers.
 ghost use mathlib.Core.Path.{_≡_};
 ghost use mathlib.Core.Bool.{not, _||_};
+ghost use Prim.Native.Nat.{_-_, _^_, _≤_};
 ghost use lib.Ieee as Ieee;
-ghost use Rattle.rules.specs.Words.{orderOf};
-ghost use Rattle.rules.specs.Doubles.{decodeOf, encodeOf, cutOf, todOf};
+ghost use Rattle.rules.specs.Words.{orderOf, negOf};
+ghost use Rattle.rules.specs.Doubles.{decodeOf, encodeOf, cutFits, cutOf, todOf};
+ghost use Rattle.doubles.specs.Width.{width};
 
 // Whether a pattern is a number's, and no NaN's. Doubling drops the sign.
 fn number(p: u64) -> bool
@@ -71,45 +73,65 @@ pub fn tod_long(a: u64) -> f64
     (upper as f64) * 4294967296.0 + (lower as f64)
 }
 
-// `toi`: cut toward zero, the range tested on the whole number. A NaN fails every test.
-pub fn toi(x: f64) -> u32
-    ensures { λ r. ⌜ r ≡ cutOf 32 x ⌝ }
+// A double cut toward zero: whether the whole number is in range, and its pattern, or the one with only the top bit set.
+pub struct Truncated {
+    pub fits: bool,
+    pub pattern: u64,
+}
+
+// The pattern with only the top bit set, of an int, or of a long where `wide`.
+fn top_bit(wide: bool) -> u64
+    ensures { λ r. ⌜ r ≡ 2 ^ (width wide - 1) ⌝ }
 {
-    if x > -1.0 {
-        if x < 18446744073709551616.0 {
-            let t = std::num::truncating_f64_to_u64(x);
-            if t < 0x1_0000_0000 {
-                return t as u32;
-            }
-        }
-        return 0x8000_0000;
-    }
-    let y = -x;
-    if y < 18446744073709551616.0 {
-        let t = std::num::truncating_f64_to_u64(y);
-        if t <= 0x8000_0000 {
-            return words::neg32(t as u32);
-        }
+    if wide {
+        return 0x8000_0000_0000_0000;
     }
     0x8000_0000
 }
 
-// `tol`, in the same way.
-pub fn tol(x: f64) -> u64
-    ensures { λ r. ⌜ r ≡ cutOf 64 x ⌝ }
+// The pattern of -t.
+fn minus(wide: bool, t: u64) -> u64
+    requires { ⌜ t ≤ 2 ^ (width wide - 1) ⌝ }
+    ensures { λ r. ⌜ r ≡ negOf (width wide) t ⌝ }
 {
+    if wide {
+        return words::neg64(t);
+    }
+    words::neg32(t as u32) as u64
+}
+
+// For `toi`, or for `tol` where `wide`. The range is tested on the whole number. A NaN fails every test.
+pub fn truncate(wide: bool, x: f64) -> Truncated
+    ensures { λ r. ⌜ (r .fits ≡ cutFits (width wide) x) × (r .pattern ≡ cutOf (width wide) x) ⌝ }
+{
+    let top = top_bit(wide);
     if x > -1.0 {
         if x < 18446744073709551616.0 {
-            return std::num::truncating_f64_to_u64(x);
+            let t = std::num::truncating_f64_to_u64(x);
+            if wide | (t < 0x1_0000_0000) {
+                return Truncated {
+                    fits: true,
+                    pattern: t,
+                };
+            }
         }
-        return 0x8000_0000_0000_0000;
+        return Truncated {
+            fits: false,
+            pattern: top,
+        };
     }
     let y = -x;
     if y < 18446744073709551616.0 {
         let t = std::num::truncating_f64_to_u64(y);
-        if t <= 0x8000_0000_0000_0000 {
-            return words::neg64(t);
+        if t <= top {
+            return Truncated {
+                fits: true,
+                pattern: minus(wide, t),
+            };
         }
     }
-    0x8000_0000_0000_0000
+    Truncated {
+        fits: false,
+        pattern: top,
+    }
 }

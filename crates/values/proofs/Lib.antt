@@ -1,3 +1,4 @@
 -- Laws of values.
 pub mod Cases
+pub mod Conversions
 pub mod Order

@@ -1,6 +1,6 @@
 -- Values, and what operations give for them, in the rules' terms.
 use mathlib.Core.Path.{_≡_}
-use mathlib.Core.Bool.{cond}
+use mathlib.Core.Bool.{Bool, cond}
 use mathlib.Core.List.{[], _∷_}
 use Prim.Native.Nat.{ℕ}
 use lib.Dec.{eqb}
@@ -59,6 +59,6 @@ Computes o a b r = (s u : Slot) → Kind (s .kind) → Kind (u .kind) → a ≡ 
 abbrev pub Turns : Unary → Value → Computed → Type 0
 Turns o a r = (s : Slot) → Kind (s .kind) → a ≡ valueOf s → resultOf r ≡ apply1 o s
 
--- the same of a conversion to the type n, which a slot does not have
-abbrev pub Converts : Num → Value → Computed → Type 0
-Converts n a r = (s : Slot) → Kind (s .kind) → (s .kind ≡ numKind n → ⊥) → a ≡ valueOf s → resultOf r ≡ apply1 (Convert n) s
+-- the same of a conversion to the type n, which a slot does not have; b: 44 where a double does not fit
+abbrev pub Converts : Bool → Num → Value → Computed → Type 0
+Converts b n a r = (s : Slot) → Kind (s .kind) → (s .kind ≡ numKind n → ⊥) → a ≡ valueOf s → resultOf r ≡ apply1 (Convert b n) s

@@ -14,6 +14,8 @@ pub(crate) const DOUBLE_INVALIDFORDOUBLE: u32 = 34;
 
 pub(crate) const DOUBLE_UNORDERED: u32 = 35;
 
+pub(crate) const CONVERT_OUTOFRANGE: u32 = 44;
+
 // An int, a long, a double with its number, or a pointer with its slot.
 pub enum Value {
     Int(u32),

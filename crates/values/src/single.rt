@@ -3,6 +3,7 @@ ghost use mathlib.Core.Bool.{true, false};
 ghost use Rattle.rules.specs.declared.Num.the-variants.{Int as int, Long as long, Double as double};
 ghost use Rattle.rules.specs.declared.Unary.the-variants.{Neg, Not, Convert, Count};
 ghost use Rattle.values.specs.Values.{Turns, Converts};
+use crate::CONVERT_OUTOFRANGE;
 use crate::Computed;
 use crate::DOUBLE_INVALIDFORDOUBLE;
 use crate::POINTER_INVALIDFORPOINTER;
@@ -32,33 +33,45 @@ pub fn not_value(a: Value) -> Computed
     }
 }
 
-// `toi`, of what is no int.
-pub fn toi_value(a: Value) -> Computed
-    ensures { λ r. ⌜ Converts int a r ⌝ }
+// `toi`, of what is no int. Where it does not raise 44, it is edition 1's.
+pub fn toi_value(raises: bool, a: Value) -> Computed
+    ensures { λ r. ⌜ Converts raises int a r ⌝ }
 {
     match a {
         Value::Int(x) => Computed::Yields(Value::Int(x)),
         Value::Long(x) => Computed::Yields(Value::Int(words::low(x))),
-        Value::Double(x) => Computed::Yields(Value::Int(doubles::toi(x))),
+        Value::Double(x) => {
+            let t = doubles::truncate(false, x);
+            if raises & !t.fits {
+                return Computed::Raises(CONVERT_OUTOFRANGE);
+            }
+            Computed::Yields(Value::Int(words::low(t.pattern)))
+        }
         Value::Pointer(_) => Computed::Raises(POINTER_INVALIDFORPOINTER),
     }
 }
 
-// `tol`.
-pub fn tol_value(a: Value) -> Computed
-    ensures { λ r. ⌜ Turns (Convert long) a r ⌝ }
+// `tol`, in the same way.
+pub fn tol_value(raises: bool, a: Value) -> Computed
+    ensures { λ r. ⌜ Turns (Convert raises long) a r ⌝ }
 {
     match a {
         Value::Int(x) => Computed::Yields(Value::Long(x as u64)),
         Value::Long(x) => Computed::Yields(Value::Long(x)),
-        Value::Double(x) => Computed::Yields(Value::Long(doubles::tol(x))),
+        Value::Double(x) => {
+            let t = doubles::truncate(true, x);
+            if raises & !t.fits {
+                return Computed::Raises(CONVERT_OUTOFRANGE);
+            }
+            Computed::Yields(Value::Long(t.pattern))
+        }
         Value::Pointer(_) => Computed::Raises(POINTER_INVALIDFORPOINTER),
     }
 }
 
 // `tod`, of what is no double.
 pub fn tod_value(a: Value) -> Computed
-    ensures { λ r. ⌜ Converts double a r ⌝ }
+    ensures { λ r. ⌜ Converts false double a r ⌝ }
 {
     match a {
         Value::Int(x) => Computed::Yields(Value::Double(doubles::tod_int(x))),
