@@ -23,7 +23,7 @@ use Rattle.keys.specs.Keys.{withWord}
 
 abbrev pub keyByRange : ℕ → ℕ
 keyByRange b =
-    cond (ltb b 5) b (cond (ltb b 14) (b + 6) (cond (ltb b 16) (b + 27) (cond (ltb b 35) (b + 6) (cond (ltb b 37) (b + 8) (cond (eqb b 37) 46 0)))))
+    cond (ltb b 5) b (cond (ltb b 14) (b + 6) (cond (ltb b 16) (b + 27) (cond (ltb b 35) (b + 6) (cond (ltb b 36) (b + 12) (cond (ltb b 38) (b + 9) 0)))))
 
 keys-agree : some-below 256 (λ b. differs (keyByRange b) (keyOf 1 b)) ≡ false
 unfolding some-below

@@ -29,11 +29,11 @@ fn key(b: u8) -> u8
     if b < 0x23 {
         return b + 0x06;
     }
-    if b < 0x25 {
-        return b + 0x08;
+    if b < 0x24 {
+        return b + 0x0c;
     }
-    if b == 0x25 {
-        return 0x2e;
+    if b < 0x26 {
+        return b + 0x09;
     }
     0
 }

@@ -11,7 +11,7 @@ use Rattle.rules.specs.Bytes.{maybe}
 use Rattle.rules.specs.Instructions.{Ty, kindOf, size}
 use Rattle.rules.specs.Tables.{Function, Module}
 use Rattle.rules.specs.Stack.{pointerTo, at}
-use Rattle.rules.specs.Operations.{Class, any, number as numbers, whole, refuse, Result, yields, raises, class1, class2, eval1, eval2, apply1, apply2, zeroDivide, unordered}
+use Rattle.rules.specs.Operations.{Class, any, number as numbers, whole, refuse, Result, yields, raises, class1, class2, eval1, eval2, apply1, apply2, zeroDivide, unordered, unfit}
 use Rattle.rules.specs.Machine.{Frame, Memory, State, goto, own, owned, Next, goes, stops, finishes, resulting, pushing, take1, kindsMatch, calling, leaving, returning, exec, execIn}
 use Rattle.soundness.specs.Names.{Slot, Unary, pop, copy, neg, complement, convert, count, Binary, swap, arith as arithmetic, cmp, Instruction, push, load, store, lea, one, two, tload, tstore, bump, jmp, branch, call, ret, null, new, delete, flea}
 use Rattle.soundness.specs.Framed.{heapless}
@@ -62,7 +62,7 @@ evaluates1 pop v = tt
 evaluates1 copy v = tt
 evaluates1 neg v = tt
 evaluates1 complement v = tt
-evaluates1 (convert τ) v = tt
+evaluates1 (convert b τ) v = decide (b && unfit τ (v .kind) (v .payload)) (λ y. rw y refl) (λ y. rw y tt)
 evaluates1 (count u) v = tt
 
 evaluates2 : (o : Binary) (v w : Slot) → OtherResult (eval2 o v w)

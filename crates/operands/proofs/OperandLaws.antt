@@ -13,7 +13,7 @@ use Rattle.rules.specs.Bytes.{maybe}
 use Rattle.rules.specs.Instructions.{numKind}
 use Rattle.rules.specs.Tables.{Module}
 use Rattle.rules.specs.Machine.{State, Next, goto, resulting, execIn}
-use Rattle.rules.specs.Operations.{Result, yields, raises, refuse, number, whole, wholeOnly, class1, class2, classOf, zeroDivide, converted, apply1, apply2}
+use Rattle.rules.specs.Operations.{Result, yields, raises, refuse, number, whole, wholeOnly, class1, class2, classOf, zeroDivide, converted, unfit, apply1, apply2}
 use Rattle.rules.specs.Stack.{slot, slotAt, slotsOf, under, put}
 use Rattle.rules.specs.declared.Binary.{Binary}
 use Rattle.rules.specs.declared.Binary.the-variants.{Arith}
@@ -148,11 +148,14 @@ module _ (cap : ℕ) (r : Registers) (p t f : List ℕ) (k : Ready cap r p t f) 
 
 -- ---- one and two operands
 
-own-is : (n : Num) (s : Slot) → s .kind ≡ numKind n → apply1 (Convert n) s ≡ yields (s ∷ [])
-unfolding converted
-own-is int s e = rw e
-own-is long s e = rw e
-own-is double s e = rw e
+own-is : (b : Bool) (n : Num) (s : Slot) → s .kind ≡ numKind n → apply1 (Convert b n) s ≡ yields (s ∷ [])
+unfolding converted unfit
+own-is false int s e = rw e
+own-is false long s e = rw e
+own-is false double s e = rw e
+own-is true int s e = rw e
+own-is true long s e = rw e
+own-is true double s e = rw e
 
 module _ {r : Registers} {p t : List ℕ} (c : Computable r p t) where
   -- ---- one
@@ -178,10 +181,10 @@ module _ {r : Registers} {p t : List ℕ} (c : Computable r p t) where
         → Puts r (r .height - 1) (r .height - 1 + 1) x q p p′ → Types (r .height - 1) x t t′ → Executes (One o) r q p t p′ t′
     one-turns o x v e put ty = one-put o x (e (slotAt p t (r .height - 1)) top-kind v) put ty
 
-    pub one-converts : (n : Num) {a : Value} (x : Computed) {q : Progress} {p′ t′ : List ℕ} → (slotAt p t (r .height - 1) .kind ≡ numKind n → ⊥)
-        → a ≡ valueOf (slotAt p t (r .height - 1)) → Converts n a x
-        → Puts r (r .height - 1) (r .height - 1 + 1) x q p p′ → Types (r .height - 1) x t t′ → Executes (One (Convert n)) r q p t p′ t′
-    one-converts n x ne v e put ty = one-put (Convert n) x (e (slotAt p t (r .height - 1)) top-kind ne v) put ty
+    pub one-converts : (b : Bool) (n : Num) {a : Value} (x : Computed) {q : Progress} {p′ t′ : List ℕ} → (slotAt p t (r .height - 1) .kind ≡ numKind n → ⊥)
+        → a ≡ valueOf (slotAt p t (r .height - 1)) → Converts b n a x
+        → Puts r (r .height - 1) (r .height - 1 + 1) x q p p′ → Types (r .height - 1) x t t′ → Executes (One (Convert b n)) r q p t p′ t′
+    one-converts b n x ne v e put ty = one-put (Convert b n) x (e (slotAt p t (r .height - 1)) top-kind ne v) put ty
 
     pub one-like : {o : Unary} → Keeping o → {a : Value} (x : Computed) {q : Progress} {p′ : List ℕ} → a ≡ valueOf (slotAt p t (r .height - 1)) → Turns o a x
         → Puts r (r .height - 1) (r .height - 1 + 1) x q p p′ → Executes (One o) r q p t p′ t
@@ -190,12 +193,12 @@ module _ {r : Registers} {p t : List ℕ} (c : Computable r p t) where
         one-put o x i put (same-types p t (r .height - 1) x (one-typed d (slotAt p t (r .height - 1)) x i))
 
     -- a conversion to the own type
-    pub own-type : (n : Num) → slotAt p t (r .height - 1) .kind ≡ numKind n → Executes (One (Convert n)) r (Goes (movedTo r (r .place + 1) (r .height))) p t p t
+    pub own-type : (b : Bool) (n : Num) → slotAt p t (r .height - 1) .kind ≡ numKind n → Executes (One (Convert b n)) r (Goes (movedTo r (r .place + 1) (r .height))) p t p t
     unfolding execIn
-    own-type n e m cap f k =
+    own-type b n e m cap f k =
         dropping cap r p t f k (r .place + 1) (r .height) _ (omega arith) (c .over)
         (take1-has p t (r .floor) (r .height) _ has
-        ∙ rw (own-is n (slotAt p t (r .height - 1)) e, length-slots p t (r .height - 1), le-leb (suc (r .height - 1)) cap (omega (arith, k .high)), slots-top p t (r .height) (omega arith)) refl)
+        ∙ rw (own-is b n (slotAt p t (r .height - 1)) e, length-slots p t (r .height - 1), le-leb (suc (r .height - 1)) cap (omega (arith, k .high)), slots-top p t (r .height) (omega arith)) refl)
 
   -- ---- two
 

@@ -62,10 +62,10 @@ pub fn dec(r: Registers, p: &mut [u8], t: &[u8]) -> Progress
     replaced_like(r, h - 1, values::single::dec_value(a), p)
 }
 
-// `toi`.
-pub fn toi(r: Registers, p: &mut [u8], t: &mut [u8]) -> Progress
+// `toi`. Where it does not raise 44, it is edition 1's.
+pub fn toi(raises: bool, r: Registers, p: &mut [u8], t: &mut [u8]) -> Progress
     requires { ⌜ Computable r (now p) (now t) ⌝ }
-    ensures { λ a. ⌜ Executes (One (Convert int)) r a (now (p .entry)) (now (t .entry)) (now (p .exit)) (now (t .exit)) ⌝ }
+    ensures { λ a. ⌜ Executes (One (Convert raises int)) r a (now (p .entry)) (now (t .entry)) (now (p .exit)) (now (t .exit)) ⌝ }
 {
     let h = r.height;
     if h < r.floor + 1 {
@@ -76,13 +76,13 @@ pub fn toi(r: Registers, p: &mut [u8], t: &mut [u8]) -> Progress
         return Progress::Goes(state::moved(r, r.place + 1, h));
     }
     let a = values::value_of(s);
-    replaced(r, h - 1, values::single::toi_value(a), p, t)
+    replaced(r, h - 1, values::single::toi_value(raises, a), p, t)
 }
 
-// `tol`.
-pub fn tol(r: Registers, p: &mut [u8], t: &mut [u8]) -> Progress
+// `tol`, in the same way.
+pub fn tol(raises: bool, r: Registers, p: &mut [u8], t: &mut [u8]) -> Progress
     requires { ⌜ Computable r (now p) (now t) ⌝ }
-    ensures { λ a. ⌜ Executes (One (Convert long)) r a (now (p .entry)) (now (t .entry)) (now (p .exit)) (now (t .exit)) ⌝ }
+    ensures { λ a. ⌜ Executes (One (Convert raises long)) r a (now (p .entry)) (now (t .entry)) (now (p .exit)) (now (t .exit)) ⌝ }
 {
     let h = r.height;
     if h < r.floor + 1 {
@@ -90,13 +90,13 @@ pub fn tol(r: Registers, p: &mut [u8], t: &mut [u8]) -> Progress
     }
     let s = state::slot_at(p, t, h - 1);
     let a = values::value_of(s);
-    replaced(r, h - 1, values::single::tol_value(a), p, t)
+    replaced(r, h - 1, values::single::tol_value(raises, a), p, t)
 }
 
 // `tod`.
 pub fn tod(r: Registers, p: &mut [u8], t: &mut [u8]) -> Progress
     requires { ⌜ Computable r (now p) (now t) ⌝ }
-    ensures { λ a. ⌜ Executes (One (Convert double)) r a (now (p .entry)) (now (t .entry)) (now (p .exit)) (now (t .exit)) ⌝ }
+    ensures { λ a. ⌜ Executes (One (Convert false double)) r a (now (p .entry)) (now (t .entry)) (now (p .exit)) (now (t .exit)) ⌝ }
 {
     let h = r.height;
     if h < r.floor + 1 {

@@ -64,6 +64,12 @@ inc-requires c κs = (c .before .before .before .before .before .pre) .1
 dec-requires : tie.Need-dec-requires
 dec-requires c κs = (c .before .before .before .before .before .pre) .1
 
+tol-requires-2 : tie.Need-tol-requires-2
+tol-requires-2 c κs = (c .before .before .before .before .before .pre) .1
+
+toi-requires-2 : tie.Need-toi-requires-2
+toi-requires-2 c κs = (c .before .before .before .before .before .pre) .1
+
 returns : tie.Need-returns
 returns c = λ cap. alone _ 2 cap _ _ _ _ _ _ (One Pop) ((c .before .match) .keys1) (λ w. refl) refl (λ m. (c .pop) .ensures m cap _ _)
 
@@ -173,7 +179,7 @@ same-length-24 : tie.Need-same-length-24
 same-length-24 c = search needs
 
 returns-13 : tie.Need-returns-13
-returns-13 c = λ cap. alone _ 43 cap _ _ _ _ _ _ (One (Convert Int)) ((c .before .before .before .before .before .before .before .match) .keys13) (λ w. refl) refl (λ m. (c .before .before .before .before .toi) .ensures m cap)
+returns-13 c = λ cap. alone _ 43 cap _ _ _ _ _ _ (One (Convert true Int)) ((c .before .before .before .before .before .before .before .match) .keys13) (λ w. refl) refl (λ m. (c .before .before .before .before .toi) .ensures m cap)
 
 same-length-25 : tie.Need-same-length-25
 same-length-25 c = search needs
@@ -182,7 +188,7 @@ same-length-26 : tie.Need-same-length-26
 same-length-26 c = search needs
 
 returns-14 : tie.Need-returns-14
-returns-14 c = λ cap. alone _ 44 cap _ _ _ _ _ _ (One (Convert Long)) ((c .before .before .before .before .before .before .before .match) .keys14) (λ w. refl) refl (λ m. (c .before .before .before .before .tol) .ensures m cap)
+returns-14 c = λ cap. alone _ 44 cap _ _ _ _ _ _ (One (Convert true Long)) ((c .before .before .before .before .before .before .before .match) .keys14) (λ w. refl) refl (λ m. (c .before .before .before .before .tol) .ensures m cap)
 
 same-length-27 : tie.Need-same-length-27
 same-length-27 c = search needs
@@ -191,7 +197,7 @@ same-length-28 : tie.Need-same-length-28
 same-length-28 c = search needs
 
 returns-15 : tie.Need-returns-15
-returns-15 c = λ cap. alone _ 46 cap _ _ _ _ _ _ (One (Convert Double)) ((c .before .before .before .before .before .before .before .match) .keys15) (λ w. refl) refl (λ m. (c .before .before .before .before .tod) .ensures m cap)
+returns-15 c = λ cap. alone _ 46 cap _ _ _ _ _ _ (One (Convert false Double)) ((c .before .before .before .before .before .before .before .match) .keys15) (λ w. refl) refl (λ m. (c .before .before .before .before .tod) .ensures m cap)
 
 same-length-29 : tie.Need-same-length-29
 same-length-29 c = search needs
@@ -211,20 +217,38 @@ same-length-32 c = search needs
 returns-17 : tie.Need-returns-17
 returns-17 c = λ cap. alone _ 42 cap _ _ _ _ _ _ (One (Count false)) ((c .before .before .before .before .before .match) .keys17) (λ w. refl) refl (λ m. (c .before .before .dec) .ensures m cap)
 
+same-length-33 : tie.Need-same-length-33
+same-length-33 c = search needs
+
+same-length-34 : tie.Need-same-length-34
+same-length-34 c = search needs
+
 returns-18 : tie.Need-returns-18
-returns-18 c = λ cap. leaves-one _ cap 36 refl _ _ _ ((c .match) .keys18)
+returns-18 c = λ cap. alone _ 45 cap _ _ _ _ _ _ (One (Convert false Long)) ((c .before .before .before .before .before .before .before .match) .keys18) (λ w. refl) refl (λ m. (c .before .before .before .before .tol2) .ensures m cap)
+
+same-length-35 : tie.Need-same-length-35
+same-length-35 c = search needs
+
+same-length-36 : tie.Need-same-length-36
+same-length-36 c = search needs
 
 returns-19 : tie.Need-returns-19
-returns-19 c = λ cap. leaves _ cap 37 refl _ _ _ 49 (λ w. New w) (λ w. refl) (λ w. refl) ((c .match) .keys19)
+returns-19 c = λ cap. alone _ 47 cap _ _ _ _ _ _ (One (Convert false Int)) ((c .before .before .before .before .before .before .before .match) .keys19) (λ w. refl) refl (λ m. (c .before .before .before .before .toi2) .ensures m cap)
 
 returns-20 : tie.Need-returns-20
-returns-20 c = unknown _ ((c .before .before .before .pre) .0 .0) even refl ((c .match) .keys20)
+returns-20 c = λ cap. leaves-one _ cap 36 refl _ _ _ ((c .match) .keys20)
 
 returns-21 : tie.Need-returns-21
-returns-21 c = unknown _ ((c .before .before .before .pre) .0 .0) odd refl ((c .match) .keys21)
+returns-21 c = λ cap. leaves _ cap 37 refl _ _ _ 49 (λ w. New w) (λ w. refl) (λ w. refl) ((c .match) .keys21)
 
 returns-22 : tie.Need-returns-22
-returns-22 c = no-other _ ((c .before .before .before .pre) .0) ((c .match) .rest)
+returns-22 c = unknown _ ((c .before .before .before .pre) .0 .0) even refl ((c .match) .keys22)
+
+returns-23 : tie.Need-returns-23
+returns-23 c = unknown _ ((c .before .before .before .pre) .0 .0) odd refl ((c .match) .keys23)
+
+returns-24 : tie.Need-returns-24
+returns-24 c = no-other _ ((c .before .before .before .pre) .0) ((c .match) .rest)
 
 pub single-spec : {M : Type 1} → statement M
 single-spec =
@@ -247,6 +271,8 @@ single-spec =
     tod-requires
     inc-requires
     dec-requires
+    tol-requires-2
+    toi-requires-2
     returns
     same-length
     same-length-2
@@ -296,8 +322,14 @@ single-spec =
     same-length-31
     same-length-32
     returns-17
+    same-length-33
+    same-length-34
     returns-18
+    same-length-35
+    same-length-36
     returns-19
     returns-20
     returns-21
-    returns-22)
+    returns-22
+    returns-23
+    returns-24)

@@ -13,7 +13,7 @@ add-if1 : tie.Need-add-if1
 add-if1 c = search needs
 
 returns : tie.Need-returns
-returns c = λ m cap f k. one-21 cap _ _ _ f k m (Convert int) (c .if1 .taken)
+returns c = λ m cap f k. one-21 cap _ _ _ f k m (Convert _ int) (c .if1 .taken)
 
 sub-slot-at : tie.Need-sub-slot-at
 sub-slot-at c = search needs
@@ -38,7 +38,7 @@ returns-2 c =
     let at-slot-at = c .before .before .before .before in
     let at-if1 = at-slot-at .before .before .before in
     let start = at-if1 .before .before .before .before in
-    rw (c .moved .ensures) (own-type (start .pre) (at-if1 .if1 .left) int (rw (← at-slot-at .slot-at .ensures) (c .before .before .if2 .taken)))
+    rw (c .moved .ensures) (own-type (start .pre) (at-if1 .if1 .left) _ int (rw (← at-slot-at .slot-at .ensures) (c .before .before .if2 .taken)))
 
 value-of-requires : tie.Need-value-of-requires
 value-of-requires c κs = search needs
@@ -67,7 +67,7 @@ returns-3 c =
     let at-slot-at = at-if2 .before .before in
     let at-if1 = at-slot-at .before .before .before in
     let start = at-if1 .before .before .before .before in
-    one-converts (start .pre) (at-if1 .if1 .left) int (at-toi-value .toi-value .result) (rw (← at-slot-at .slot-at .ensures) (at-if2 .if2 .left))
+    one-converts (start .pre) (at-if1 .if1 .left) _ int (at-toi-value .toi-value .result) (rw (← at-slot-at .slot-at .ensures) (at-if2 .if2 .left))
     (at-value-of .value-of .ensures ∙ ap valueOf (at-slot-at .slot-at .ensures)) (at-toi-value .toi-value .ensures)
     (at-replaced .replaced .ensures .0) (at-replaced .replaced .ensures .1)
 

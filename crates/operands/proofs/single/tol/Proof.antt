@@ -13,7 +13,7 @@ add-if1 : tie.Need-add-if1
 add-if1 c = search needs
 
 returns : tie.Need-returns
-returns c = λ m cap f k. one-21 cap _ _ _ f k m (Convert long) (c .if1 .taken)
+returns c = λ m cap f k. one-21 cap _ _ _ f k m (Convert _ long) (c .if1 .taken)
 
 sub-slot-at : tie.Need-sub-slot-at
 sub-slot-at c = search needs
@@ -47,7 +47,7 @@ returns-2 c =
     let at-slot-at = at-value-of .before in
     let at-if1 = at-slot-at .before .before .before in
     let start = at-if1 .before .before .before .before in
-    one-turns (start .pre) (at-if1 .if1 .left) (Convert long) (at-tol-value .tol-value .result)
+    one-turns (start .pre) (at-if1 .if1 .left) (Convert _ long) (at-tol-value .tol-value .result)
     (at-value-of .value-of .ensures ∙ ap valueOf (at-slot-at .slot-at .ensures)) (at-tol-value .tol-value .ensures)
     (at-replaced .replaced .ensures .0) (at-replaced .replaced .ensures .1)
 
