@@ -66,7 +66,7 @@ Keeps g q r a r′ = (o : Unary) → Greatest (class1 o) g → ((t : Ty) → giv
 
 -- of the conversion to the type of byte t
 abbrev pub Converts : ℕ → ℕ → List ℕ → Transfer → List ℕ → Type 0
-Converts t q r a r′ = (τ : Num) → t ≡ numKind τ → Answers (One (Convert τ)) q r a r′
+Converts t q r a r′ = (b : Bool) (τ : Num) → t ≡ numKind τ → Answers (One (Convert b τ)) q r a r′
 
 -- of every operator that takes type bytes up to g
 abbrev pub Reduces : ℕ → ℕ → List ℕ → Transfer → List ℕ → Type 0

@@ -285,11 +285,13 @@ fn other(b: u8, p: usize, st: &mut [u8]) -> Transfer
         0x2a => records::operands::keep(6, p + 1, st),
         0x2b => records::operands::convert(3, p + 1, st),
         0x2c => records::operands::convert(4, p + 1, st),
+        0x2d => records::operands::convert(4, p + 1, st),
         0x2e => records::operands::convert(6, p + 1, st),
+        0x2f => records::operands::convert(3, p + 1, st),
         0x30 => push_type(128, p + 1, st),
         0x32 => records::pointers::delete(p + 1, st),
-        0x00 | 0x2d | 0x34 | 0x36 | 0x38 | 0x3a | 0x3c | 0x3e => Transfer::Breaks,
-        0x2f | 0x33 | 0x35 | 0x37 | 0x39 | 0x3b | 0x3d | 0x3f => Transfer::Stops,
+        0x00 | 0x34 | 0x36 | 0x38 | 0x3a | 0x3c | 0x3e => Transfer::Breaks,
+        0x33 | 0x35 | 0x37 | 0x39 | 0x3b | 0x3d | 0x3f => Transfer::Stops,
         _ => Transfer::Jumps(0),
     }
 }

@@ -108,6 +108,18 @@ add-convert-3 c = search needs
 convert-requires-3 : tie.Need-convert-requires-3
 convert-requires-3 c κs = search needs
 
+add-convert-4 : tie.Need-add-convert-4
+add-convert-4 c = search needs
+
+convert-requires-4 : tie.Need-convert-requires-4
+convert-requires-4 c κs = search needs
+
+add-convert-5 : tie.Need-add-convert-5
+add-convert-5 c = search needs
+
+convert-requires-5 : tie.Need-convert-requires-5
+convert-requires-5 c κs = search needs
+
 add-push-type : tie.Need-add-push-type
 add-push-type c = search needs
 
@@ -202,40 +214,52 @@ same-length-14 : tie.Need-same-length-14
 same-length-14 c = search needs
 
 returns-14 : tie.Need-returns-14
-returns-14 c = λ m d w. moves m d w _ ((c .before .before .before .before .before .before .args) .st .now) _ _ _ 43 ((c .before .before .before .before .match) .keys14) w refl (One (Convert Int)) refl ((c .before .before .convert) .ensures Int refl m d)
+returns-14 c = λ m d w. moves m d w _ ((c .before .before .before .before .before .before .args) .st .now) _ _ _ 43 ((c .before .before .before .before .match) .keys14) w refl (One (Convert true Int)) refl ((c .before .before .convert) .ensures true Int refl m d)
 
 same-length-15 : tie.Need-same-length-15
 same-length-15 c = search needs
 
 returns-15 : tie.Need-returns-15
-returns-15 c = λ m d w. moves m d w _ ((c .before .before .before .before .before .before .args) .st .now) _ _ _ 44 ((c .before .before .before .before .match) .keys15) w refl (One (Convert Long)) refl ((c .before .before .convert2) .ensures Long refl m d)
+returns-15 c = λ m d w. moves m d w _ ((c .before .before .before .before .before .before .args) .st .now) _ _ _ 44 ((c .before .before .before .before .match) .keys15) w refl (One (Convert true Long)) refl ((c .before .before .convert2) .ensures true Long refl m d)
 
 same-length-16 : tie.Need-same-length-16
 same-length-16 c = search needs
 
 returns-16 : tie.Need-returns-16
-returns-16 c = λ m d w. moves m d w _ ((c .before .before .before .before .before .before .args) .st .now) _ _ _ 46 ((c .before .before .before .before .match) .keys16) w refl (One (Convert Double)) refl ((c .before .before .convert3) .ensures Double refl m d)
+returns-16 c = λ m d w. moves m d w _ ((c .before .before .before .before .before .before .args) .st .now) _ _ _ 45 ((c .before .before .before .before .match) .keys16) w refl (One (Convert false Long)) refl ((c .before .before .convert3) .ensures false Long refl m d)
 
 same-length-17 : tie.Need-same-length-17
 same-length-17 c = search needs
 
 returns-17 : tie.Need-returns-17
-returns-17 c = λ m d w. moves m d w _ ((c .before .before .before .before .before .before .args) .st .now) _ _ _ 48 ((c .before .before .before .before .match) .keys17) w refl Null refl ((c .before .before .push-type) .ensures m d)
+returns-17 c = λ m d w. moves m d w _ ((c .before .before .before .before .before .before .args) .st .now) _ _ _ 46 ((c .before .before .before .before .match) .keys17) w refl (One (Convert false Double)) refl ((c .before .before .convert4) .ensures false Double refl m d)
 
 same-length-18 : tie.Need-same-length-18
 same-length-18 c = search needs
 
 returns-18 : tie.Need-returns-18
-returns-18 c = λ m d w. moves m d w _ ((c .before .before .before .before .before .before .args) .st .now) _ _ _ 50 ((c .before .before .before .before .match) .keys18) w refl Delete refl ((c .before .before .delete) .ensures m d)
+returns-18 c = λ m d w. moves m d w _ ((c .before .before .before .before .before .before .args) .st .now) _ _ _ 47 ((c .before .before .before .before .match) .keys18) w refl (One (Convert false Int)) refl ((c .before .before .convert5) .ensures false Int refl m d)
+
+same-length-19 : tie.Need-same-length-19
+same-length-19 c = search needs
 
 returns-19 : tie.Need-returns-19
-returns-19 c = λ m d w. unknown _ ((c .before .before .pre) .0 .0) evens refl ((c .match) .keys19)
+returns-19 c = λ m d w. moves m d w _ ((c .before .before .before .before .before .before .args) .st .now) _ _ _ 48 ((c .before .before .before .before .match) .keys19) w refl Null refl ((c .before .before .push-type) .ensures m d)
+
+same-length-20 : tie.Need-same-length-20
+same-length-20 c = search needs
 
 returns-20 : tie.Need-returns-20
-returns-20 c = λ m d w. unknown _ ((c .before .before .pre) .0 .0) odds refl ((c .match) .keys20)
+returns-20 c = λ m d w. moves m d w _ ((c .before .before .before .before .before .before .args) .st .now) _ _ _ 50 ((c .before .before .before .before .match) .keys20) w refl Delete refl ((c .before .before .delete) .ensures m d)
 
 returns-21 : tie.Need-returns-21
-returns-21 c = λ m d w. nothing-left _ ((c .before .before .pre) .0 .0) ((c .match) .rest) ((c .before .before .pre) .0 .1)
+returns-21 c = λ m d w. unknown _ ((c .before .before .pre) .0 .0) evens refl ((c .match) .keys21)
+
+returns-22 : tie.Need-returns-22
+returns-22 c = λ m d w. unknown _ ((c .before .before .pre) .0 .0) odds refl ((c .match) .keys22)
+
+returns-23 : tie.Need-returns-23
+returns-23 c = λ m d w. nothing-left _ ((c .before .before .pre) .0 .0) ((c .match) .rest) ((c .before .before .pre) .0 .1)
 
 pub other-spec : {M : Type 1} → statement M
 other-spec =
@@ -273,6 +297,10 @@ other-spec =
     convert-requires-2
     add-convert-3
     convert-requires-3
+    add-convert-4
+    convert-requires-4
+    add-convert-5
+    convert-requires-5
     add-push-type
     push-type-requires
     add-delete
@@ -313,6 +341,10 @@ other-spec =
     returns-17
     same-length-18
     returns-18
+    same-length-19
     returns-19
+    same-length-20
     returns-20
-    returns-21)
+    returns-21
+    returns-22
+    returns-23)
