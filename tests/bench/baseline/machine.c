@@ -31,15 +31,14 @@ static inline void write_double(uint8_t *at, double v) {
     memcpy(at, &bits, 8);
 }
 
-static inline uint32_t double_to_int(double v) {
-    if (!(v > -2147483649.0 && v < 4294967296.0))
-        return 0x80000000u;
-    return (uint32_t)(int64_t)v;
-}
+// Is the double, once cut, in the range of toi, of tol? No NaN is.
+static inline int fits_int(double v) { return v > -2147483649.0 && v < 4294967296.0; }
+static inline int fits_long(double v) { return v >= -9223372036854775808.0 && v < 18446744073709551616.0; }
+
+// The pattern of a double in range.
+static inline uint32_t double_to_int(double v) { return (uint32_t)(int64_t)v; }
 
 static inline uint64_t double_to_long(double v) {
-    if (!(v >= -9223372036854775808.0 && v < 18446744073709551616.0))
-        return 1ull << 63;
     if (v < 9223372036854775808.0)
         return (uint64_t)(int64_t)v;
     return (uint64_t)(int64_t)(v - 9223372036854775808.0) ^ (1ull << 63);
@@ -195,6 +194,18 @@ static inline int is_for_another(const uint8_t *function, uint32_t profile) {
         pc++;                                           \
         NEXT;                                           \
     }
+
+// A double on top is cut, or is out of range, for which edition 1 has the top bit alone.
+#define CUT(fits, pattern, top_bit)    \
+    do {                               \
+        double v = read_double(TOP);   \
+        if (likely(fits(v)))           \
+            write64(TOP, pattern(v));  \
+        else if (m.edition == 1)       \
+            write64(TOP, top_bit);     \
+        else                           \
+            RAISE(CONVERT_OUTOFRANGE); \
+    } while (0)
 
 // The label that the operand names, which is the body's own.
 #define OWN_LABEL                                                   \
@@ -569,7 +580,7 @@ toi: {
     NEED_ONE;
     uint8_t type = TOP_TYPE;
     if (type == DOUBLE)
-        write64(TOP, double_to_int(read_double(TOP)));
+        CUT(fits_int, double_to_int, 1u << 31);
     else if (type == LONG)
         write64(TOP, read32(TOP));
     else if (type == POINTER)
@@ -582,7 +593,7 @@ tol: {
     NEED_ONE;
     uint8_t type = TOP_TYPE;
     if (type == DOUBLE)
-        write64(TOP, double_to_long(read_double(TOP)));
+        CUT(fits_long, double_to_long, 1ull << 63);
     else if (type == POINTER)
         RAISE(POINTER_INVALIDFORPOINTER);
     TOP_TYPE = LONG;

@@ -101,8 +101,10 @@ impl Below {
 
 /// "this run can only finish, use up its allowance, overflow the stack or divide by zero"; or
 /// compare with a NaN: "Demand 3's ends and the typing rule gain this."; or follow a pointer to
-/// nothing: they "gain, in edition 4, 33 and 36".
+/// nothing: they "gain, in edition 4, 33 and 36"; or convert a double that is out of range: "The
+/// typing rule and demand 3's ends gain this", but "edition 1 keeps the pattern".
 pub fn is_an_end_of_demand_3(edition: Edition, outcome: u32) -> bool {
     let heap = edition.has_heap() && [33, 36].contains(&outcome);
-    [0, 15, 20, 24, 35].contains(&outcome) || heap
+    let converts = edition.raises_out_of_range() && outcome == 44;
+    [0, 15, 20, 24, 35].contains(&outcome) || heap || converts
 }

@@ -16,7 +16,7 @@ use crate::possible::IN_A_CELL;
 use crate::profile_edges::{self, is_an_outcome};
 use crate::rules::Rules;
 use crate::subject::{checked_number, Second, Subject};
-use crate::types::{POINTER, STRUCTURE};
+use crate::types::{DOUBLE, POINTER, STRUCTURE};
 use crate::worklist::Reason;
 use std::collections::BTreeMap;
 
@@ -40,6 +40,8 @@ pub struct Coverage {
     /// By opcode and variant, as in `possible::executions`.
     pub executed: Counts<(Edition, Op, u8)>,
     pub raised: Counts<(Edition, Op, u32)>,
+    /// By opcode and bits: doubles that `toi` and `tol` met.
+    pub converted: Counts<(Edition, Op, u64)>,
     pub reasons: Counts<(Edition, Reason)>,
     pub heap_edges: Counts<&'static str>,
     pub profile_edges: Counts<&'static str>,
@@ -56,6 +58,8 @@ pub struct Coverage {
     /// The variant of the current instruction, and the place after it.
     variant: u8,
     next: usize,
+    /// The double that it converts.
+    double: Option<u64>,
     /// Exceptions in the current run.
     raises: u64,
 }
@@ -257,10 +261,16 @@ impl Watch for Coverage {
         self.variant = variant(machine, op);
         let at = machine.module.instruction(Rules::PLAIN, machine.place);
         self.next = at.map_or(0, |at| at.next);
+        let top = machine.stack.last().filter(|slot| slot.ty == DOUBLE);
+        let converts = matches!(op, Op::Toi | Op::Tol);
+        self.double = top.filter(|_| converts).map(|slot| slot.payload);
     }
 
     fn after(&mut self, machine: &Machine<'_>, op: Op, raised: Option<u32>) {
         let edition = machine.module.edition;
+        if let Some(bits) = self.double.filter(|_| [None, Some(44)].contains(&raised)) {
+            count(&mut self.converted, (edition, op, bits));
+        }
         if let Some(number) = raised {
             self.raises += 1;
             return count(&mut self.raised, (edition, op, number));

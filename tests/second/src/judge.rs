@@ -2,9 +2,9 @@
 //!
 //! "At each given place the instruction, judged by types alone with every pointer taken as
 //! live, raises at most 20 or 24, "same type" meaning the same of six, for call arguments
-//! too". "Demand 3's ends and the typing rule gain" 35, document 02's A2, and "in edition 4, 33 and
-//! 36", A6. "In a typing `null` has its own type (byte 80) for moves, `cmp`, `icmp` and `delete`
-//! only; those three take any pointers."
+//! too". "Demand 3's ends and the typing rule gain" 35, document 02's A2, "in edition 4, 33 and
+//! 36", A6, and 44, A8. "In a typing `null` has its own type (byte 80) for moves, `cmp`, `icmp` and
+//! `delete` only; those three take any pointers."
 
 use crate::opcode::{Edition, Op};
 use crate::reader::{Instruction, Module, ENTRY};
@@ -36,8 +36,8 @@ pub struct Judge<'m> {
 
 impl Judge<'_> {
     /// The lists after the instruction and its next places, or the exception that it raises
-    /// (other than 20, 24, 33 and 35, which depend on more than types). `null` where it may not be
-    /// is 36.
+    /// (other than 20, 24, 33, 35 and 44, which depend on more than types). `null` where it may not
+    /// be is 36.
     pub fn judge(&self, at: Instruction, given: &Lists) -> Result<Left, u32> {
         let mut lists = given.clone();
         let mut next = vec![at.next];
@@ -48,7 +48,7 @@ impl Judge<'_> {
             Op::Inc | Op::Dec if self.on_top() => self.by_one(&mut lists)?,
             Op::Tload | Op::Tstore | Op::Inc | Op::Dec => self.through(at.op, &mut lists)?,
             Op::Null | Op::New | Op::Delete | Op::Flea => self.heap(at, &mut lists)?,
-            Op::Neg | Op::Not | Op::Toi | Op::Tol | Op::Tod => unary(at.op, &mut lists)?,
+            Op::Neg | Op::Not | Op::Toi | Op::Tol | Op::Tod => self.unary(at.op, &mut lists)?,
             Op::Jmp | Op::Call | Op::Ret => next = self.flow(at, &mut lists)?,
             op if op.is_conditional() => next = self.branch(at, &mut lists)?,
             op => self.binary(op, &mut lists)?,
@@ -160,6 +160,24 @@ impl Judge<'_> {
         let sums = [Op::Add, Op::Sub, Op::Mul, Op::Imul, Op::Div, Op::Idiv];
         raise(a == DOUBLE && !sums.contains(&op), 34)?;
         lists.operands.push(a);
+        Ok(())
+    }
+
+    /// `neg`, `not` and the conversions.
+    fn unary(&self, op: Op, lists: &mut Lists) -> Result<(), u32> {
+        let top = take(lists, 1)?[0];
+        // "Pointers are refused (32) by the other arithmetic and by conversions."
+        raise(!is_number(top), 32)?;
+        // "bit operations on doubles: 34"
+        raise(op == Op::Not && top == DOUBLE, 34)?;
+        let cut = matches!(op, Op::Toi | Op::Tol) && top == DOUBLE;
+        raise(cut && self.rules.wrong(Fault::RangeUntyped), 44)?;
+        lists.operands.push(match op {
+            Op::Toi => INT,
+            Op::Tol => LONG,
+            Op::Tod => DOUBLE,
+            _ => top,
+        });
         Ok(())
     }
 
@@ -283,21 +301,6 @@ impl Judge<'_> {
         let target = fields.get(field as usize).ok_or(38u32)?;
         Ok(POINTER_TO | target)
     }
-}
-
-fn unary(op: Op, lists: &mut Lists) -> Result<(), u32> {
-    let top = take(lists, 1)?[0];
-    // "Pointers are refused (32) by the other arithmetic and by conversions."
-    raise(!is_number(top), 32)?;
-    // "bit operations on doubles: 34"
-    raise(op == Op::Not && top == DOUBLE, 34)?;
-    lists.operands.push(match op {
-        Op::Toi => INT,
-        Op::Tol => LONG,
-        Op::Tod => DOUBLE,
-        _ => top,
-    });
-    Ok(())
 }
 
 /// Takes the `count` topmost operand types, deepest first; "21: too few operands in the

@@ -143,7 +143,9 @@ impl<'m> Machine<'m> {
             }
             // "An instruction that raises counts no step and leaves the state as before it."
             Err(number) => {
-                self.steps += u64::from(self.rules.wrong(Fault::ExceptionCountsStep));
+                let counts = self.rules.wrong(Fault::ExceptionCountsStep)
+                    || number == 44 && self.rules.wrong(Fault::RangeCountsStep);
+                self.steps += u64::from(counts);
                 Some(number)
             }
         }

@@ -51,6 +51,11 @@ impl Edition {
         self == Edition::Four
     }
 
+    /// "`toi` and `tol` from a NaN or out of range double now raise; edition 1 keeps the pattern."
+    pub fn raises_out_of_range(self) -> bool {
+        self != Edition::One
+    }
+
     /// The edition's opcodes.
     pub fn ops(self) -> Vec<Op> {
         let all = ALL.iter().map(|&(op, _)| op);

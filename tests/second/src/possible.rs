@@ -1,6 +1,7 @@
 //! What the paper makes possible: every exception of every opcode, every type an opcode can
 //! work on, every reason for a body to have no typing.
 
+use crate::gen::constants::range_edges;
 use crate::opcode::{Edition, Op};
 use crate::types::{DOUBLE, INT, LONG, NUMBERS, POINTER, STRUCTURE};
 use crate::worklist::Reason;
@@ -8,14 +9,14 @@ use crate::worklist::Reason;
 const SUMS: [Op; 6] = [Op::Add, Op::Sub, Op::Mul, Op::Imul, Op::Div, Op::Idiv];
 
 /// The exceptions that an instruction can raise in a run of this edition, in the paper's order.
-/// In edition 1 no pointer can arise, and `inc` and `dec` work on the top. In edition 4 a pointer
-/// may be null, or lead to a structure.
+/// In edition 1 no pointer can arise, `inc` and `dec` work on the top, and `toi` and `tol` keep the
+/// pattern. In edition 4 a pointer may be null, or lead to a structure.
 pub fn exceptions(edition: Edition, op: Op) -> Vec<u32> {
     match (edition, op) {
         (Edition::One, Op::Inc | Op::Dec) => vec![21],
         (Edition::One, op) => {
             let numbers = new_exceptions(op).iter().copied();
-            numbers.filter(|n| ![31, 32, 33].contains(n)).collect()
+            numbers.filter(|&n| answer_of(Edition::One, n)).collect()
         }
         (Edition::Three, op) => new_exceptions(op).to_vec(),
         (Edition::Four, op) => heap_exceptions(op).to_vec(),
@@ -46,7 +47,8 @@ fn new_exceptions(op: Op) -> &'static [u32] {
         Op::Div | Op::Idiv => &[21, 32, 22, 24],
         Op::Mod | Op::Imod => &[21, 32, 22, 34, 24],
         Op::And | Op::Or | Op::Xor | Op::Shl | Op::Sal | Op::Shr | Op::Sar => &[21, 32, 22, 34],
-        Op::Neg | Op::Toi | Op::Tol | Op::Tod => &[21, 32],
+        Op::Neg | Op::Tod => &[21, 32],
+        Op::Toi | Op::Tol => &[21, 32, 44],
         Op::Not => &[21, 32, 34],
         Op::Inc | Op::Dec => &[21, 31, 33, 32],
         Op::Jmp => &[27],
@@ -60,13 +62,13 @@ fn new_exceptions(op: Op) -> &'static [u32] {
     }
 }
 
-/// The exceptions that leave a body without typing: those of a run other than 20, 24 and 35,
+/// The exceptions that leave a body without typing: those of a run other than 20, 24, 35 and 44,
 /// other than 33 ("every pointer taken as live") and than 32 for `inc` and `dec` (no pointer
 /// points to a pointer); and `lea` of a local that holds no number, shown as 32. 36 is `null`
 /// where a typing doesn't take it.
 pub fn typing_exceptions(edition: Edition, op: Op) -> Vec<u32> {
     let mut numbers: Vec<u32> = exceptions(edition, op);
-    numbers.retain(|number| ![20, 24, 33, 35].contains(number));
+    numbers.retain(|number| ![20, 24, 33, 35, 44].contains(number));
     match op {
         Op::Inc | Op::Dec => numbers.retain(|&number| number != 32),
         Op::Lea => numbers.push(32),
@@ -125,6 +127,12 @@ fn new_executions(op: Op) -> &'static [u8] {
     }
 }
 
+/// The doubles that `toi` and `tol` must meet in every edition, in range or not.
+pub fn at_range_edges() -> Vec<(Op, u64)> {
+    let of = |op: Op| range_edges().into_iter().map(move |bits| (op, bits));
+    of(Op::Toi).chain(of(Op::Tol)).collect()
+}
+
 /// The answers that a check can give.
 pub const CHECK_ANSWERS: [u32; 12] = [0, 1, 2, 3, 4, 5, 6, 7, 8, 9, 10, 11];
 
@@ -178,7 +186,7 @@ pub const CONVERSION_EDGES: [&str; 15] = [
 pub fn answer_of(edition: Edition, number: u32) -> bool {
     let heap = [36, 37, 38, 39, 50].contains(&number);
     match edition {
-        Edition::One => ![2, 17, 31, 32, 33].contains(&number) && !heap,
+        Edition::One => ![2, 17, 31, 32, 33, 44].contains(&number) && !heap,
         Edition::Three => number != 17 && !heap,
         Edition::Four => number != 2,
     }
@@ -224,7 +232,7 @@ pub const HEAP_EDGES: [&str; 16] = [
 ];
 
 /// The answers that a run can give.
-pub const RUN_ANSWERS: [u32; 35] = [
+pub const RUN_ANSWERS: [u32; 36] = [
     0, 1, 2, 3, 4, 5, 6, 7, 8, 9, 12, 13, 15, 17, 20, 21, 22, 23, 24, 25, 26, 27, 28, 29, 30, 31,
-    32, 33, 34, 35, 36, 37, 38, 39, 50,
+    32, 33, 34, 35, 36, 37, 38, 39, 44, 50,
 ];

@@ -166,6 +166,33 @@ pub enum Fault {
     ProfileBeforeArguments,
     ProfileAfterMisfit,
     ProfileClears,
+    ToiLowestOut,
+    ToiBelowLowest,
+    ToiLargestOut,
+    ToiPastLargest,
+    TolLowestOut,
+    TolBelowLowest,
+    TolLargestOut,
+    TolPastLargest,
+    TolSignedRange,
+    UncutBelow,
+    UncutAbove,
+    RaisesInOne,
+    PatternInThree,
+    PatternInFour,
+    NanKeepsPattern,
+    InfinityKeepsPattern,
+    NumberKeepsPattern,
+    ToiKeepsPattern,
+    TolKeepsPattern,
+    LongOutOfRange,
+    TodOutOfRange,
+    RangeBeforeEmpty,
+    RangeBeforePointer,
+    RoomBeforeRange,
+    RangeCountsStep,
+    RangePops,
+    RangeUntyped,
     AnotherEditionFirst,
     AnotherEditionLast,
     LossBeforeReading,
@@ -1026,6 +1053,129 @@ pub const PROFILE_FAULTS: [(Fault, &str, &str); 11] = [
     ),
 ];
 
+/// The wrong variants of check and run in what `toi` and `tol` make of doubles.
+pub const RANGE_FAULTS: [(Fault, &str, &str); 27] = [
+    (
+        Fault::ToiLowestOut,
+        "toi-lowest-out",
+        "toi of -2147483648.0 is out of range",
+    ),
+    (
+        Fault::ToiBelowLowest,
+        "toi-below-lowest",
+        "toi of -2147483649.0 is in range",
+    ),
+    (
+        Fault::ToiLargestOut,
+        "toi-largest-out",
+        "toi of 4294967295.0 is out of range",
+    ),
+    (
+        Fault::ToiPastLargest,
+        "toi-past-largest",
+        "toi of 4294967296.0 is in range",
+    ),
+    (
+        Fault::TolLowestOut,
+        "tol-lowest-out",
+        "tol of -2^63 is out of range",
+    ),
+    (
+        Fault::TolBelowLowest,
+        "tol-below-lowest",
+        "tol of the next double under -2^63 is in range",
+    ),
+    (
+        Fault::TolLargestOut,
+        "tol-largest-out",
+        "tol of the last double under 2^64 is out of range",
+    ),
+    (
+        Fault::TolPastLargest,
+        "tol-past-largest",
+        "tol of 2^64 is in range",
+    ),
+    (
+        Fault::TolSignedRange,
+        "tol-signed-range",
+        "tol takes nothing from 2^63 on",
+    ),
+    (
+        Fault::UncutBelow,
+        "uncut-below",
+        "toi of -2147483648.9 is out of range",
+    ),
+    (
+        Fault::UncutAbove,
+        "uncut-above",
+        "toi of 4294967295.9 is out of range",
+    ),
+    (Fault::RaisesInOne, "44-in-1", "edition 1 raises 44"),
+    (
+        Fault::PatternInThree,
+        "pattern-in-3",
+        "edition 3 keeps the pattern",
+    ),
+    (
+        Fault::PatternInFour,
+        "pattern-in-4",
+        "edition 4 keeps the pattern",
+    ),
+    (
+        Fault::NanKeepsPattern,
+        "44-without-nan",
+        "a NaN keeps the pattern",
+    ),
+    (
+        Fault::InfinityKeepsPattern,
+        "44-without-infinity",
+        "an infinity keeps the pattern",
+    ),
+    (
+        Fault::NumberKeepsPattern,
+        "44-nan-only",
+        "a number out of range keeps the pattern",
+    ),
+    (
+        Fault::ToiKeepsPattern,
+        "44-tol-only",
+        "toi keeps the pattern",
+    ),
+    (
+        Fault::TolKeepsPattern,
+        "44-toi-only",
+        "tol keeps the pattern",
+    ),
+    (
+        Fault::LongOutOfRange,
+        "44-of-long",
+        "toi of a long over 32 bits raises 44",
+    ),
+    (Fault::TodOutOfRange, "44-of-tod", "tod of a NaN raises 44"),
+    (
+        Fault::RangeBeforeEmpty,
+        "44-before-21",
+        "a double that is no operand raises 44",
+    ),
+    (
+        Fault::RangeBeforePointer,
+        "44-before-32",
+        "a pointer's payload is taken for a double first",
+    ),
+    (
+        Fault::RoomBeforeRange,
+        "20-before-44",
+        "out of range on a full stack is 20",
+    ),
+    (Fault::RangeCountsStep, "44-counts-step", "44 counts a step"),
+    (Fault::RangePops, "44-pops", "44 removes the double"),
+    (
+        Fault::RangeUntyped,
+        "44-untyped",
+        "toi and tol of a double have no typing",
+    ),
+];
+
 /// The wrong variants of the conversions.
 pub const CONVERSION_FAULTS: [(Fault, &str, &str); 20] = [
     (
@@ -1294,6 +1444,7 @@ impl Rules {
             .iter()
             .chain(&HEAP_FAULTS)
             .chain(&PROFILE_FAULTS)
+            .chain(&RANGE_FAULTS)
             .chain(&WRITER_FAULTS)
             .chain(&CONVERSION_FAULTS)
             .chain(&FORMULA_FAULTS)

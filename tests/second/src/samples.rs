@@ -146,7 +146,7 @@ pub const W_SAMPLES: [Sample; 18] = [
     ),
     text(
         "w07-too-large",
-        "toi of 4294967296.0 is 80000000 hex",
+        "toi of 4294967296.0 is exception 44; the double stays",
         "double 4294967296.0; entry: push 0; toi",
     ),
     text(
@@ -316,7 +316,7 @@ pub const PROGRAMS: [Sample; 9] = [
 ];
 
 /// Doubles, conversions, comparisons.
-pub const NUMBERS: [Sample; 15] = [
+pub const NUMBERS: [Sample; 24] = [
     text(
         "double-sum",
         "0.1 + 0.2 rounded once",
@@ -382,16 +382,62 @@ pub const NUMBERS: [Sample; 15] = [
     ),
     text(
         "toi-edges",
-        "4294967295.9 and -2147483648.9 are in range once cut; 1e300 and NaN are not",
-        "double 4294967295.9; double -2147483648.9; double 1e300; double #7FF8000000000000
+        "4294967295.9, -2147483648.9 and their last neighbours are in range once cut",
+        "double 4294967295.9; double -2147483648.9
+         double #41EFFFFFFFFFFFFF; double #C1E00000001FFFFF
          entry: push 0; toi; push 1; toi; push 2; toi; push 3; toi",
     ),
     text(
+        "toi-too-large",
+        "a highlight of 4294967295.5 + 0.5, converted, is exception 44; the sum stays",
+        "double 4294967295.5; double 0.5; entry: push 0; push 1; add; toi",
+    ),
+    text(
+        "toi-too-small",
+        "toi of -2147483649.0 is exception 44",
+        "double -2147483649.0; entry: push 0; toi",
+    ),
+    text(
+        "toi-nan",
+        "toi of zero by zero is exception 44",
+        "double 0.0; entry: push 0; push 0; div; toi",
+    ),
+    text(
+        "toi-infinity",
+        "toi of one by zero is exception 44",
+        "double 1.0; double 0.0; entry: push 0; push 1; div; toi",
+    ),
+    text(
+        "toi-of-long",
+        "toi of a long keeps the low 32 bits: no exception",
+        "long 4294967296; long -1; entry: push 0; toi; push 1; toi",
+    ),
+    text(
         "tol-edges",
-        "tol of 2^64 - 2048, of 2^64, of -2^63, and of an int, which fills with zeros",
-        "double 18446744073709549568.0; double 18446744073709551616.0
+        "tol of 2^64 - 2048, of 2^63, of -2^63, and of an int, which fills with zeros",
+        "double 18446744073709549568.0; double 9223372036854775808.0
          double -9223372036854775808.0; int 4294967295
          entry: push 0; tol; push 1; tol; push 2; tol; push 3; tol",
+    ),
+    text(
+        "tol-too-large",
+        "tol of 2^64 is exception 44, after a toi that is in range",
+        "double 255.5; double 18446744073709551616.0; entry: push 0; toi; push 1; tol",
+    ),
+    text(
+        "tol-too-small",
+        "tol of the next double under -2^63 is exception 44",
+        "double -9223372036854777856.0; entry: push 0; tol",
+    ),
+    text(
+        "tol-nan",
+        "tol of a signalling NaN is exception 44; it keeps its bits",
+        "double #FFF00000DEADBEEF; entry: push 0; tol",
+    ),
+    text(
+        "tol-infinity",
+        "tol of -infinity is exception 44",
+        "double #FFF0000000000000; entry: push 0; tol",
     ),
     text(
         "tod-once",
@@ -646,7 +692,7 @@ const fn again(name: &'static str, shows: &'static str, other: &'static str) -> 
 }
 
 /// Recipes of edition 1. Those made of another sample's text print what that sample prints.
-pub const OLD: [Sample; 31] = [
+pub const OLD: [Sample; 33] = [
     Sample {
         name: "old-w01",
         shows: "W1 in edition 1, the whole file: add is 05",
@@ -661,10 +707,10 @@ pub const OLD: [Sample; 31] = [
     again("old-w04", "the recipe of w04: exception 24", "w04"),
     again("old-w05-cmp", "the recipe of w05-cmp", "w05-cmp"),
     again("old-w06-sar", "the recipe of w06-sar", "w06-sar"),
-    again(
+    text(
         "old-w07-too-large",
-        "the recipe of w07-too-large",
-        "w07-too-large",
+        "toi of 4294967296.0 is 80000000 hex: edition 1 keeps the pattern",
+        "edition 1; double 4294967296.0; entry: push 0; toi",
     ),
     again("old-w08", "the recipe of w08: tod", "w08"),
     again("old-w11-jae", "the recipe of w11-jae", "w11-jae"),
@@ -681,8 +727,33 @@ pub const OLD: [Sample; 31] = [
     again("old-gcd", "the recipe of gcd: a loop, remainders", "gcd"),
     again("old-shifts", "the recipe of shifts", "shifts"),
     again("old-remainders", "the recipe of remainders", "remainders"),
-    again("old-toi-edges", "the recipe of toi-edges", "toi-edges"),
-    again("old-tol-edges", "the recipe of tol-edges", "tol-edges"),
+    text(
+        "old-toi-edges",
+        "4294967295.9 and -2147483648.9 are in range once cut; 1e300 and NaN give 80000000 hex",
+        "edition 1; double 4294967295.9; double -2147483648.9; double 1e300
+         double #7FF8000000000000
+         entry: push 0; toi; push 1; toi; push 2; toi; push 3; toi",
+    ),
+    text(
+        "old-tol-edges",
+        "tol of 2^64 - 2048, of 2^64, which gives only the top bit, of -2^63, and of an int",
+        "edition 1; double 18446744073709549568.0; double 18446744073709551616.0
+         double -9223372036854775808.0; int 4294967295
+         entry: push 0; tol; push 1; tol; push 2; tol; push 3; tol",
+    ),
+    text(
+        "old-toi-too-small",
+        "toi of -2147483649.0 and of -infinity: only the top bit",
+        "edition 1; double -2147483649.0; double #FFF0000000000000
+         entry: push 0; toi; push 1; toi",
+    ),
+    text(
+        "old-tol-too-small",
+        "tol of the next double under -2^63, of infinity and of a NaN: only the top bit",
+        "edition 1; double -9223372036854777856.0; double #7FF0000000000000
+         double #FFF00000DEADBEEF
+         entry: push 0; tol; push 1; tol; push 2; tol",
+    ),
     again(
         "old-double-compare",
         "the recipe of double-compare",

@@ -1,9 +1,10 @@
 //! One instruction on the machine.
 //!
 //! "Within one instruction the order is: 30; number out of range; 21; 31; 33; 32; 22; 34; 24;
-//! 20.", with document 02's "35 DOUBLE_UNORDERED, after 24 in the order" and A6's numbers (in
-//! `pointers`). Every function here tests in this order and changes the state only after its last
-//! test: an instruction that raises "leaves the state as before it".
+//! 20.", with document 02's "35 DOUBLE_UNORDERED, after 24 in the order", "44 CONVERT_OUTOFRANGE,
+//! last before 20" and A6's numbers (in `pointers`). Every function here tests in this order and
+//! changes the state only after its last test: an instruction that raises "leaves the state as
+//! before it".
 
 use crate::machine::{Frame, Machine, Slot};
 use crate::opcode::{Edition, Op};
@@ -249,18 +250,38 @@ fn unary(m: &mut Machine<'_>, op: Op) -> Result<(), u32> {
     Ok(())
 }
 
-/// `toi`, `tol`, `tod`: 21, 32.
+/// `toi`, `tol`, `tod`: 21, 32, and 44 but for `tod`.
 fn conversion(m: &mut Machine<'_>, op: Op) -> Result<(), u32> {
-    let Slot { ty, payload } = operands(m, 1)?[0];
-    raise(ty == POINTER, 32)?;
-    let value = match op {
-        Op::Toi => (INT, convert::toi(m.rules, ty, payload)),
-        Op::Tol => (LONG, convert::tol(m.rules, ty, payload)),
-        _ => (DOUBLE, convert::tod(m.rules, ty, payload)),
-    };
-    let (ty, payload) = value;
-    replace(m, 1, Slot { ty, payload });
+    let early = m.rules.wrong(Fault::RangeBeforeEmpty);
+    if let Some(&top) = m.stack.last().filter(|_| early) {
+        converted(m, op, top)?;
+    }
+    let top = operands(m, 1)?[0];
+    if m.rules.wrong(Fault::RangeBeforePointer) && top.ty == POINTER {
+        converted(m, op, Slot { ty: DOUBLE, ..top })?;
+    }
+    raise(top.ty == POINTER, 32)?;
+    let value = converted(m, op, top);
+    if value.is_err() {
+        let full = room(m).is_err();
+        raise(full && m.rules.wrong(Fault::RoomBeforeRange), 20)?;
+        drop_operands(m, usize::from(m.rules.wrong(Fault::RangePops)));
+    }
+    replace(m, 1, value?);
     Ok(())
+}
+
+/// What a conversion makes of a value, or 44.
+fn converted(m: &Machine<'_>, op: Op, Slot { ty, payload }: Slot) -> Result<Slot, u32> {
+    let (rules, edition) = (m.rules, m.module.edition);
+    let nan = ty == DOUBLE && f64::from_bits(payload).is_nan();
+    let (ty, payload) = match op {
+        Op::Toi => (INT, convert::toi(rules, edition, ty, payload)?),
+        Op::Tol => (LONG, convert::tol(rules, edition, ty, payload)?),
+        _ if nan && rules.wrong(Fault::TodOutOfRange) => return Err(44),
+        _ => (DOUBLE, convert::tod(rules, ty, payload)),
+    };
+    Ok(Slot { ty, payload })
 }
 
 /// "`cmp`, `icmp`: A > B gives 1, equal 0, anything else -1. Pointers compare by slot.": 21, 22,

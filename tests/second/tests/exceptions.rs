@@ -1,4 +1,4 @@
-//! Exceptions 20 to 35 and 15: steps, and the stack as before the instruction.
+//! Exceptions 20 to 35, 44, and 15: steps, and the stack as before the instruction.
 
 mod common;
 use common::*;
@@ -302,6 +302,66 @@ fn zero_by_zero_compared() {
         // one by one is brighter
         assert_eq!(top(&recipe(op, "1.0")), (INT, 0xFFFF_FFFF));
     }
+}
+
+/// Doubles that are out of range: the nearest on both sides, infinities, NaNs.
+const OUTSIDE: [(&str, &str); 8] = [
+    ("toi", "4294967296.0"),
+    ("toi", "-2147483649.0"),
+    ("toi", "-inf"),
+    ("toi", "#FFF4000000000000"),
+    ("tol", "18446744073709551616.0"),
+    ("tol", "-9223372036854777856.0"),
+    ("tol", "inf"),
+    ("tol", "#7FF8000000000000"),
+];
+
+#[test]
+fn out_of_range_44() {
+    for ((op, double), edition) in OUTSIDE
+        .iter()
+        .flat_map(|&of| [(of, ""), (of, "edition 4;")])
+    {
+        let text = |code: &str| format!("{edition} double {double}; int 7; entry: {code}");
+        let end = |code: &str| entry(&text(&format!("{code}; {op}")));
+        let value = top(&text("push 0"));
+        // the double stays, and what is under it
+        assert_eq!(end("push 1; push 0"), (44, 2, vec![(INT, 7), value]));
+        // 21 and 32 before it
+        assert_eq!(end("push 0; store 0").0, 21);
+        assert_eq!(end("push 0; store 0; lea 0").0, 32);
+        // the allowance before it; it needs no slot
+        let file = asm::file(&text(&format!("push 0; {op}")));
+        let run = |allowance| run_file(&file, ENTRY, &[], allowance, 1).expect("a run");
+        assert_eq!(run(1), (15, 1, vec![value]));
+        assert_eq!(run(2), (44, 1, vec![value]));
+        // nothing is refused that was accepted
+        assert_eq!(answer(&file), 0);
+        // `tod` never raises
+        assert_eq!(top(&text("push 0; tod")), value);
+    }
+    // null is all ones, a NaN if it were a double
+    let null = (POINTER, u64::MAX);
+    assert_eq!(entry("edition 4; entry: null; toi"), (32, 1, vec![null]));
+    // a long has no range to leave
+    assert_eq!(top("long 4294967296; entry: push 0; toi"), (INT, 0));
+}
+
+/// "A highlight overflowed `toi` and came out as the top-bit pattern, a plausible red."
+#[test]
+fn a_highlight_overflows() {
+    let recipe = |gain: &str| {
+        format!(
+            "double 2147483648.0; double {gain}; int 16
+             entry: push 0; push 1; mul; toi; push 2; shr"
+        )
+    };
+    let highlight = (DOUBLE, 4294967296.0f64.to_bits());
+    assert_eq!(entry(&recipe("2.0")), (44, 3, vec![highlight]));
+    assert_eq!(checked(&recipe("2.0")), 0);
+    assert_eq!(top(&recipe("1.5")), (INT, 0xC000));
+    let old = format!("edition 1; {}", recipe("2.0"));
+    assert_eq!(top(&old), (INT, 0x8000));
 }
 
 #[test]

@@ -166,11 +166,11 @@ fn forged_pointers_in_edition_3() {
 }
 
 /// "36 null pointer, just before 33; 37 type number, with numbers out of range; 39 not a
-/// structure, then 38 field number, after 33; 50 ... after 32"
+/// structure, then 38 field number, after 33; 50 ... after 32"; "44 ..., last before 20"
 #[test]
 fn order_of_exceptions() {
     let order = [
-        30, 23, 25, 26, 27, 28, 37, 21, 31, 36, 33, 39, 38, 32, 50, 22, 34, 24, 35, 20,
+        30, 23, 25, 26, 27, 28, 37, 21, 31, 36, 33, 39, 38, 32, 50, 22, 34, 24, 35, 44, 20,
     ];
     for op in Edition::Four.ops() {
         let places: Vec<usize> = exceptions(Edition::Four, op)

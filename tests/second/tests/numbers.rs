@@ -4,10 +4,10 @@ mod common;
 use common::{DOUBLE, INT, LONG, NAN};
 use second::convert::{tod, toi, tol};
 use second::double;
-use second::gen::constants::payload;
+use second::gen::constants::{payload, range_edges};
 use second::gen::rng::Rng;
 use second::integer::{binary, neg, not};
-use second::opcode::Op;
+use second::opcode::{Edition, Op, EDITIONS};
 use second::rules::Rules;
 
 const PLAIN: Rules = Rules::PLAIN;
@@ -92,21 +92,51 @@ fn cut(bits: u64) -> Option<i128> {
     Some(if bits >> 63 == 1 { -size } else { size })
 }
 
+/// In range its pattern; else 44, and in edition 1 the pattern with only the top bit set.
 #[test]
 fn conversions_from_double_are_exact() {
-    for (bits, _) in cases(DOUBLE) {
+    let doubles = cases(DOUBLE).map(|(bits, _)| bits);
+    for bits in doubles.chain(range_edges()) {
         let t = cut(bits);
-        let int = match t {
-            Some(t) if (-(1 << 31)..1 << 32).contains(&t) => t as u32,
-            _ => 1 << 31,
-        };
-        assert_eq!(toi(PLAIN, DOUBLE, bits), u64::from(int), "{bits:016X}");
-        let long = match t {
-            Some(t) if (-(1 << 63)..1 << 64).contains(&t) => t as u64,
-            _ => 1 << 63,
-        };
-        assert_eq!(tol(PLAIN, DOUBLE, bits), long, "{bits:016X}");
+        let int = t.filter(|t| (-(1 << 31)..1 << 32).contains(t));
+        let long = t.filter(|t| (-(1 << 63)..1 << 64).contains(t));
+        for edition in EDITIONS {
+            let else_of = |top_bit: u64| match edition {
+                Edition::One => Ok(top_bit),
+                _ => Err(44),
+            };
+            let wanted = int.map_or(else_of(1 << 31), |t| Ok(u64::from(t as u32)));
+            assert_eq!(toi(PLAIN, edition, DOUBLE, bits), wanted, "{bits:016X}");
+            let wanted = long.map_or(else_of(1 << 63), |t| Ok(t as u64));
+            assert_eq!(tol(PLAIN, edition, DOUBLE, bits), wanted, "{bits:016X}");
+        }
         assert_eq!(tod(PLAIN, DOUBLE, bits), bits);
+    }
+}
+
+/// Each edge from both sides: the last double in range, and the next.
+#[test]
+fn edges_of_ranges() {
+    for (edge, inside, outside) in [
+        ("toi below", -2147483648.9999995, -2147483649.0),
+        ("toi above", 4294967295.9999995, 4294967296.0),
+        ("tol below", -9223372036854775808.0, -9223372036854777856.0),
+        ("tol above", 18446744073709549568.0, 18446744073709551616.0),
+    ] {
+        let (inside, outside) = (f64::to_bits(inside), f64::to_bits(outside));
+        assert_eq!(inside + 1, outside, "{edge}: neighbours");
+        let convert = if edge.starts_with("toi") { toi } else { tol };
+        let top_bit = if edge.starts_with("toi") {
+            1 << 31
+        } else {
+            1 << 63
+        };
+        for edition in [Edition::Three, Edition::Four] {
+            assert!(convert(PLAIN, edition, DOUBLE, inside).is_ok(), "{edge}");
+            assert_eq!(convert(PLAIN, edition, DOUBLE, outside), Err(44), "{edge}");
+        }
+        let old = convert(PLAIN, Edition::One, DOUBLE, outside);
+        assert_eq!(old, Ok(top_bit), "{edge}");
     }
 }
 
@@ -115,12 +145,14 @@ fn conversions_of_integers() {
     for (x, _) in cases(LONG) {
         // the hardware's conversion rounds once, to nearest, ties to even
         assert_eq!(tod(PLAIN, LONG, x), (x as f64).to_bits());
-        assert_eq!(toi(PLAIN, LONG, x), u64::from(x as u32));
-        assert_eq!(tol(PLAIN, LONG, x), x);
         let int = u64::from(x as u32);
         assert_eq!(tod(PLAIN, INT, int), f64::from(x as u32).to_bits());
-        assert_eq!(tol(PLAIN, INT, int), int);
-        assert_eq!(toi(PLAIN, INT, int), int);
+        for edition in EDITIONS {
+            assert_eq!(toi(PLAIN, edition, LONG, x), Ok(int));
+            assert_eq!(tol(PLAIN, edition, LONG, x), Ok(x));
+            assert_eq!(tol(PLAIN, edition, INT, int), Ok(int));
+            assert_eq!(toi(PLAIN, edition, INT, int), Ok(int));
+        }
     }
 }
 

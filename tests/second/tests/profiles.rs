@@ -274,7 +274,7 @@ fn sample_twins() {
         assert_eq!(converted(PLAIN, DOWN, &four), Ok(three), "{start}");
         twins += 1;
     }
-    assert_eq!(twins, 5);
+    assert_eq!(twins, 6);
     for (name, to, number) in [
         ("convert-18-profile", DOWN, 18),
         ("convert-18-structure", DOWN, 18),

@@ -1,7 +1,7 @@
 //! The second program gives what is stated, and the stated checks and runs alone tell wrong
 //! checkers and machines.
 
-use second::rules::{Rules, HEAP_FAULTS};
+use second::rules::{Rules, HEAP_FAULTS, RANGE_FAULTS};
 use second::stated::{self, runs};
 use second::subject::Second;
 
@@ -15,11 +15,12 @@ fn the_second_program_gives_what_is_stated() {
     }
 }
 
-/// Each wrong variant of edition 4 is told by a stated check or a stated run.
+/// Each wrong variant of edition 4, and of what `toi` and `tol` make of doubles, is told by a
+/// stated check or a stated run.
 #[test]
-fn wrong_heaps_are_told() {
+fn wrong_heaps_and_ranges_are_told() {
     let (checks, runs) = (stated::all(), runs::all());
-    for (fault, name, _) in HEAP_FAULTS {
+    for &(fault, name, _) in HEAP_FAULTS.iter().chain(&RANGE_FAULTS) {
         let mut wrong = Second(Rules::with(fault));
         let told = checks.iter().any(|s| s.difference(&mut wrong).is_some())
             || runs.iter().any(|s| s.difference(&mut wrong).is_some());
@@ -28,7 +29,7 @@ fn wrong_heaps_are_told() {
 }
 
 /// The wrong variants of reader and check.
-const WRONG_CHECKS: [&str; 31] = [
+const WRONG_CHECKS: [&str; 32] = [
     "dead-code-typed",
     "first-typing-kept",
     "parameters-reversed",
@@ -51,6 +52,7 @@ const WRONG_CHECKS: [&str; 31] = [
     "pointers-shown-as-7",
     "room-all-zeroed",
     "35-untyped",
+    "44-untyped",
     "edition-1-refused",
     "edition-2-taken",
     "new-numbers-in-1",

@@ -49,7 +49,11 @@ fn w07_and_w08() {
     let toi = |x: &str| top(&format!("double {x}; entry: push 0; toi"));
     assert_eq!(toi("-1.5"), (INT, 0xFFFF_FFFF));
     assert_eq!(toi("-0.5"), (INT, 0));
-    assert_eq!(toi("4294967296.0"), (INT, 0x8000_0000));
+    // "W7's third value becomes the exception."
+    let third = "double 4294967296.0; entry: push 0; toi";
+    let double = (DOUBLE, 4294967296.0f64.to_bits());
+    assert_eq!(entry(third), (44, 1, vec![double]));
+    assert_eq!(top(&format!("edition 1; {third}")), (INT, 0x8000_0000));
     let tod = top("long 9007199254740993; entry: push 0; tod");
     assert_eq!(tod, (DOUBLE, 9007199254740992.0f64.to_bits()));
 }

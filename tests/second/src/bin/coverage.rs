@@ -11,7 +11,7 @@ use second::gen::lines::LineCase;
 use second::gen::tables::WriteCase;
 use second::opcode::{Edition, EDITIONS};
 use second::possible::{
-    answer_of, conversion_answers, exceptions, executions, reasons, CHECK_ANSWERS,
+    answer_of, at_range_edges, conversion_answers, exceptions, executions, reasons, CHECK_ANSWERS,
     CONVERSION_EDGES, FORMULA_ANSWERS, HEAP_EDGES, LINE_EDGES, PROFILE_EDGES, RUN_ANSWERS,
     WRITE_ANSWERS,
 };
@@ -40,6 +40,7 @@ fn main() {
         missing += answers_of(&coverage, edition)
             + executed(&coverage, edition, full)
             + raised(&coverage, edition, full)
+            + at_edges(&coverage, edition, full)
             + refused(&coverage, edition, full)
             + converted(&coverage, edition);
     }
@@ -199,6 +200,20 @@ fn raised(coverage: &Coverage, edition: Edition, full: bool) -> u64 {
             missing += 1;
         }
     }
+    missing
+}
+
+/// The doubles where the ranges of `toi` and `tol` end.
+fn at_edges(coverage: &Coverage, edition: Edition, full: bool) -> u64 {
+    let all = at_range_edges();
+    let mut missing = 0;
+    for &(op, bits) in &all {
+        let count = coverage.converted.get(&(edition, op, bits)).copied();
+        let counted = vec![(format!("{bits:016X}"), count.unwrap_or(0))];
+        missing += show(&format!("  {} of", op.name()), counted, full);
+    }
+    let (word, pairs) = (edition.word(), all.len());
+    println!("converted, edition {word}: {pairs} pairs of opcode and double at an edge, {missing} not reached");
     missing
 }
 

@@ -12,7 +12,7 @@ use second::gen::lines::LineCase;
 use second::gen::tables::WriteCase;
 use second::rules::{
     Fault, Rules, CONVERSION_FAULTS, FAULTS, FORMULA_FAULTS, HEAP_FAULTS, PROFILE_FAULTS,
-    WRITER_FAULTS,
+    RANGE_FAULTS, WRITER_FAULTS,
 };
 use second::subject::Second;
 
@@ -27,7 +27,7 @@ fn main() {
     let seed = args::number("--seed", 1);
     let limit = args::number("--cases", 50_000);
     println!("wrong variants, found after how many cases from seed {seed} (at most {limit}):");
-    let variants = [&FAULTS[..], &HEAP_FAULTS, &PROFILE_FAULTS].concat();
+    let variants = [&FAULTS[..], &HEAP_FAULTS, &PROFILE_FAULTS, &RANGE_FAULTS].concat();
     let missed = search(&variants, limit, |number| {
         let case = Case::new(seed, number);
         move |wrong: &mut Second| {

@@ -92,7 +92,41 @@ const EDGES: [u64; 14] = [
     0x3FEF_FFFF_FFFF_FFFF,
 ];
 
-const DOUBLES: [f64; 44] = [
+/// Where the ranges of `toi` and `tol` end, and where those of signed numbers would: on both sides
+/// the nearest doubles, and for `toi` numbers that are in range once cut. Infinities.
+const RANGE_EDGES: [u64; 23] = [
+    // -2^31, -2147483648.9, -2^31 - 1
+    0xC1DF_FFFF_FFFF_FFFF,
+    0xC1E0_0000_0000_0000,
+    0xC1E0_0000_001C_CCCD,
+    0xC1E0_0000_001F_FFFF,
+    0xC1E0_0000_0020_0000,
+    0xC1E0_0000_0020_0001,
+    // 2^31
+    0x41DF_FFFF_FFFF_FFFF,
+    0x41E0_0000_0000_0000,
+    // 2^32 - 1, 4294967295.9, 2^32
+    0x41EF_FFFF_FFE0_0000,
+    0x41EF_FFFF_FFFC_CCCD,
+    0x41EF_FFFF_FFFF_FFFF,
+    0x41F0_0000_0000_0000,
+    0x41F0_0000_0000_0001,
+    // -2^63
+    0xC3DF_FFFF_FFFF_FFFF,
+    0xC3E0_0000_0000_0000,
+    0xC3E0_0000_0000_0001,
+    // 2^63
+    0x43DF_FFFF_FFFF_FFFF,
+    0x43E0_0000_0000_0000,
+    // 2^64
+    0x43EF_FFFF_FFFF_FFFF,
+    0x43F0_0000_0000_0000,
+    0x43F0_0000_0000_0001,
+    0x7FF0_0000_0000_0000,
+    0xFFF0_0000_0000_0000,
+];
+
+const DOUBLES: [f64; 30] = [
     1.0,
     -1.0,
     2.0,
@@ -113,25 +147,11 @@ const DOUBLES: [f64; 44] = [
     -1e300,
     1e-300,
     2_147_483_647.0,
-    2_147_483_648.0,
-    -2_147_483_648.0,
-    -2_147_483_648.9,
-    -2_147_483_649.0,
     4_294_967_294.5,
-    4_294_967_295.0,
-    4_294_967_295.9,
-    4_294_967_296.0,
     9_007_199_254_740_991.0,
     9_007_199_254_740_992.0,
     9_007_199_254_740_994.0,
     -9_007_199_254_740_992.0,
-    9_223_372_036_854_774_784.0,
-    9_223_372_036_854_775_808.0,
-    -9_223_372_036_854_775_808.0,
-    -9_223_372_036_854_777_856.0,
-    18_446_744_073_709_549_568.0,
-    18_446_744_073_709_551_616.0,
-    18_446_744_073_709_555_712.0,
     1e19,
     -3.7,
     3.7,
@@ -155,7 +175,8 @@ fn double(rng: &mut Rng) -> u64 {
     match rng.below(10) {
         0 => rng.pick(&NANS),
         1 | 2 => rng.pick(&EDGES),
-        3..=7 => rng.pick(&DOUBLES).to_bits(),
+        3..=6 => rng.pick(&DOUBLES).to_bits(),
+        7 => rng.pick(&RANGE_EDGES),
         8 => {
             // a number near the integer types' ranges, with a fraction
             let exponent = 1023 + rng.range(0, 66) as u64;
@@ -163,6 +184,11 @@ fn double(rng: &mut Rng) -> u64 {
         }
         _ => rng.any(),
     }
+}
+
+/// The doubles that `toi` and `tol` must meet.
+pub fn range_edges() -> Vec<u64> {
+    [&RANGE_EDGES[..], &NANS].concat()
 }
 
 pub fn constant(rng: &mut Rng, ty: u8) -> Constant {

@@ -1,9 +1,9 @@
 //! Entries that compute on boundary constants and leave every result on the stack.
 
-use super::constants::constant;
+use super::constants::{constant, range_edges};
 use super::rng::Rng;
 use crate::opcode::{Edition, Op};
-use crate::program::{Instr, Program};
+use crate::program::{Constant, Instr, Program};
 use crate::types::{DOUBLE, INT, NUMBERS};
 
 const ON_ALL: [Op; 8] = [
@@ -38,30 +38,46 @@ pub fn program(rng: &mut Rng, edition: Edition) -> Program {
         through_a_local(rng, &mut program);
     }
     for _ in 0..rng.range(1, 10) {
-        let ty = rng.pick(&NUMBERS);
-        push(rng, &mut program, ty);
-        if rng.percent(35) {
-            let op = if ty != DOUBLE && rng.one_in(5) {
-                Op::Not
-            } else if edition == Edition::One && rng.one_in(3) {
-                rng.pick(&[Op::Inc, Op::Dec])
-            } else {
-                rng.pick(&UNARY)
-            };
-            emit(&mut program, op, 0);
-        } else if ty != DOUBLE && rng.one_in(12) {
-            lowest_by_minus_one(rng, &mut program, ty);
+        if rng.one_in(10) {
+            at_an_edge(rng, &mut program);
         } else {
-            push(rng, &mut program, ty);
-            let op = if ty == DOUBLE || rng.percent(45) {
-                rng.pick(&ON_ALL)
-            } else {
-                rng.pick(&ON_INTEGERS)
-            };
-            emit(&mut program, op, 0);
+            term(rng, &mut program);
         }
     }
     program
+}
+
+/// One operation on constants.
+fn term(rng: &mut Rng, program: &mut Program) {
+    let ty = rng.pick(&NUMBERS);
+    push(rng, program, ty);
+    if rng.percent(35) {
+        let op = if ty != DOUBLE && rng.one_in(5) {
+            Op::Not
+        } else if program.edition == Edition::One && rng.one_in(3) {
+            rng.pick(&[Op::Inc, Op::Dec])
+        } else {
+            rng.pick(&UNARY)
+        };
+        emit(program, op, 0);
+    } else if ty != DOUBLE && rng.one_in(12) {
+        lowest_by_minus_one(rng, program, ty);
+    } else {
+        push(rng, program, ty);
+        let op = if ty == DOUBLE || rng.percent(45) {
+            rng.pick(&ON_ALL)
+        } else {
+            rng.pick(&ON_INTEGERS)
+        };
+        emit(program, op, 0);
+    }
+}
+
+/// A conversion where its range ends.
+fn at_an_edge(rng: &mut Rng, program: &mut Program) {
+    let (ty, payload) = (u32::from(DOUBLE), rng.pick(&range_edges()));
+    push_constant(program, Constant { ty, payload });
+    emit(program, rng.pick(&[Op::Toi, Op::Tol]), 0);
 }
 
 /// The pair whose quotient is out of range, in place of the operand just pushed.
@@ -97,8 +113,12 @@ fn through_a_local(rng: &mut Rng, program: &mut Program) {
 }
 
 fn push(rng: &mut Rng, program: &mut Program, ty: u8) {
+    push_constant(program, constant(rng, ty));
+}
+
+fn push_constant(program: &mut Program, constant: Constant) {
     let operand = program.constants.len() as u32;
-    program.constants.push(constant(rng, ty));
+    program.constants.push(constant);
     emit(program, Op::Push, operand);
 }
 

@@ -118,10 +118,25 @@ fn operands(
     if rng.one_in(15) {
         return rng.pick(&CONDITIONS);
     }
+    if rng.one_in(15) {
+        return unconverted(rng, edition, locals, code);
+    }
     for _ in 0..rng.pick(&[0, 1, 1, 2, 2, 2, 2, 3]) {
         value(rng, edition, structures, locals, code);
     }
     rng.pick(&edition.ops())
+}
+
+/// A conversion after a bound local, which is no operand, or after null, which is no number:
+/// often with a payload that would be out of range.
+fn unconverted(rng: &mut Rng, edition: Edition, locals: usize, code: &mut Vec<(Op, u32)>) -> Op {
+    if edition.has_heap() && rng.one_in(2) {
+        code.push((Op::Null, 0));
+    } else {
+        let constant = (Op::Push, rng.below(8) as u32);
+        code.extend([constant, (Op::Store, locals as u32)]);
+    }
+    rng.pick(&[Op::Toi, Op::Tol])
 }
 
 /// One operand, now and then twice.

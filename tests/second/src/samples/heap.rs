@@ -22,7 +22,7 @@ const fn patched(
 }
 
 /// Recipes of edition 4.
-pub const HEAP: [Sample; 39] = [
+pub const HEAP: [Sample; 41] = [
     text(
         "heap-curve",
         "a pixel through a curve of eight numbers: 64 of 256 through 3x² - 2x³ is 40",
@@ -186,6 +186,22 @@ pub const HEAP: [Sample; 39] = [
         "heap-slot-deleted",
         "a pointer to a local is none that new gave: exception 33",
         "edition 4; int 1; entry: push 0; store 0; lea 0; delete",
+    ),
+    text(
+        "heap-too-large",
+        "a highlight that a curve lifts to 4294967296.0: toi is exception 44, the curve stays",
+        "edition 4; double 4294967296.0; structure double
+         entry:
+         new 10; store 0
+         load 0; flea 0; push 0; tstore
+         load 0; flea 0; tload; toi",
+    ),
+    text(
+        "heap-tol-nan",
+        "tol of a NaN in a function: exception 44 in edition 4 too",
+        "edition 4; double #7FF8000000000000
+         entry: push 0; call 0
+         function long (double): load 0; tol; ret",
     ),
     text(
         "heap-36",

@@ -62,7 +62,7 @@ const fn above(name: &'static str, shows: &'static str, other: &'static str) -> 
 }
 
 /// Modules of edition 3 before their twins of edition 4, and modules of edition 4 without one.
-pub const CONVERSIONS: [Sample; 16] = [
+pub const CONVERSIONS: [Sample; 18] = [
     text(
         "convert-sum-3",
         "a loop through two functions and three labels, edition 3",
@@ -116,6 +116,16 @@ pub const CONVERSIONS: [Sample; 16] = [
         "convert-compared-4",
         "the same in edition 4, where it is accepted",
         "convert-compared-3",
+    ),
+    text(
+        "convert-too-large-3",
+        "toi of 4294967296.0, edition 3: exception 44",
+        "double 4294967296.0; entry: push 0; toi",
+    ),
+    above(
+        "convert-too-large-4",
+        "the same in edition 4",
+        "convert-too-large-3",
     ),
     text(
         "convert-18-profile",

@@ -15,7 +15,7 @@ fn text(code: &str) -> String {
 }
 
 /// The operand types that code leaves.
-const LEAVES: [(&str, &[u8]); 46] = [
+const LEAVES: [(&str, &[u8]); 47] = [
     ("push 0", &[3]),
     ("push 1", &[4]),
     ("push 2", &[6]),
@@ -58,6 +58,7 @@ const LEAVES: [(&str, &[u8]); 46] = [
     ("push 2; push 2; icmp", &[3]),
     ("lea 1; load 3; icmp", &[3]),
     ("push 2; toi", &[3]),
+    ("push 2; tol", &[4]),
     ("push 0; tol", &[4]),
     ("push 1; tod", &[6]),
     ("push 0; toi; push 1; tol; push 2; tod", &[3, 4, 6]),
@@ -150,6 +151,22 @@ pub fn cases() -> Vec<Stated> {
     ));
     cases.push(sixteen("store 15", true));
     cases.push(sixteen("store 15; push 0; store 16", false));
+    cases.extend(out_of_range());
+    cases
+}
+
+/// "The typing rule ... gain[s] this": what a run would raise 44 for has its typing, in edition 1
+/// too, where it raises nothing.
+fn out_of_range() -> Vec<Stated> {
+    let mut cases = Vec::new();
+    for edition in ["edition 1;", "", "edition 4;"] {
+        for double in ["4294967296.0", "-1e300", "#7FF8000000000000"] {
+            for (op, ty) in [("toi", 3), ("tol", 4)] {
+                let text = format!("{edition} double {double}; entry: push 0; {op}; @0; neg");
+                cases.push(accepted(&text, &text, &[Some((&[], &[ty]))]));
+            }
+        }
+    }
     cases
 }
 

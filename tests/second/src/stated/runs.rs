@@ -1,7 +1,9 @@
 //! Runs on a lent heap with their answers stated: what document 02's A6 says of outcome, steps,
-//! stack, cells and table, with everything that was lent written out. `profiles` has what A7 says.
+//! stack, cells and table, with everything that was lent written out. `profiles` has what A7 says,
+//! `ranges` what A8 says.
 
 mod profiles;
+mod ranges;
 mod rows;
 
 use crate::asm;
@@ -139,6 +141,7 @@ pub fn all() -> Vec<StatedRun> {
     all.extend(capacities());
     all.extend(other_editions());
     all.extend(profiles::cases());
+    all.extend(ranges::cases());
     all
 }
 
