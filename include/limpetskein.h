@@ -112,8 +112,8 @@ enum {
     LIMPETSKEIN_NOT_IN_EDITION_3 = 18, /* a profile that is not 0, a structure, or a type byte or opcode that edition 3
                                           lacks */
 
-    /* Run only: it stopped. Of an accepted module only 0, 15, 20, 24 and 35, and in edition 4 also 33 and 36, come from
-       a run that started. */
+    /* Run only: it stopped. Of an accepted module only 0, 15, 20, 24 and 35, in editions 3 and 4 also 44, and in
+       edition 4 also 33 and 36, come from a run that started. */
     LIMPETSKEIN_ALLOWANCE_USED_UP = 15,
     LIMPETSKEIN_STACK_OVERFLOW = 20, /* no free slot, a 65th frame, or arguments that don't fit */
     LIMPETSKEIN_STACK_EMPTY = 21,
@@ -135,6 +135,8 @@ enum {
     LIMPETSKEIN_TYPE_OUTOFRANGE = 37,         /* new of a type that there is not */
     LIMPETSKEIN_FIELD_OUTOFRANGE = 38,        /* flea of a field that the structure does not have */
     LIMPETSKEIN_POINTER_NOTSTRUCTURE = 39,    /* flea of what is no structure */
+    LIMPETSKEIN_CONVERT_OUTOFRANGE = 44,      /* toi or tol of a double that is a NaN or out of range; not in
+                                                 edition 1, which gives the top bit alone */
     LIMPETSKEIN_POINTER_WHOLESTRUCTURE = 50,  /* tload, tstore, inc or dec of a whole structure */
 
     /* Formula only. */
@@ -161,7 +163,7 @@ enum {
 uint32_t limpetskein_check(const uint8_t *module, size_t module_len, uint8_t *room, size_t room_len, uint32_t *body);
 
 /*
- * Runs a body of a module, checked or not: 0 to 9, 12, 13, 15, 17, 20 to 39, 50.
+ * Runs a body of a module, checked or not: 0 to 9, 12, 13, 15, 17, 20 to 39, 44, 50.
  *
  *   function      its number, or LIMPETSKEIN_ENTRY.
  *   arg_types     a type byte for each argument, parameter 0 first.
@@ -175,21 +177,21 @@ uint32_t limpetskein_check(const uint8_t *module, size_t module_len, uint8_t *ro
  *   heap          8 bytes a cell. blocks: 24 bytes an entry. The heap's capacity is the smaller number of whole cells
  *                 and entries, at most LIMPETSKEIN_MOST_CELLS. Where none is lent, new gives null.
  *   *steps        the instructions counted; *height: the slots in use at the end. Both are written with 0, 15,
- *                 20 to 39 and 50 only.
+ *                 20 to 39, 44 and 50 only.
  *
  * The slots after the call:
- *   1 to 9, 12, 13, 17   unchanged.
- *   0, 15, 20 to 39, 50  slots 0 to the height, deepest first, as the run left them; from the height to the capacity
- *                        zero; payload and type bytes past the capacity unchanged. What the slots held before does
- *                        not matter: a run starts empty, or with its arguments.
+ *   1 to 9, 12, 13, 17       unchanged.
+ *   0, 15, 20 to 39, 44, 50  slots 0 to the height, deepest first, as the run left them; from the height to the
+ *                            capacity zero; payload and type bytes past the capacity unchanged. What the slots held
+ *                            before does not matter: a run starts empty, or with its arguments.
  *
  * The heap after the call:
- *   1 to 9, 12, 13, 17   unchanged.
- *   0, 15, 20 to 39, 50  the entries list the live blocks by serial (serial, first cell, type number, 8 bytes each) and
- *                        are zero after these; the cells of a live block hold its fields' payloads, an int's upper four
- *                        bytes zero, and all other cells are zero; what lies past the capacity is unchanged. So it is in
- *                        every edition. What the heap held before does not matter: a run starts without blocks, and what
- *                        it leaves is for the host to read. A later run frees it.
+ *   1 to 9, 12, 13, 17       unchanged.
+ *   0, 15, 20 to 39, 44, 50  the entries list the live blocks by serial (serial, first cell, type number, 8 bytes each)
+ *                            and are zero after these; the cells of a live block hold its fields' payloads, an int's
+ *                            upper four bytes zero, and all other cells are zero; what lies past the capacity is
+ *                            unchanged. So it is in every edition. What the heap held before does not matter: a run
+ *                            starts without blocks, and what it leaves is for the host to read. A later run frees it.
  *
  * A function that finished leaves the returned value alone in slot 0, height 1, or nothing, height 0.
  */
