@@ -22,6 +22,7 @@ pub mod Claims
 pub mod Saved
 pub mod Converting
 pub mod Converted
+pub mod Mapping
 pub mod Files
 pub mod Grammar
 pub mod Reading
@@ -36,6 +37,7 @@ pub mod Editions
 pub mod Heaps
 pub mod Writings
 pub mod Profiles
+pub mod Maps
 pub mod Formulas
 pub mod Typings
 pub mod Values
