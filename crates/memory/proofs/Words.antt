@@ -107,7 +107,7 @@ word-written-same n s at v h f =
       take-at (bytes n v) (drop (at + n) s) n (length-bytes n v),
     ) (number-bytes n v f)
 
-word-front : (n : ℕ) (p q : List ℕ) (j : ℕ) → j + n ≤ length p → word n (p ++ q) j ≡ word n p j
+pub word-front : (n : ℕ) (p q : List ℕ) (j : ℕ) → j + n ≤ length p → word n (p ++ q) j ≡ word n p j
 unfolding word
 word-front n p q j h =
     let g : n ≤ length (drop j p) = simp length-drop (omega arith) in

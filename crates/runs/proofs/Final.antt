@@ -114,14 +114,18 @@ pub stack-of : (o : Outcome) (p t p′ t′ : List ℕ) (y : LentHeap) (cap : �
 unfolding payloadsAfter typesAfter
 stack-of o p t p′ t′ y cap ec lp lt dp dt = rw (lp, lt, ← ec, dp, dt) refl
 
-pub heap-of : (o : Outcome) (x : Lent) (c b c′ b′ : List ℕ) → Emptied c b c′ b′ → ran o x (lentHeapOf c′ b′) ≡ ran o x (lentHeapOf c b)
+pub heap-past : (o : Outcome) (x : Lent) (c b c′ b′ : List ℕ) → length c′ ≡ length c → length b′ ≡ length b → drop (cellsIn c b * 8) c′ ≡ drop (cellsIn c b * 8) c
+    → drop (cellsIn c b * 24) b′ ≡ drop (cellsIn c b * 24) b → ran o x (lentHeapOf c′ b′) ≡ ran o x (lentHeapOf c b)
 unfolding cellsAfter tableAfter
-heap-of o x c b c′ b′ e =
+heap-past o x c b c′ b′ lc lb dc db =
     let n : ℕ = cellsIn c b in
     let u : 8 * n ≡ n * 8 = omega arith in
     let v : 24 * n ≡ n * 24 = omega arith in
-    let same : cellsIn c′ b′ ≡ n = rw (e .same-cells, e .same-table) refl in
-    rw same (rw (u, v, e .past-cells, e .past-table) refl)
+    let same : cellsIn c′ b′ ≡ n = rw (lc, lb) refl in
+    rw same (rw (u, v, dc, db) refl)
+
+pub heap-of : (o : Outcome) (x : Lent) (c b c′ b′ : List ℕ) → Emptied c b c′ b′ → ran o x (lentHeapOf c′ b′) ≡ ran o x (lentHeapOf c b)
+heap-of o x c b c′ b′ e = heap-past o x c b c′ b′ (e .same-cells) (e .same-table) (e .past-cells) (e .past-table)
 
 -- ---- clearing
 

@@ -117,8 +117,8 @@ module _ (s : List ℕ) (f : ℕ) (a b p t c h : List ℕ) where
         )
 
         -- p₁ and t₁ have the arguments; r and w′ are the first frame
-        module _ (p₁ t₁ w w′ : List ℕ) (r : Registers) (copied : Copied a b p t (g .params) p₁ t₁) (words : length w ≡ 96)
-            (er : r ≡ firstAt (g .start) (g .end) (g .params)) (ew : w′ ≡ openedIn w 0 (g .body) 0 (g .params)) where
+        module _ (p₁ t₁ w w′ : List ℕ) (r : Registers) (copied : Copied a b p t (g .params) p₁ t₁) (most : ℕ) (words : length w ≡ most) (one-frame : 24 ≤ most)
+            (frames : most ≤ 1536) (er : r ≡ firstAt (g .start) (g .end) (g .params)) (ew : w′ ≡ openedIn w 0 (g .body) 0 (g .params)) where
           ready : Ready cap r p₁ t₁ w′
           ready =
               rw (er, ew)
@@ -149,14 +149,18 @@ module _ (s : List ℕ) (f : ℕ) (a b p t c h : List ℕ) where
           pub same-slots : cap ≡ slotsIn p₁ t₁
           same-slots = rw (copied .same-payloads, copied .same-types) ec
 
+          -- the run that the rules give, over n cells, is that from here
+          pub starts-as : (allowance n : ℕ) → outcomeOf (read s) (bodyOf f) held allowance cap n ≡ run (read s) cap allowance 0 (withHeap (emptyHeap n) (stateOf r p₁ t₁ w′))
+          unfolding outcomeOf
+          starts-as allowance n = rw (le-leb (length held) cap few-held) (ap (run (read s) cap allowance 0) (sym (start-is n)))
+
           pub run-over : (scan n : ℕ) → refusal s ≡ 0 → (o : Bool) → o ≡ otherProfile (madeFor (read s) (bodyOf f)) scan → o ≡ false → (c₁ h₁ : List ℕ) → Emptied c h c₁ h₁ → (p′ t′ c′ h′ : List ℕ) (x : RunAnswer)
               → LeavesAs (run (read s) cap n 0 (withHeap (emptyHeap (cellsIn c₁ h₁)) (stateOf r p₁ t₁ w′))) p₁ t₁ c₁ h₁ p′ t′ c′ h′ x
               → RunIs s f a b scan n p t c h p′ t′ c′ h′ x
-          unfolding outcomeOf
           run-over scan n readable ok eo q c₁ h₁ clear p′ t′ c′ h′ x left =
               let o : Outcome = run (read s) cap n 0 (withHeap (emptyHeap (cellsIn c₁ h₁)) (stateOf r p₁ t₁ w′)) in
               let came : outcomeOf (read s) (bodyOf f) held n cap (cellsIn c h) ≡ o =
-              rw (le-leb (length held) cap few-held) (ap (run (read s) cap n 0) (sym (start-is (cellsIn c h)) ∙ ap (λ (i : ℕ). withHeap (emptyHeap i) (stateOf r p₁ t₁ w′)) (sym (same-cells c₁ h₁ clear)))) in
+              starts-as n (cellsIn c h) ∙ ap (λ (i : ℕ). run (read s) cap n 0 (withHeap (emptyHeap i) (stateOf r p₁ t₁ w′))) (sym (same-cells c₁ h₁ clear)) in
               left
               ∙ heap-of o (lentOf p₁ t₁) c h c₁ h₁ clear
               ∙ stack-of o p t p₁ t₁ (lentHeapOf c h) cap ec (copied .same-payloads) (copied .same-types) (copied .rest-payloads cap enough) (copied .rest-types cap enough)

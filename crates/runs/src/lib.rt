@@ -44,7 +44,7 @@ fn least(a: usize, b: usize) -> usize
 }
 
 // The smaller number of whole slots, at most 4,096.
-fn capacity(p: &[u8], t: &[u8]) -> usize
+pub fn capacity(p: &[u8], t: &[u8]) -> usize
     ensures { λ r. ⌜ r ≡ slotsIn (now (p .entry)) (now (t .entry)) ⌝ }
 {
     let whole = least(p.len() / 8, t.len());
@@ -52,7 +52,7 @@ fn capacity(p: &[u8], t: &[u8]) -> usize
 }
 
 // The smaller number of whole cells and entries, at most 4,096.
-fn heap_capacity(cells: &[u8], table: &[u8]) -> usize
+pub fn heap_capacity(cells: &[u8], table: &[u8]) -> usize
     ensures { λ r. ⌜ r ≡ cellsIn (now (cells .entry)) (now (table .entry)) ⌝ }
 {
     let whole = least(cells.len() / 8, table.len() / 24);
@@ -78,7 +78,7 @@ fn clear_part(s: &mut [u8], a: usize, e: usize)
 }
 
 // Ends a run: clears the slots from the height to the capacity, and answers.
-fn close(
+pub fn close(
     number: u32,
     steps: u64,
     height: usize,
@@ -102,7 +102,7 @@ fn close(
 }
 
 // Clears the lent heap, up to its capacity.
-fn clear_heap(cells: &mut [u8], table: &mut [u8])
+pub fn clear_heap(cells: &mut [u8], table: &mut [u8])
     ensures { λ r. ⌜ Emptied (now (cells .entry)) (now (table .entry)) (now (cells .exit)) (now (table .exit)) ⌝ }
 {
     let size = heap_capacity(cells, table);
@@ -152,7 +152,7 @@ fn admits(file: &[u8], c: Sections, k: usize, n: usize, args: &[u8], kinds: &[u8
 }
 
 // Puts n arguments into the first slots.
-fn copy_arguments(args: &[u8], kinds: &[u8], n: usize, p: &mut [u8], t: &mut [u8])
+pub fn copy_arguments(args: &[u8], kinds: &[u8], n: usize, p: &mut [u8], t: &mut [u8])
     requires { ⌜ (n * 8 ≤ length (now args)) × (n ≤ length (now kinds)) × (n * 8 ≤ length (now p)) × (n ≤ length (now t)) ⌝ }
     ensures { λ r. ⌜ Copied (now (args .entry)) (now (kinds .entry)) (now (p .entry)) (now (t .entry)) n (now (p .exit)) (now (t .exit)) ⌝ }
 {
@@ -206,7 +206,7 @@ fn find(file: &[u8], c: Sections, function: u32) -> FoundBody
 }
 
 // Whether a body is made for another profile than the scan's. Only functions of edition 4 name one, in their last word.
-fn other_profile(file: &[u8], c: Sections, function: u32, profile: u32) -> bool
+pub fn other_profile(file: &[u8], c: Sections, function: u32, profile: u32) -> bool
     requires { ⌜ Packed (now file) c × (refusal (now file) ≡ 0) × Named (now file) function ⌝ }
     ensures { λ r. ⌜ r ≡ Answers.otherProfile (Answers.madeFor (read (now (file .entry))) (bodyOf function)) profile ⌝ }
 {
@@ -254,7 +254,7 @@ fn copy_words(from: &[u16], to: &mut [u16])
 
 // The rest of a run over the heap, which has no blocks yet: the machine as far as it goes without the heap, then the instruction
 // that it left, and on.
-fn run_over(
+pub fn run_over(
     file: &[u8],
     c: Sections,
     cap: usize,
