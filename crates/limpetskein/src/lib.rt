@@ -1,5 +1,5 @@
-// The public library: the check of any bytes, the run of any body of any bytes, the writer of modules, the conversions between
-// editions 3 and 4, and the compiler of formula lines.
+// The public library: the check of any bytes, the run of any body of any bytes, the call of a function for rows, the writer of modules,
+// the conversions between editions 3 and 4, and the compiler of formula lines.
 ghost use Rattle.rules.specs.Tables.{tables};
 ghost use Rattle.limpetskein.specs.Promises.{lentOf, lentHeapOf, CheckKeeps, RunKeeps};
 ghost use Rattle.rules.specs.Grammar.{StopsAt};
@@ -11,6 +11,8 @@ use rules::RunAnswer;
 use rules::WriteAnswer;
 
 mod host;
+mod host_map;
+mod map;
 
 // The check of any bytes in the lent room, of which 64 bytes a label are used.
 pub fn check(file: &[u8], room: &mut [u8]) -> CheckAnswer

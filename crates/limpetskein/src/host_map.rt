@@ -1,0 +1,36 @@
+// A row of pixels in one call, for C.
+ghost use Rattle.limpetskein.specs.Promises.{lentOf, lentHeapOf};
+ghost use Rattle.limpetskein.specs.MapPromises.{MapKeeps};
+
+// `map` for C. The rows are written with every answer: 13 can come before any row and at a row.
+#[no_mangle]
+pub extern "C" fn limpetskein_map(
+    file: &[u8],
+    function: u32,
+    profile: u32,
+    arg_payloads: &[u8],
+    out: &mut [u8],
+    allowance: u64,
+    payloads: &mut [u8],
+    types: &mut [u8],
+    heap: &mut [u8],
+    blocks: &mut [u8],
+    rows: &mut u64,
+) -> u32
+    ensures { λ r. ⌜ MapKeeps (now (file .entry)) function profile (now («arg_payloads» .entry)) (now (out .entry)) allowance (lentOf (now (payloads .entry)) (now (types .entry))) (lentHeapOf (now (heap .entry)) (now (blocks .entry))) r (now (rows .exit)) (now (out .exit)) (lentOf (now (payloads .exit)) (now (types .exit))) (lentHeapOf (now (heap .exit)) (now (blocks .exit))) ⌝ }
+{
+    let answer = crate::map::map(
+        file,
+        function,
+        profile,
+        arg_payloads,
+        out,
+        allowance,
+        payloads,
+        types,
+        heap,
+        blocks,
+    );
+    *rows = answer.rows;
+    answer.number
+}
