@@ -3,6 +3,7 @@
 //
 //     bench MODULES [ROUNDS]           times, the smallest of so many rounds
 //     bench MODULES --count            machine instructions by callgrind; 1 if a ratio is over its limit
+//     bench MODULES --checksums        the C's values of each row of pixels, for a program that computes them too
 //     bench MODULES --turn ROW SIDE    what is counted: a turn of one side
 #include <stdio.h>
 #include <stdlib.h>
@@ -18,7 +19,7 @@ enum { SEED = 12345, ROUNDS = 30 };
 
 enum { LIBRARY, BASELINE, SIDES };
 
-static const Side baseline = SIDE(baseline);
+static const Side baseline = SIDE(baseline, NULL);
 static const Side *const sides[SIDES] = {[LIBRARY] = &library, [BASELINE] = &baseline};
 
 static File files[ROWS];
@@ -27,10 +28,12 @@ static Lent lent[SIDES];
 // How many calls are compared and counted: a recipe's depend on its arguments.
 static uint32_t counted_calls(int i) { return rows[i].kind == RECIPE ? 1000 : 1; }
 
-// What a turn's figures are divided by: pairs, steps or calls.
+// What a turn's figures are divided by: pairs, pixels, steps or calls.
 static double units(int i, int s, uint32_t calls) {
     if (rows[i].pairs)
         return (double)calls * rows[i].pairs;
+    if (rows[i].kind == MAP)
+        return (double)calls * PIXELS;
     return rows[i].kind == RUN || rows[i].kind == HEAP ? (double)lent[s].all_steps : calls;
 }
 
@@ -204,6 +207,17 @@ static double counted(const char *program, const char *directory, int i, int s) 
     return (double)count / units(i, s, counted_calls(i));
 }
 
+// ---- for other programs
+
+// A line for each row of pixels: its module's name and the checksum.
+static void print_checksums(void) {
+    for (int i = 0; i < ROWS; i++)
+        if (rows[i].kind == MAP) {
+            turn(sides[BASELINE], &rows[i], &files[i], 1, whole, SEED, &lent[BASELINE]);
+            printf("%s %u\n", rows[i].module, checksum(&lent[BASELINE]));
+        }
+}
+
 // ---- the table
 
 // Of a row that is the one before it again: the ratios to that, of the library and of the C; 1 if the library's is over
@@ -256,14 +270,18 @@ int main(int argc, char **argv) {
     static double figures[ROWS][SIDES];
     const char *what = argc > 2 ? argv[2] : "";
     int rounds = *what ? atoi(what) : ROUNDS;
-    if (argc < 2 || (rounds < 1 && strcmp(what, "--count") && strcmp(what, "--turn"))) {
-        fprintf(stderr, "usage: bench MODULES [ROUNDS | --count]\n");
+    if (argc < 2 || (rounds < 1 && strcmp(what, "--count") && strcmp(what, "--checksums") && strcmp(what, "--turn"))) {
+        fprintf(stderr, "usage: bench MODULES [ROUNDS | --count | --checksums]\n");
         return 2;
     }
     for (int i = 0; i < ROWS; i++)
         load(argv[1], &rows[i], &files[i]);
     if (argc == 5 && !strcmp(what, "--turn")) {
         counted_turn(atoi(argv[3]), atoi(argv[4]));
+        return 0;
+    }
+    if (!strcmp(what, "--checksums")) {
+        print_checksums();
         return 0;
     }
     if (!compare_all())

@@ -5,7 +5,7 @@
 #include <string.h>
 #include <time.h>
 
-const Side library = SIDE(limpetskein);
+const Side library = SIDE(limpetskein, limpetskein_map);
 
 static void load_module(const char *directory, const char *name, File *module) {
     char path[1000];
@@ -31,6 +31,8 @@ const char *called(const Side *side, const Row *row) {
         return side->formula_name;
     if (converts(row))
         return row->kind == UP ? side->up_name : side->down_name;
+    if (row->kind == MAP && side->map != NULL)
+        return side->map_name;
     return row->kind == CHECK ? side->check_name : row->kind == WRITE ? side->write_name : side->run_name;
 }
 
@@ -47,13 +49,85 @@ static void run(const Side *side, const Row *row, const File *module, uint32_t f
     lent->all_steps += lent->steps;
 }
 
-// Function 0 of three ints: a pixel's channels.
+// A pixel's channels, three ints: the arguments of a recipe's function 0.
+enum { CHANNELS = 3, PIXEL = 8 * CHANNELS };
+
+static uint32_t next(uint32_t random) { return random * 1664525u + 1013904223u; }
+
+static void put_pixel(uint8_t *pixel, uint32_t random) {
+    memset(pixel, 0, PIXEL);
+    for (int i = 0; i < CHANNELS; i++)
+        pixel[8 * i] = random >> (24 - 8 * i);
+}
+
+static void run_pixel(const Side *side, const Row *row, const File *module, const uint8_t *pixel, uint64_t allowance,
+                      Lent *lent) {
+    static const uint8_t types[CHANNELS] = {LIMPETSKEIN_INT, LIMPETSKEIN_INT, LIMPETSKEIN_INT};
+    run(side, row, module, 0, types, pixel, CHANNELS, allowance, lent);
+}
+
 static void run_recipe(const Side *side, const Row *row, const File *module, uint64_t allowance, uint32_t random,
                        Lent *lent) {
-    static const uint8_t types[3] = {LIMPETSKEIN_INT, LIMPETSKEIN_INT, LIMPETSKEIN_INT};
-    uint8_t channels[24] = {[0] = random >> 24, [8] = random >> 16, [16] = random >> 8};
-    run(side, row, module, 0, types, channels, 3, allowance, lent);
+    uint8_t pixel[PIXEL];
+    put_pixel(pixel, random);
+    run_pixel(side, row, module, pixel, allowance, lent);
     lent->all_values += lent->payloads[GUARD] | lent->payloads[GUARD + 1] << 8;
+}
+
+// The row's pixels, made once a seed: making them is no part of what is measured.
+static const uint8_t *pixels(uint32_t seed) {
+    static uint8_t made[PIXELS * PIXEL];
+    static uint32_t made_of;
+    static int is_made;
+    if (is_made && made_of == seed)
+        return made;
+    is_made = 1;
+    made_of = seed;
+    for (int i = 0; i < PIXELS; i++) {
+        seed = next(seed);
+        put_pixel(made + i * PIXEL, seed);
+    }
+    return made;
+}
+
+// The values go where a module is written.
+_Static_assert(8 * PIXELS <= LIMPETSKEIN_LONGEST_MODULE, "the output holds a row's values");
+
+// The whole row in one call, on the row's slots and cells.
+static void map(const Side *side, const Row *row, const File *module, const uint8_t *from, uint64_t allowance,
+                Lent *lent) {
+    lent->answers |= side->map(module->file, module->length, 0, 0, from, PIXELS * PIXEL, lent->out + GUARD, 8 * PIXELS,
+                               allowance, lent->payloads + GUARD, 8 * row->slots, lent->types + GUARD, row->slots,
+                               row->cells ? lent->heap + GUARD : NULL, LIMPETSKEIN_CELL * row->cells,
+                               row->cells ? lent->blocks + GUARD : NULL, LIMPETSKEIN_BLOCK * row->cells, &lent->done);
+}
+
+// The same by a run for each pixel, as a host without a map calls it: up to the first that does not finish.
+static void run_pixels(const Side *side, const Row *row, const File *module, const uint8_t *from, uint64_t allowance,
+                       Lent *lent) {
+    for (lent->done = 0; lent->done < PIXELS; lent->done++) {
+        run_pixel(side, row, module, from + lent->done * PIXEL, allowance, lent);
+        if (lent->answers != LIMPETSKEIN_DONE)
+            break;
+        memcpy(lent->out + GUARD + 8 * lent->done, lent->payloads + GUARD, 8);
+    }
+}
+
+static void map_row(const Side *side, const Row *row, const File *module, uint32_t seed, uint64_t allowance,
+                    Lent *lent) {
+    (side->map != NULL ? map : run_pixels)(side, row, module, pixels(seed), allowance, lent);
+    // a map tells none of these
+    lent->steps = lent->height = lent->all_steps = 0;
+}
+
+uint32_t checksum(const Lent *lent) {
+    uint32_t sum = 0;
+    for (int i = 0; i < PIXELS; i++) {
+        uint32_t value;
+        memcpy(&value, lent->out + GUARD + 8 * i, sizeof value);
+        sum = 31 * sum + value;
+    }
+    return sum;
 }
 
 // A run of a function that does not exist: 12, after the whole module was read.
@@ -98,8 +172,11 @@ void turn(const Side *side, const Row *row, const File *file, uint32_t calls, ui
             run(side, row, file, LIMPETSKEIN_ENTRY, NULL, NULL, 0, allowance, lent);
             break;
         case RECIPE:
-            seed = seed * 1664525u + 1013904223u;
+            seed = next(seed);
             run_recipe(side, row, file, allowance, seed, lent);
+            break;
+        case MAP:
+            map_row(side, row, file, seed, allowance, lent);
             break;
         case CHECK:
             lent->answers |= side->check(file->file, file->length, lent->room + GUARD, ROOM, &lent->body);

@@ -4,7 +4,7 @@
 
 #include <stdint.h>
 
-typedef enum { RUN, RECIPE, HEAP, CHECK, OPENING, WRITE, UP, DOWN, FORMULA, REFUSED, KINDS } Kind;
+typedef enum { RUN, RECIPE, MAP, HEAP, CHECK, OPENING, WRITE, UP, DOWN, FORMULA, REFUSED, KINDS } Kind;
 
 // What the rows of a kind have in common. limit: the most machine instructions, as a ratio to C. again_limit: the most
 // of a row that is the one before it again, as a ratio to that row; 0 where this has no limit.
@@ -26,7 +26,10 @@ typedef struct {
     uint32_t cells, pairs;
 } Row;
 
-enum { ROWS = 51 };
+enum { ROWS = 57 };
+
+// The pixels of a row that is mapped.
+enum { PIXELS = 4096 };
 
 extern const Group groups[KINDS];
 extern const Row rows[ROWS];

@@ -1,7 +1,8 @@
 #!/bin/sh
-# Measures the library against the C of baseline, through the same six calls, and compares all that comes out.
+# Measures the library against the C of baseline, through the same six calls, the library's map of a row of pixels
+# against the C's run of each, and compares all that comes out.
 #
-#     run.sh [--library ARCHIVE] [ROUNDS]     times and ratios
+#     run.sh [--library ARCHIVE] [ROUNDS]     times and ratios; rows of pixels in Lua too, where it is installed
 #     run.sh [--library ARCHIVE] --count      machine instructions; fails where a ratio is over its limit
 set -eu
 root=$(cd "$(dirname "$0")/../.." && pwd)
@@ -30,4 +31,21 @@ fi
 # -z now: no call is counted that looks a function up
 cc -O2 -Wall -Wextra -Werror -I"$root/include" -Wl,-z,now -o "$made/bench" \
     "$bench"/bench.c "$bench"/calls.c "$bench"/rows.c "$bench"/lines.c "$made/libbaseline.a" "$library"
-exec "$made/bench" "$made/modules" "$@"
+"$made/bench" "$made/modules" "$@"
+if [ "${1:-}" = --count ]; then exit; fi
+
+# in_lua RECIPES COMMAND..: rows of pixels by this command, with its values compared.
+in_lua() {
+    recipes=$bench/lua/$1.lua
+    shift
+    if command -v "$1" >/dev/null; then
+        "$@" "$bench/lua/rows.lua" "$*" "$recipes" "$rounds" <"$made/checksums.txt"
+    else
+        echo "$1 is not installed: its rows of pixels are left out"
+    fi
+}
+rounds=${1:-30}
+"$made/bench" "$made/modules" --checksums >"$made/checksums.txt"
+in_lua integers lua5.4
+# an interpreter beside an interpreter: without machine code made on the way
+in_lua doubles luajit -joff

@@ -1,5 +1,6 @@
 // The C that the library's speed is measured against: the same six calls, the same refusals and the same lent bytes,
-// written to be fast. Nothing is proved of it; tests/run compares it with the second program.
+// written to be fast. The library's seventh, a map, is measured against a run for each pixel. Nothing is proved of it;
+// tests/run compares it with the second program.
 #ifndef BASELINE_H
 #define BASELINE_H
 

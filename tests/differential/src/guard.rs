@@ -16,6 +16,7 @@ pub enum Call {
     Write,
     Formula,
     Convert,
+    Map,
 }
 
 /// Before the first case: calls on slices of over 2^32 bytes.
@@ -76,6 +77,7 @@ fn report(what: &str) {
         Some(Call::Write) => ("write", "tables", "--write"),
         Some(Call::Formula) => ("formula", "line", "--formula"),
         Some(Call::Convert) => ("conversion", "module", "--conversion"),
+        Some(Call::Map) => ("map", "rows", "--rows"),
         Some(Call::Run) => ("run", "module", "--case"),
         _ => ("check", "module", "--case"),
     };

@@ -1,7 +1,7 @@
 //! The library under test, through its C interface.
 
 use second::memory::{
-    CheckMemory, ConvertMemory, FormulaMemory, Lent, RunMemory, Start, WriteMemory,
+    CheckMemory, ConvertMemory, FormulaMemory, Lent, MapMemory, RunMemory, Start, WriteMemory,
 };
 use second::opcode::Edition;
 use second::reader::ENTRY;
@@ -78,6 +78,28 @@ extern "C" {
         out: *mut u8,
         out_len: usize,
         written: *mut u64,
+    ) -> u32;
+
+    #[cfg(not(without_rows))]
+    pub fn limpetskein_map(
+        module: *const u8,
+        module_len: usize,
+        function: u32,
+        profile: u32,
+        arg_payloads: *const u8,
+        arg_payloads_len: usize,
+        out: *mut u8,
+        out_len: usize,
+        allowance: u64,
+        payloads: *mut u8,
+        payloads_len: usize,
+        types: *mut u8,
+        types_len: usize,
+        heap: *mut u8,
+        heap_len: usize,
+        blocks: *mut u8,
+        blocks_len: usize,
+        rows: *mut u64,
     ) -> u32;
 }
 
@@ -191,6 +213,45 @@ impl Subject for Library {
         let out = self.pointer(&mut memory.out);
         // SAFETY: pointers and lengths are those of separate live buffers.
         unsafe { conversion(to)(module, module_len, out, out_len, &raw mut memory.written) }
+    }
+
+    #[cfg(without_rows)]
+    fn map(&mut self, _: Start, _: &mut MapMemory) -> u32 {
+        unreachable!("rows are left out")
+    }
+
+    #[cfg(not(without_rows))]
+    fn map(&mut self, start: Start, memory: &mut MapMemory) -> u32 {
+        let module = self.pointer(&mut memory.module);
+        let arg_payloads = self.pointer(&mut memory.arg_payloads);
+        let out = self.pointer(&mut memory.out);
+        let payloads = self.pointer(&mut memory.payloads);
+        let types = self.pointer(&mut memory.types);
+        let heap = self.pointer(&mut memory.heap);
+        let blocks = self.pointer(&mut memory.blocks);
+        // SAFETY: pointers and lengths are those of separate live buffers.
+        unsafe {
+            limpetskein_map(
+                module,
+                memory.module.len(),
+                start.function,
+                start.profile,
+                arg_payloads,
+                memory.arg_payloads.len(),
+                out,
+                memory.out.len(),
+                start.allowance,
+                payloads,
+                memory.payloads.len(),
+                types,
+                memory.types.len(),
+                heap,
+                memory.heap.len(),
+                blocks,
+                memory.blocks.len(),
+                &raw mut memory.rows,
+            )
+        }
     }
 }
 

@@ -3,9 +3,9 @@
 //! of runs. With `--checks`, only checks are compared, first with what is stated of them, then on
 //! generated cases; with `--writes`, writes in the same way; with `--formulas`, formula lines, and
 //! the check and the runs of what they are written as; with `--conversions`, conversions between
-//! editions 3 and 4, the way back, and the runs of what they give.
+//! editions 3 and 4, the way back, and the runs of what they give; with `--rows`, calls on rows.
 //!
-//! `differential [--checks | --writes | --formulas | --conversions] [--edition N] [--seed N]
+//! `differential [--checks | --writes | --formulas | --conversions | --rows] [--edition N] [--seed N]
 //! [--seconds N | --cases N] [--from N] [--most N]`
 
 mod checks;
@@ -15,6 +15,8 @@ mod guard;
 mod huge;
 mod library;
 mod rounds;
+#[cfg(not(without_rows))]
+mod rows;
 mod runs;
 mod writes;
 
@@ -25,6 +27,8 @@ use second::compare::compare;
 use second::gen::case::Case;
 use second::gen::conversions::ConvertCase;
 use second::gen::lines::LineCase;
+#[cfg(not(without_rows))]
+use second::gen::rows::MapCase;
 use second::gen::tables::WriteCase;
 use second::hex;
 use second::rules::Rules;
@@ -40,6 +44,9 @@ fn main() {
     }
     if args::has("--conversions") {
         return compare_conversions();
+    }
+    if args::has("--rows") {
+        return compare_rows();
     }
     let check = huge::differs("check", |module, len| {
         let mut body = 0;
@@ -105,6 +112,25 @@ fn compare_conversions() {
         edition: |case: &ConvertCase| edition_of(&case.module),
     };
     rounds::run(&conversions, before);
+}
+
+#[cfg(not(without_rows))]
+fn compare_rows() {
+    let before = rows::huge_differ() + rows::not_as_stated();
+    let rows = Comparison {
+        subject: "library's rows",
+        make: MapCase::new,
+        compare: rows::differs,
+        describe: |case: &MapCase| (case.kind, case.describe()),
+        edition: |case: &MapCase| edition_of(&case.module),
+    };
+    rounds::run(&rows, before);
+}
+
+#[cfg(without_rows)]
+fn compare_rows() {
+    eprintln!("linked with an archive that has no call on rows");
+    std::process::exit(2);
 }
 
 fn describe(case: &Case) -> (&'static str, String) {

@@ -33,6 +33,7 @@ pub fn start() {
         "--writes",
         "--formulas",
         "--conversions",
+        "--rows",
         "--edition",
         "--seed",
         "--cases",
@@ -46,6 +47,8 @@ pub fn start() {
         Call::Formula
     } else if args::has("--conversions") {
         Call::Convert
+    } else if args::has("--rows") {
+        Call::Map
     } else if args::has("--checks") {
         Call::Check
     } else {

@@ -3,9 +3,12 @@
 use crate::gen::case::{Case, RunCall};
 use crate::gen::conversions::ConvertCase;
 use crate::gen::lines::LineCase;
+use crate::gen::rows::MapCase;
 use crate::gen::tables::WriteCase;
 use crate::hex;
-use crate::memory::{CheckMemory, ConvertMemory, FormulaMemory, Lent, RunMemory, WriteMemory};
+use crate::memory::{
+    CheckMemory, ConvertMemory, FormulaMemory, Lent, MapMemory, RunMemory, WriteMemory,
+};
 use crate::subject::Subject;
 
 /// What differs, in words; nothing if the two agree on the check and on every run.
@@ -121,6 +124,22 @@ pub fn compare_conversions(
     case.otherwise(&memory_a.out.slice()[..memory_a.written as usize], b)
 }
 
+/// What differs in a call on rows.
+pub fn compare_maps(case: &MapCase, a: &mut dyn Subject, b: &mut dyn Subject) -> Option<String> {
+    let mut memory_a = case.memory();
+    let mut memory_b = memory_a.clone();
+    let answer_a = a.map(case.start(), &mut memory_a);
+    let answer_b = b.map(case.start(), &mut memory_b);
+    if answer_a == answer_b && memory_a == memory_b {
+        return None;
+    }
+    Some(format!(
+        "rows of {} output bytes: answers {answer_a} and {answer_b}{}",
+        case.out.len(),
+        map_difference(&memory_a, &memory_b)
+    ))
+}
+
 /// A run's numbers and arguments, enough to repeat it by hand.
 pub fn describe(run: &RunCall) -> String {
     format!(
@@ -202,6 +221,21 @@ pub fn conversion_difference(a: &ConvertMemory, b: &ConvertMemory) -> String {
     }
     text += &slice_difference("module", &a.module, &b.module);
     text + &slice_difference("output", &a.out, &b.out)
+}
+
+/// How what was lent to two calls on rows differs, in words.
+pub fn map_difference(a: &MapMemory, b: &MapMemory) -> String {
+    let mut text = String::new();
+    if a.rows != b.rows {
+        text += &format!("; rows {} and {}", a.rows, b.rows);
+    }
+    text += &slice_difference("module", &a.module, &b.module);
+    text += &slice_difference("argument payloads", &a.arg_payloads, &b.arg_payloads);
+    text += &slice_difference("output", &a.out, &b.out);
+    text += &slice_difference("payloads", &a.payloads, &b.payloads);
+    text += &slice_difference("types", &a.types, &b.types);
+    text += &slice_difference("heap", &a.heap, &b.heap);
+    text + &slice_difference("blocks", &a.blocks, &b.blocks)
 }
 
 fn slice_difference(name: &str, a: &Lent, b: &Lent) -> String {

@@ -8,12 +8,14 @@ use crate::formula::split;
 use crate::gen::case::{Case, RunCall};
 use crate::gen::conversions::ConvertCase;
 use crate::gen::lines::LineCase;
+use crate::gen::rows::MapCase;
 use crate::gen::tables::WriteCase;
 use crate::heap::{address, Address, Part};
 use crate::machine::{Machine, Slot, Watch};
 use crate::opcode::{Edition, Op};
 use crate::possible::IN_A_CELL;
 use crate::profile_edges::{self, is_an_outcome};
+use crate::row_edges;
 use crate::rules::Rules;
 use crate::subject::{checked_number, Second, Subject};
 use crate::types::{DOUBLE, POINTER, STRUCTURE};
@@ -30,6 +32,10 @@ pub struct Coverage {
     pub writes: Counts<(Edition, u32)>,
     /// By the edition that was asked for, and the module's.
     pub conversions: Counts<(Edition, Edition, u32)>,
+    pub maps: Counts<(Edition, u32)>,
+    /// Where the row is that ended a call with this number.
+    pub row_places: Counts<(Edition, u32, &'static str)>,
+    pub row_edges: Counts<(Edition, &'static str)>,
     pub formulas: Counts<u32>,
     pub line_edges: Counts<&'static str>,
     /// Lines by generator: all, and accepted ones.
@@ -114,6 +120,19 @@ impl Coverage {
         self.unlike += u64::from(otherwise.is_some());
         for edge in profile_edges::of_conversion(case, answer) {
             count(&mut self.conversion_edges, edge);
+        }
+    }
+
+    pub fn add_map(&mut self, case: &MapCase) {
+        let mut memory = case.memory();
+        let answer = Second(Rules::PLAIN).map(case.start(), &mut memory);
+        let edition = edition_of(&case.module);
+        count(&mut self.maps, (edition, answer));
+        if let Some(place) = row_edges::place(case, answer, memory.rows) {
+            count(&mut self.row_places, (edition, answer, place));
+        }
+        for edge in row_edges::of_map(case, answer, &memory) {
+            count(&mut self.row_edges, (edition, edge));
         }
     }
 

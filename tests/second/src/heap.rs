@@ -1,8 +1,10 @@
 //! The heap, document 02's A6: "a lent heap of 8-byte cells, holding payloads as slots do, with a
 //! lent table of 24-byte block entries (serial, first cell, type, 8 bytes each, little endian)".
 
+use crate::reader::Module;
 use crate::rules::{Fault, Rules};
-use crate::types::STRUCTURE;
+use crate::types::{is_number, STRUCTURE};
+use crate::words::payload;
 
 /// Bytes of a cell, and of a block entry.
 pub const CELL: usize = 8;
@@ -18,6 +20,16 @@ pub const LAST_SERIAL: u64 = (1 << 48) - 2;
 pub struct LentHeap<'a> {
     pub cells: &'a mut [u8],
     pub blocks: &'a mut [u8],
+}
+
+impl LentHeap<'_> {
+    /// The same heap, for one run of several.
+    pub fn again(&mut self) -> LentHeap<'_> {
+        LentHeap {
+            cells: self.cells,
+            blocks: self.blocks,
+        }
+    }
 }
 
 /// What a pointer's payload says.
@@ -88,6 +100,46 @@ pub struct Heap {
 }
 
 impl Heap {
+    /// The heap of a run on what is lent.
+    pub fn at_start(rules: Rules, module: Module<'_>, lent: &LentHeap<'_>) -> Heap {
+        let mut heap = Heap::new(rules, capacity(rules, lent));
+        if rules.wrong(Fault::HeapKept) {
+            heap.keep(module, lent);
+        }
+        heap
+    }
+
+    /// Wrong on purpose: the blocks that the lent table lists, as far as they can be blocks.
+    fn keep(&mut self, module: Module<'_>, lent: &LentHeap<'_>) {
+        for entry in lent.blocks.chunks_exact(ENTRY).take(self.capacity) {
+            let [serial, first, number] = [0, 8, 16].map(|at| payload(entry, at));
+            let Ok(ty) = u8::try_from(number) else {
+                return;
+            };
+            let cells = match module.fields(u32::from(ty)) {
+                _ if is_number(ty) => vec![ty],
+                fields => fields.unwrap_or_default().to_vec(),
+            };
+            let end = first.checked_add(cells.len() as u64);
+            let inside = end.is_some_and(|end| end <= self.capacity as u64);
+            if cells.is_empty() || !inside || !(self.next..LAST_SERIAL).contains(&serial) {
+                return;
+            }
+            let first = first as usize;
+            for cell in first..first + cells.len() {
+                self.cells[cell] = payload(lent.cells, CELL * cell);
+                self.free[cell] = false;
+            }
+            self.next = serial + 1;
+            self.blocks.push(Block {
+                serial,
+                first,
+                ty,
+                cells,
+            });
+        }
+    }
+
     /// A run starts without blocks.
     pub fn new(rules: Rules, capacity: usize) -> Heap {
         Heap {

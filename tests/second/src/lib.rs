@@ -1,19 +1,19 @@
-//! An independent second program for Limpetskein: reader, writer, check, run, formula line and
-//! conversions, written from the sentences of the papers (document 01, the exact rules; 003 where it says so; document
-//! 02, what was asked for later). Each rule stands beside the sentence that it comes from. The
+//! An independent second program for Limpetskein: reader, writer, check, run, rows of runs, formula
+//! line and conversions, written from the sentences of the papers (document 01, the exact rules;
+//! 003 where it says so; document 02, what was asked for later). Each rule stands beside the sentence that it comes from. The
 //! main program is compared with this one on generated modules and calls.
 //!
 //! * The rules: `reader`, `writer`, `check` (with `worklist` and `judge`), `run` (with `profile`,
-//!   `machine`, `step`, `pointers`, `heap`, `integer`, `double`, `convert`), `formula`,
-//!   `conversion` between editions, `show` for the small program's output, `desk` for the desk's
-//!   commands.
+//!   `machine`, `step`, `pointers`, `heap`, `integer`, `double`, `convert`), `map` (a run on each
+//!   row of arguments), `formula`, `conversion` between editions, `show` for the small program's
+//!   output, `desk` for the desk's commands.
 //! * `opcode`: the editions and their opcode numbers; all else is shared.
 //! * `rules`: the deliberately wrong variants that test the tests.
 //! * The tools: `program` and `asm` write modules, `gen` makes cases, `memory`, `subject` and
-//!   `compare` run two programs side by side, `coverage` (with `edges` and `profile_edges`)
-//!   counts what the cases reach,
-//!   `stated` has checks, runs, writes, formula lines and conversions with their answers written
-//!   out.
+//!   `compare` run two programs side by side, `coverage` (with `edges`, `profile_edges` and
+//!   `row_edges`) counts what the cases reach,
+//!   `stated` has checks, runs, writes, formula lines, conversions and rows with their answers
+//!   written out.
 
 #![forbid(unsafe_code)]
 
@@ -35,6 +35,7 @@ pub mod hex;
 pub mod integer;
 pub mod judge;
 pub mod machine;
+pub mod map;
 pub mod memory;
 pub mod opcode;
 pub mod pointers;
@@ -43,6 +44,7 @@ pub mod profile;
 pub mod profile_edges;
 pub mod program;
 pub mod reader;
+pub mod row_edges;
 pub mod rules;
 pub mod run;
 pub mod samples;

@@ -60,7 +60,7 @@ pub struct CheckMemory {
     pub body: u32,
 }
 
-/// A run's numbers: which body it starts, for which profile and how long.
+/// A run's numbers, and those of every row's: which body it starts, for which profile and how long.
 #[derive(Clone, Copy, Debug, PartialEq, Eq)]
 pub struct Start {
     pub function: u32,
@@ -111,4 +111,20 @@ pub struct ConvertMemory {
     pub module: Lent,
     pub out: Lent,
     pub written: u64,
+}
+
+/// Everything lent to a call on rows, and its out-parameter.
+#[derive(Clone, Debug, PartialEq, Eq)]
+pub struct MapMemory {
+    pub module: Lent,
+    /// Eight bytes a parameter, row after row.
+    pub arg_payloads: Lent,
+    /// Eight bytes a row.
+    pub out: Lent,
+    pub payloads: Lent,
+    pub types: Lent,
+    /// Cells, and block entries.
+    pub heap: Lent,
+    pub blocks: Lent,
+    pub rows: u64,
 }

@@ -181,6 +181,76 @@ pub const CONVERSION_EDGES: [&str; 15] = [
     "an operand like an opcode",
 ];
 
+/// The answers that a call on rows can give: those of a run but 30, which is the entry's.
+pub fn map_answers(edition: Edition) -> Vec<u32> {
+    let numbers = RUN_ANSWERS.into_iter();
+    numbers
+        .filter(|&n| n != 30 && answer_of(edition, n))
+        .collect()
+}
+
+/// Where the row that ends a call is among all rows, as in `row_edges`.
+pub const ROW_PLACES: [&str; 3] = ["first", "middle", "last"];
+
+/// The numbers that a row must end a call with at each place.
+pub fn row_numbers(edition: Edition) -> Vec<u32> {
+    let numbers = [13, 15, 20, 24, 33, 35, 36, 44].into_iter();
+    numbers.filter(|&n| answer_of(edition, n)).collect()
+}
+
+/// What calls on rows must reach in every edition, by name, as in `row_edges`; each clause of 13
+/// where no other holds.
+pub const ROW_EDGES: [&str; 24] = [
+    "13 by part of an output",
+    "13 by fewer arguments",
+    "13 by more arguments",
+    "13 by no result",
+    "13 by the entry",
+    "12 and part of an output",
+    "no rows",
+    "no rows, 12",
+    "no rows, 13",
+    "no rows, arguments that would not fit",
+    "20 by arguments that don't fit",
+    "upper bits where arguments don't fit",
+    "upper bits in a later row",
+    "0 parameters",
+    "1 parameter",
+    "2 parameters",
+    "3 parameters",
+    "4 parameters",
+    "5 parameters",
+    "6 parameters",
+    "7 parameters",
+    "8 parameters",
+    "one row",
+    "dozens of rows",
+];
+
+/// What pointers add in editions 3 and 4, and what blocks and profiles add in edition 4.
+pub const POINTER_ROW_EDGES: [&str; 1] = ["13 by a pointer"];
+pub const HEAP_ROW_EDGES: [&str; 7] = [
+    "a pointer returned",
+    "a pointer returned by several rows",
+    "blocks left",
+    "no heap",
+    "13 and another profile",
+    "17 and upper bits in the first row",
+    "no rows, 17",
+];
+
+/// All edges of rows in an edition.
+pub fn row_edges(edition: Edition) -> Vec<&'static str> {
+    let mut edges = ROW_EDGES.to_vec();
+    if edition.has_pointers() {
+        edges.extend(POINTER_ROW_EDGES);
+    }
+    if edition.has_heap() {
+        edges.extend(HEAP_ROW_EDGES);
+    }
+    edges
+}
+
 /// Can this answer be given where this is the edition word? (Those of words that are no edition
 /// are counted as edition 3's.)
 pub fn answer_of(edition: Edition, number: u32) -> bool {

@@ -246,6 +246,32 @@ pub enum Fault {
     FormulaHeaderFirst,
     FormulaRestCleared,
     FormulaLengthOfOutput,
+    NoRowsFirst,
+    MapProfileFirst,
+    MapProfileAtRow,
+    MapFunctionLate,
+    OutputPartIgnored,
+    LengthsUncompared,
+    PointerMapped,
+    NoResultMapped,
+    EntryMapped,
+    PointerResultRefused,
+    UpperBitsFirst,
+    MisfitFirst,
+    RowsUnwritten,
+    RowSkipped,
+    OutputsShifted,
+    FirstRowOnly,
+    FailingRowCounted,
+    FailingOutputWritten,
+    LaterOutputsCleared,
+    AllowanceShared,
+    RowsByColumn,
+    RowsBackwards,
+    LastRowUncleared,
+    HeapKept,
+    RefusedRowClears,
+    NoRowsClear,
 }
 
 /// The wrong variants of reader, check and run, each with its name and what is wrong.
@@ -1425,6 +1451,136 @@ pub const FORMULA_FAULTS: [(Fault, &str, &str); 33] = [
     ),
 ];
 
+/// The wrong variants of rows.
+pub const ROW_FAULTS: [(Fault, &str, &str); 26] = [
+    (
+        Fault::NoRowsFirst,
+        "no-rows-first",
+        "without rows nothing is refused",
+    ),
+    (
+        Fault::MapProfileFirst,
+        "rows-17-before-13",
+        "profile differs before 13",
+    ),
+    (
+        Fault::MapProfileAtRow,
+        "17-at-a-row",
+        "profile differs at the first row, after its upper bits",
+    ),
+    (
+        Fault::MapFunctionLate,
+        "12-after-13",
+        "an output of no whole rows before no such function",
+    ),
+    (
+        Fault::OutputPartIgnored,
+        "out-part-ignored",
+        "part of a row at the output's end is left out",
+    ),
+    (
+        Fault::LengthsUncompared,
+        "lengths-uncompared",
+        "as many rows as output and arguments both have",
+    ),
+    (
+        Fault::PointerMapped,
+        "pointer-mapped",
+        "a function with a pointer parameter is run",
+    ),
+    (
+        Fault::NoResultMapped,
+        "no-result-mapped",
+        "a function without a result is run, and gives 0",
+    ),
+    (Fault::EntryMapped, "entry-mapped", "the entry is run"),
+    (
+        Fault::PointerResultRefused,
+        "pointer-result-refused",
+        "a function that returns a pointer is 13",
+    ),
+    (
+        Fault::UpperBitsFirst,
+        "upper-bits-first",
+        "upper bits in any row refuse all rows",
+    ),
+    (
+        Fault::MisfitFirst,
+        "20-before-rows",
+        "arguments that don't fit are 20 before any row is looked at",
+    ),
+    (
+        Fault::RowsUnwritten,
+        "rows-unwritten",
+        "rows are not written with a refusal",
+    ),
+    (
+        Fault::RowSkipped,
+        "row-skipped",
+        "a row that does not finish is left out",
+    ),
+    (
+        Fault::OutputsShifted,
+        "outputs-shifted",
+        "each output goes to the next row",
+    ),
+    (
+        Fault::FirstRowOnly,
+        "first-row-only",
+        "only the first row is run",
+    ),
+    (
+        Fault::FailingRowCounted,
+        "failing-row-counted",
+        "the row that does not finish counts",
+    ),
+    (
+        Fault::FailingOutputWritten,
+        "failing-output-written",
+        "the row that does not finish has an output",
+    ),
+    (
+        Fault::LaterOutputsCleared,
+        "later-outputs-cleared",
+        "outputs from the row that does not finish are cleared",
+    ),
+    (
+        Fault::AllowanceShared,
+        "allowance-shared",
+        "all rows together have the allowance",
+    ),
+    (
+        Fault::RowsByColumn,
+        "rows-by-column",
+        "all rows' parameter 0 come first",
+    ),
+    (
+        Fault::RowsBackwards,
+        "rows-backwards",
+        "the last row is run first",
+    ),
+    (
+        Fault::LastRowUncleared,
+        "last-row-uncleared",
+        "the last row's arguments stay above the height",
+    ),
+    (
+        Fault::HeapKept,
+        "heap-kept",
+        "a row starts with the blocks of the row before",
+    ),
+    (
+        Fault::RefusedRowClears,
+        "refused-row-clears",
+        "a row's refusal clears the slots",
+    ),
+    (
+        Fault::NoRowsClear,
+        "no-rows-clear",
+        "without rows the slots are cleared",
+    ),
+];
+
 /// Which rules hold: the paper's, or the paper's with one fault.
 #[derive(Clone, Copy, Debug, PartialEq, Eq)]
 pub struct Rules {
@@ -1448,6 +1604,7 @@ impl Rules {
             .chain(&WRITER_FAULTS)
             .chain(&CONVERSION_FAULTS)
             .chain(&FORMULA_FAULTS)
+            .chain(&ROW_FAULTS)
             .find(|(_, n, _)| *n == name)
             .map(|&(fault, _, _)| Rules::with(fault))
     }

@@ -6,7 +6,7 @@ use crate::machine::{Machine, Slot, Unwatched, Watch};
 use crate::profile;
 use crate::reader::{read, refuse, Function, Module, ENTRY};
 use crate::rules::{Fault, Rules};
-use crate::types::{is_number, INT};
+use crate::types::{is_number, run_time, INT};
 use crate::words::payload;
 
 /// Which body to run, on what, and for how long.
@@ -25,6 +25,16 @@ pub struct Call<'a> {
 pub struct LentStack<'a> {
     pub payloads: &'a mut [u8],
     pub types: &'a mut [u8],
+}
+
+impl LentStack<'_> {
+    /// The same slots, for one run of several.
+    pub fn again(&mut self) -> LentStack<'_> {
+        LentStack {
+            payloads: self.payloads,
+            types: self.types,
+        }
+    }
 }
 
 #[derive(Clone, Copy, Debug, PartialEq, Eq)]
@@ -76,7 +86,7 @@ pub fn run_watched(
         }
     };
     let capacity = capacity(rules, &stack);
-    let heap = Heap::new(rules, heap::capacity(rules, &lent));
+    let heap = Heap::at_start(rules, module, &lent);
     if arguments.len() > capacity {
         return misfit(rules, capacity, stack, heap, lent);
     }
@@ -146,13 +156,13 @@ fn admit(rules: Rules, module: Module<'_>, call: Call<'_>) -> Result<Vec<Slot>, 
     // 13: "argument payload bytes are not 8 per type byte, types differ from the declaration,
     // an int argument has upper bits, or a parameter is a pointer"
     let eight = call.arg_types.len().checked_mul(8) == Some(call.arg_payloads.len());
-    let numbers = parameters.iter().all(|&ty| is_number(ty));
+    let numbers = parameters.iter().all(|&ty| is_number(ty)) || rules.wrong(Fault::PointerMapped);
     if !eight || !numbers || call.arg_types != parameters.as_slice() {
         return Err(13);
     }
     let slots: Vec<Slot> = (0..parameters.len())
         .map(|n| Slot {
-            ty: parameters[n],
+            ty: run_time(parameters[n]),
             payload: payload(call.arg_payloads, 8 * n),
         })
         .collect();

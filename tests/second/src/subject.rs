@@ -5,7 +5,10 @@ use crate::conversion::convert;
 use crate::formula::formula;
 use crate::heap::LentHeap;
 use crate::machine::{Unwatched, Watch};
-use crate::memory::{CheckMemory, ConvertMemory, FormulaMemory, RunMemory, Start, WriteMemory};
+use crate::map::{map, MapCall};
+use crate::memory::{
+    CheckMemory, ConvertMemory, FormulaMemory, MapMemory, RunMemory, Start, WriteMemory,
+};
 use crate::opcode::Edition;
 use crate::rules::Rules;
 use crate::run::{run_watched, Call, LentStack, Ran};
@@ -26,6 +29,9 @@ pub trait Subject {
 
     /// A conversion to edition 4 or 3: the paper's number; `written` is written with 0 only.
     fn convert(&mut self, to: Edition, memory: &mut ConvertMemory) -> u32;
+
+    /// A run on each row: the paper's number; `rows` is written with every answer.
+    fn map(&mut self, start: Start, memory: &mut MapMemory) -> u32;
 }
 
 /// The second program with these rules.
@@ -62,6 +68,25 @@ impl Subject for Second {
     fn convert(&mut self, to: Edition, memory: &mut ConvertMemory) -> u32 {
         let answer = convert(self.0, to, memory.module.slice(), memory.out.slice_mut());
         wrote_number(answer, &mut memory.written)
+    }
+
+    fn map(&mut self, start: Start, memory: &mut MapMemory) -> u32 {
+        let call = MapCall {
+            function: start.function,
+            profile: start.profile,
+            arg_payloads: memory.arg_payloads.slice(),
+            allowance: start.allowance,
+        };
+        let stack = LentStack {
+            payloads: memory.payloads.slice_mut(),
+            types: memory.types.slice_mut(),
+        };
+        let heap = LentHeap {
+            cells: memory.heap.slice_mut(),
+            blocks: memory.blocks.slice_mut(),
+        };
+        let (file, out) = (memory.module.slice(), memory.out.slice_mut());
+        map(self.0, file, call, out, stack, heap, &mut memory.rows)
     }
 }
 

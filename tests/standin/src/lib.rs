@@ -8,6 +8,7 @@ use second::check::check;
 use second::conversion::convert;
 use second::formula::formula;
 use second::heap::LentHeap;
+use second::map::{map, MapCall};
 use second::opcode::Edition;
 use second::rules::Rules;
 use second::run::{run, Call, LentStack};
@@ -107,7 +108,8 @@ pub unsafe extern "C" fn limpetskein_run(
     };
     let answer = run(rules(), lent(module, module_len), call, stack, lent_heap);
     let number = ran_number(answer, &mut *steps, &mut *height);
-    misuse::after_run(fault(), types, types_len, steps);
+    misuse::after_run(fault(), steps);
+    misuse::after_slots(fault(), payloads, payloads_len, types, types_len);
     misuse::after_heap(fault(), heap, heap_len, blocks, blocks_len);
     number
 }
@@ -215,5 +217,53 @@ unsafe fn to_edition(
     let number = wrote_number(answer, &mut *written);
     let input = (module.cast_mut(), module_len);
     misuse::after_conversion(fault(), input, (out, out_len), length, written);
+    number
+}
+
+/// # Safety
+/// As the C interface says: slices that don't overlap, a valid out-parameter.
+#[no_mangle]
+#[allow(clippy::too_many_arguments)]
+pub unsafe extern "C" fn limpetskein_map(
+    module: *const u8,
+    module_len: usize,
+    function: u32,
+    profile: u32,
+    arg_payloads: *const u8,
+    arg_payloads_len: usize,
+    out: *mut u8,
+    out_len: usize,
+    allowance: u64,
+    payloads: *mut u8,
+    payloads_len: usize,
+    types: *mut u8,
+    types_len: usize,
+    heap: *mut u8,
+    heap_len: usize,
+    blocks: *mut u8,
+    blocks_len: usize,
+    rows: *mut u64,
+) -> u32 {
+    let call = MapCall {
+        function,
+        profile,
+        arg_payloads: lent(arg_payloads, arg_payloads_len),
+        allowance,
+    };
+    let stack = LentStack {
+        payloads: lent_mut(payloads, payloads_len),
+        types: lent_mut(types, types_len),
+    };
+    let lent_heap = LentHeap {
+        cells: lent_mut(heap, heap_len),
+        blocks: lent_mut(blocks, blocks_len),
+    };
+    let (file, output) = (lent(module, module_len), lent_mut(out, out_len));
+    let number = map(rules(), file, call, output, stack, lent_heap, &mut *rows);
+    let input = (module.cast_mut(), module_len);
+    let arguments = (arg_payloads.cast_mut(), arg_payloads_len);
+    misuse::after_map(fault(), input, arguments, (out, out_len), rows);
+    misuse::after_slots(fault(), payloads, payloads_len, types, types_len);
+    misuse::after_heap(fault(), heap, heap_len, blocks, blocks_len);
     number
 }

@@ -2,7 +2,7 @@
 //! past a lent slice, an out-parameter written that must stay, an input changed, a crash.
 
 /// The names that `STANDIN_FAULT` knows besides those of the wrong variants.
-pub const NAMES: [&str; 13] = [
+pub const NAMES: [&str; 16] = [
     "misuse-past-room",
     "misuse-before-types",
     "misuse-body-written",
@@ -16,6 +16,9 @@ pub const NAMES: [&str; 13] = [
     "misuse-line-changed",
     "misuse-past-heap",
     "misuse-before-blocks",
+    "misuse-past-payloads",
+    "misuse-rows-written",
+    "misuse-arguments-changed",
 ];
 
 /// # Safety
@@ -38,16 +41,30 @@ pub unsafe fn after_check(
 
 /// # Safety
 /// As for the run; and there are bytes around the slices.
-pub unsafe fn after_run(fault: &str, types: *mut u8, types_len: usize, steps: *mut u64) {
+pub unsafe fn after_run(fault: &str, steps: *mut u64) {
+    if fault == "misuse-steps-written" {
+        *steps = 0;
+    }
+}
+
+/// # Safety
+/// As for the run and for rows; and there are bytes around the slices.
+pub unsafe fn after_slots(
+    fault: &str,
+    payloads: *mut u8,
+    payloads_len: usize,
+    types: *mut u8,
+    types_len: usize,
+) {
     match fault {
+        "misuse-past-payloads" if payloads_len > 0 => *payloads.add(payloads_len) = 0,
         "misuse-before-types" if types_len > 0 => *types.sub(1) = 0,
-        "misuse-steps-written" => *steps = 0,
         _ => {}
     }
 }
 
 /// # Safety
-/// As for the run; and there are bytes around the slices.
+/// As for the run and for rows; and there are bytes around the slices.
 pub unsafe fn after_heap(
     fault: &str,
     heap: *mut u8,
@@ -119,6 +136,25 @@ pub unsafe fn after_conversion(
         "misuse-past-output" if out_len > 0 => *out.add(out_len) = 0,
         "misuse-past-module" if length > 0 && length < out_len => *out.add(length) ^= 1,
         "misuse-length-written" => *written = out_len as u64,
+        "misuse-module-changed" if module_len > 0 && out_len > 0 => *module ^= 1,
+        "misuse-crash" if out_len > 200 => std::process::abort(),
+        _ => {}
+    }
+}
+
+/// # Safety
+/// As for rows; and there are bytes around the slices.
+pub unsafe fn after_map(
+    fault: &str,
+    (module, module_len): (*mut u8, usize),
+    (arguments, arguments_len): (*mut u8, usize),
+    (out, out_len): (*mut u8, usize),
+    rows: *mut u64,
+) {
+    match fault {
+        "misuse-past-output" if out_len > 0 => *out.add(out_len) = 0,
+        "misuse-rows-written" => *rows = out_len as u64,
+        "misuse-arguments-changed" if arguments_len > 0 && out_len > 0 => *arguments ^= 1,
         "misuse-module-changed" if module_len > 0 && out_len > 0 => *module ^= 1,
         "misuse-crash" if out_len > 200 => std::process::abort(),
         _ => {}

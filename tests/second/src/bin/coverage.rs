@@ -8,17 +8,21 @@ use second::coverage::Coverage;
 use second::gen::case::Case;
 use second::gen::conversions::ConvertCase;
 use second::gen::lines::LineCase;
+use second::gen::rows::MapCase;
 use second::gen::tables::WriteCase;
 use second::opcode::{Edition, EDITIONS};
 use second::possible::{
-    answer_of, at_range_edges, conversion_answers, exceptions, executions, reasons, CHECK_ANSWERS,
-    CONVERSION_EDGES, FORMULA_ANSWERS, HEAP_EDGES, LINE_EDGES, PROFILE_EDGES, RUN_ANSWERS,
-    WRITE_ANSWERS,
+    answer_of, at_range_edges, conversion_answers, exceptions, executions, map_answers, reasons,
+    row_edges, row_numbers, CHECK_ANSWERS, CONVERSION_EDGES, FORMULA_ANSWERS, HEAP_EDGES,
+    LINE_EDGES, PROFILE_EDGES, ROW_PLACES, RUN_ANSWERS, WRITE_ANSWERS,
 };
 use std::collections::BTreeMap;
 
 /// Conversions have fewer edges: one for so many cases is enough.
 const CONVERSIONS: u64 = 6;
+
+/// And one call on rows, which is many runs, for so many.
+const MAPS: u64 = 4;
 
 fn main() {
     args::expect(&["--seed", "--cases", "--full"]);
@@ -33,6 +37,9 @@ fn main() {
     for number in 0..cases / CONVERSIONS {
         coverage.add_conversion(&ConvertCase::new(seed, number));
     }
+    for number in 0..cases / MAPS {
+        coverage.add_map(&MapCase::new(seed, number));
+    }
     println!("coverage of {cases} cases from seed {seed}");
     let full = args::has("--full");
     let mut missing = kinds(&coverage) + lines(&coverage) + answers(&coverage);
@@ -42,7 +49,8 @@ fn main() {
             + raised(&coverage, edition, full)
             + at_edges(&coverage, edition, full)
             + refused(&coverage, edition, full)
-            + converted(&coverage, edition);
+            + converted(&coverage, edition)
+            + mapped(&coverage, edition);
     }
     println!(
         "runs of accepted modules that break demand 3: {}",
@@ -141,6 +149,31 @@ fn converted(coverage: &Coverage, edition: Edition) -> u64 {
         missing += row(&title, counted);
     }
     missing
+}
+
+/// The answers of calls on rows, the places of the rows that end them, and their edges.
+fn mapped(coverage: &Coverage, edition: Edition) -> u64 {
+    let word = edition.word();
+    let answers = map_answers(edition).into_iter().map(|n| {
+        let count = coverage.maps.get(&(edition, n)).copied();
+        (n.to_string(), count.unwrap_or(0))
+    });
+    let mut missing = row(&format!("answers of rows, edition {word}:"), answers);
+    for number in row_numbers(edition) {
+        let places = ROW_PLACES.into_iter().map(|place| {
+            let count = coverage.row_places.get(&(edition, number, place));
+            (place.to_string(), count.copied().unwrap_or(0))
+        });
+        missing += row(
+            &format!("rows that end with {number}, edition {word}:"),
+            places,
+        );
+    }
+    let edges = row_edges(edition).into_iter().map(|edge| {
+        let count = coverage.row_edges.get(&(edition, edge)).copied();
+        (edge.to_string(), count.unwrap_or(0))
+    });
+    missing + row(&format!("edges of rows, edition {word}:"), edges)
 }
 
 fn answers_of(coverage: &Coverage, edition: Edition) -> u64 {

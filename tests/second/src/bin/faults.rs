@@ -1,18 +1,22 @@
 //! Tests the tests: every deliberately wrong variant of the second program must be found by
 //! comparing it with the plain one, on generated cases, or on generated tables for those of the
-//! writer, lines for those of the formula, and modules to be converted for those of conversions.
+//! writer, lines for those of the formula, modules to be converted for those of conversions, and
+//! rows for those of rows.
 //!
 //! `faults [--seed N] [--cases N] [--show]`: at most N cases for each variant.
 
 use second::args;
-use second::compare::{compare, compare_conversions, compare_formulas, compare_writes};
+use second::compare::{
+    compare, compare_conversions, compare_formulas, compare_maps, compare_writes,
+};
 use second::gen::case::Case;
 use second::gen::conversions::ConvertCase;
 use second::gen::lines::LineCase;
+use second::gen::rows::MapCase;
 use second::gen::tables::WriteCase;
 use second::rules::{
     Fault, Rules, CONVERSION_FAULTS, FAULTS, FORMULA_FAULTS, HEAP_FAULTS, PROFILE_FAULTS,
-    RANGE_FAULTS, WRITER_FAULTS,
+    RANGE_FAULTS, ROW_FAULTS, WRITER_FAULTS,
 };
 use second::subject::Second;
 
@@ -56,9 +60,16 @@ fn main() {
             difference.map(|text| (number + 1, case.kind, text))
         }
     });
+    let missed_rows = search(&ROW_FAULTS, limit, |number| {
+        let case = MapCase::new(seed, number);
+        move |wrong: &mut Second| {
+            let difference = compare_maps(&case, &mut Second(Rules::PLAIN), wrong);
+            difference.map(|text| (number + 1, case.kind, text))
+        }
+    });
     let written = WRITER_FAULTS.len() + FORMULA_FAULTS.len() + CONVERSION_FAULTS.len();
-    let all = variants.len() + written;
-    let missed = missed + missed_writers + missed_formulas + missed_conversions;
+    let all = variants.len() + written + ROW_FAULTS.len();
+    let missed = missed + missed_writers + missed_formulas + missed_conversions + missed_rows;
     println!("{all} wrong variants, {missed} missed");
     if missed > 0 {
         std::process::exit(1);

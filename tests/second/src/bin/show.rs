@@ -1,8 +1,8 @@
-//! Shows a generated case, generated tables, a generated formula line, a generated conversion, or a
-//! module or a line that is given, and the second program's answers.
+//! Shows a generated case, generated tables, a generated formula line, a generated conversion, a
+//! generated call on rows, or a module or a line that is given, and the second program's answers.
 //!
-//! `show [--seed N] --case N`, `--write N`, `--formula N` or `--conversion N`, `show --module HEX`,
-//! `show --line LINE`
+//! `show [--seed N] --case N`, `--write N`, `--formula N`, `--conversion N` or `--rows N`,
+//! `show --module HEX`, `show --line LINE`
 
 use second::args;
 use second::check::{check, Checked};
@@ -12,6 +12,7 @@ use second::formula::split;
 use second::gen::case::Case;
 use second::gen::conversions::ConvertCase;
 use second::gen::lines::LineCase;
+use second::gen::rows::MapCase;
 use second::gen::tables::WriteCase;
 use second::hex;
 use second::reader::{read, Module};
@@ -26,6 +27,7 @@ fn main() {
         "--write",
         "--formula",
         "--conversion",
+        "--rows",
         "--module",
         "--line",
     ]);
@@ -50,6 +52,9 @@ fn main() {
     }
     if args::value("--conversion").is_some() {
         return show_conversion(seed, args::number("--conversion", 0));
+    }
+    if args::value("--rows").is_some() {
+        return show_rows(seed, args::number("--rows", 0));
     }
     let number = args::number("--case", 0);
     let case = Case::new(seed, number);
@@ -102,6 +107,21 @@ fn show_conversion(seed: u64, number: u64) {
     for run in &case.runs {
         println!("run of {}", describe(run));
     }
+}
+
+fn show_rows(seed: u64, number: u64) {
+    let case = MapCase::new(seed, number);
+    println!("rows {number} of seed {seed} ({})", case.kind);
+    println!("{}", case.describe());
+    show_module(&case.module);
+    let mut memory = case.memory();
+    let answer = Second(Rules::PLAIN).map(case.start(), &mut memory);
+    println!("rows: {answer}, {} finished", memory.rows);
+    println!("output {}", hex::encode(memory.out.slice()));
+    println!("  types {}", hex::encode(memory.types.slice()));
+    println!("  payloads {}", hex::encode(memory.payloads.slice()));
+    println!("  heap {}", hex::encode(memory.heap.slice()));
+    println!("  blocks {}", hex::encode(memory.blocks.slice()));
 }
 
 fn show_line(line: &[u8], names: [u32; 3]) {

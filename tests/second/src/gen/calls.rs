@@ -13,13 +13,14 @@ use crate::run::{run_watched, Call, LentStack, Ran};
 use crate::types::{is_number, INT};
 
 /// What a first, generous run shows.
-struct Trial {
-    steps: u64,
-    height: usize,
+#[derive(Default)]
+pub struct Trial {
+    pub steps: u64,
+    pub height: usize,
     /// Cells up to the highest that a block had.
-    cells: usize,
+    pub cells: usize,
     /// Nothing in the module can be repeated, so any allowance will do.
-    straight: bool,
+    pub straight: bool,
 }
 
 /// The highest slot, and the highest cell.
@@ -138,9 +139,10 @@ fn upper_bits(rng: &mut Rng, types: &[u8], values: &mut [u64]) {
 }
 
 /// Cells of a first run, as many as the small program lends.
-const TRIAL_CELLS: usize = 1024;
+pub const TRIAL_CELLS: usize = 1024;
 
-fn trial(file: &[u8], call: &RunCall, cells: usize) -> Trial {
+/// The generous run of a call, on this many cells.
+pub fn trial(file: &[u8], call: &RunCall, cells: usize) -> Trial {
     let (mut heap, mut blocks) = (vec![0; CELL * cells], vec![0; BLOCK * cells]);
     let (mut payloads, mut types) = (vec![0; 8 * 4096], vec![0; 4096]);
     let mut highest = Highest::default();
@@ -171,7 +173,8 @@ fn trial(file: &[u8], call: &RunCall, cells: usize) -> Trial {
     }
 }
 
-fn allowance(rng: &mut Rng, trial: &Trial) -> u64 {
+/// An allowance around the steps of a first run, or any.
+pub fn allowance(rng: &mut Rng, trial: &Trial) -> u64 {
     let some = rng.below(trial.steps as usize + 1) as u64;
     match rng.below(12) {
         0 => rng.below(3) as u64,
@@ -186,7 +189,7 @@ fn allowance(rng: &mut Rng, trial: &Trial) -> u64 {
 }
 
 /// Bytes of payloads and of types that are lent.
-fn lengths(rng: &mut Rng, trial: &Trial) -> (usize, usize) {
+pub fn lengths(rng: &mut Rng, trial: &Trial) -> (usize, usize) {
     let slots = match rng.below(24) {
         0 => 0,
         1 => 1,
@@ -210,7 +213,7 @@ fn lengths(rng: &mut Rng, trial: &Trial) -> (usize, usize) {
 
 /// Bytes of heap and of block entries that are lent: around what a first run took, none, one, a
 /// few, and around the limit; mostly as many of both.
-fn heap_lengths(rng: &mut Rng, heap: bool, taken: usize) -> (usize, usize) {
+pub fn heap_lengths(rng: &mut Rng, heap: bool, taken: usize) -> (usize, usize) {
     let cells = match rng.below(40) {
         0..=3 => 0,
         4..=6 => 1,

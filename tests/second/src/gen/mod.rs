@@ -1,4 +1,4 @@
-//! Seeded generators of modules, calls, tables, formula lines and conversions.
+//! Seeded generators of modules, calls, tables, formula lines, conversions and rows.
 
 pub mod body;
 pub mod calls;
@@ -16,7 +16,9 @@ pub mod mixed;
 pub mod near;
 pub mod pointers;
 pub mod profiles;
+pub mod recipes;
 pub mod rng;
+pub mod rows;
 pub mod shapes;
 pub mod structures;
 pub mod tables;

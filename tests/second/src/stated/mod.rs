@@ -1,7 +1,7 @@
 //! Checks with their answers stated: module, room before, and what the paper says of number,
 //! body and the whole room afterwards. They are written out from the paper, not computed.
-//! `runs`, `writes`, `formulas` and `conversions` have the same for runs, writes, formula lines and
-//! conversions.
+//! `runs`, `writes`, `formulas`, `conversions` and `maps` have the same for runs, writes, formula
+//! lines, conversions and calls on rows.
 
 mod bodies;
 mod calls;
@@ -12,6 +12,7 @@ pub mod formulas;
 mod instructions;
 mod joins;
 mod labels;
+pub mod maps;
 mod refusals;
 pub mod runs;
 pub mod structures;

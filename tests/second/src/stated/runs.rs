@@ -48,7 +48,7 @@ pub struct Left {
 }
 
 /// No byte is 0, so that each zeroed byte is seen.
-fn filled(len: usize) -> Vec<u8> {
+pub(super) fn filled(len: usize) -> Vec<u8> {
     (0..len).map(|n| 0x80 | (7 * n) as u8).collect()
 }
 
@@ -61,25 +61,36 @@ fn put(bytes: &mut [u8], words: impl IntoIterator<Item = u64>) {
 impl Left {
     /// The lent memory afterwards.
     fn write(&self, memory: &mut RunMemory) {
-        memory.payloads.slice_mut().fill(0);
-        memory.types.slice_mut().fill(0);
-        put(
-            memory.payloads.slice_mut(),
-            self.stack.iter().map(|slot| slot.1),
-        );
-        for (byte, slot) in memory.types.slice_mut().iter_mut().zip(&self.stack) {
+        let RunMemory {
+            payloads, types, ..
+        } = memory;
+        self.write_slots(payloads.slice_mut(), types.slice_mut());
+        let RunMemory { heap, blocks, .. } = memory;
+        self.write_heap(heap.slice_mut(), blocks.slice_mut());
+        memory.steps = self.steps;
+        memory.height = self.stack.len() as u64;
+    }
+
+    /// The slots afterwards, all of which are the run's.
+    pub(super) fn write_slots(&self, payloads: &mut [u8], types: &mut [u8]) {
+        payloads.fill(0);
+        types.fill(0);
+        put(payloads, self.stack.iter().map(|slot| slot.1));
+        for (byte, slot) in types.iter_mut().zip(&self.stack) {
             *byte = slot.0;
         }
-        let cells = &mut memory.heap.slice_mut()[..8 * self.capacity];
+    }
+
+    /// The heap afterwards.
+    pub(super) fn write_heap(&self, heap: &mut [u8], blocks: &mut [u8]) {
+        let cells = &mut heap[..8 * self.capacity];
         cells.fill(0);
         for &(cell, payload) in &self.cells {
             put(&mut cells[8 * cell..], [payload]);
         }
-        let table = &mut memory.blocks.slice_mut()[..24 * self.capacity];
+        let table = &mut blocks[..24 * self.capacity];
         table.fill(0);
         put(table, self.table.iter().flatten().copied());
-        memory.steps = self.steps;
-        memory.height = self.stack.len() as u64;
     }
 }
 
