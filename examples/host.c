@@ -1,5 +1,5 @@
 /*
- * An example host: checks a recipe, then runs its function 0 for each pixel of a row.
+ * An example host: checks a recipe, then runs its function 0 for all pixels of a row in one call.
  *
  *     host [-p PROFILE] MODULE PIXEL...
  *
@@ -9,7 +9,8 @@
  * PROFILE is the number of the scan's profile, 0 where none is named. A recipe of edition 4 may be made for one
  * profile; on a scan of another it stops with 17. A recipe that is for any profile runs on every scan.
  *
- * The host prints the row that comes out; or it stops with the number, which is also its exit status.
+ * The host prints the row that comes out; or it stops with the number, which is also its exit status, and where the
+ * recipe stopped at a pixel it says at which, counted from 0.
  */
 #include <stdio.h>
 #include <stdlib.h>
@@ -17,10 +18,12 @@
 
 #include "limpetskein.h"
 
-enum { PARAMETERS = 3, SLOTS = 64, CELLS = 64, ALLOWANCE = 10000, BLACK = 16, GAIN = 2, FAILED = 1000 };
+enum { PARAMETERS = 3, PIXELS = 4096, SLOTS = 64, CELLS = 64, ALLOWANCE = 10000, BLACK = 16, GAIN = 2, FAILED = 1000 };
 
 static uint8_t module[LIMPETSKEIN_LONGEST_MODULE + 1];
 static uint8_t room[LIMPETSKEIN_MOST_LABELS * LIMPETSKEIN_ROOM_PER_LABEL];
+static uint8_t arg_payloads[8 * PARAMETERS * PIXELS];
+static uint8_t values[8 * PIXELS];
 static uint8_t payloads[8 * SLOTS];
 static uint8_t types[SLOTS];
 static uint8_t heap[LIMPETSKEIN_CELL * CELLS];
@@ -52,22 +55,26 @@ static int read_module(const char *name, size_t *length)
     return is_read;
 }
 
-/* Takes the value out and answers 0, or answers the number. */
-static uint32_t run_pixel(size_t length, uint32_t profile, uint32_t pixel, uint32_t *value)
+static void put_pixel(size_t i, uint32_t pixel)
 {
-    static const uint8_t arg_types[PARAMETERS] = {LIMPETSKEIN_INT, LIMPETSKEIN_INT, LIMPETSKEIN_INT};
-    uint8_t arg_payloads[8 * PARAMETERS];
-    put_int(arg_payloads, pixel);
-    put_int(arg_payloads + 8, BLACK);
-    put_int(arg_payloads + 16, GAIN);
+    uint8_t *row = arg_payloads + 8 * PARAMETERS * i;
+    put_int(row, pixel);
+    put_int(row + 8, BLACK);
+    put_int(row + 16, GAIN);
+}
+
+/*
+ * Answers 0 with the values of so many pixels, or the number; *done is how many pixels finished. Every pixel has the
+ * function's type of result, so the slot that the last one left tells it.
+ */
+static uint32_t run_row(size_t length, uint32_t profile, size_t pixels, uint64_t *done)
+{
     struct limpetskein_call call = {
         .module = module,
         .module_len = length,
         .function = 0,
-        .arg_types = arg_types,
-        .arg_types_len = sizeof arg_types,
         .arg_payloads = arg_payloads,
-        .arg_payloads_len = sizeof arg_payloads,
+        .arg_payloads_len = 8 * PARAMETERS * pixels,
         .profile = profile,
         .allowance = ALLOWANCE,
         .payloads = payloads,
@@ -78,39 +85,55 @@ static uint32_t run_pixel(size_t length, uint32_t profile, uint32_t pixel, uint3
         .heap_len = sizeof heap,
         .blocks = blocks,
         .blocks_len = sizeof blocks,
+        .out = values,
+        .out_len = 8 * pixels,
     };
-    uint32_t answer = limpetskein_call_run(&call);
-    if (answer != LIMPETSKEIN_DONE)
-        return answer;
-    if (call.height != 1 || types[0] != LIMPETSKEIN_INT)
+    uint32_t answer = limpetskein_call_map(&call);
+    *done = call.rows;
+    if (answer == LIMPETSKEIN_DONE && pixels > 0 && types[0] != LIMPETSKEIN_INT)
         return FAILED;
-    *value = get_int(payloads);
-    return LIMPETSKEIN_DONE;
+    return answer;
+}
+
+static void print_row(size_t pixels)
+{
+    for (size_t i = 0; i < pixels; i++)
+        printf(i + 1 < pixels ? "%lu " : "%lu\n", (unsigned long)get_int(values + 8 * i));
+}
+
+/* A recipe that was refused stopped at no pixel. */
+static void print_stop(uint32_t answer, uint64_t done)
+{
+    printf("stopped with %lu", (unsigned long)answer);
+    if (answer == LIMPETSKEIN_ALLOWANCE_USED_UP || (answer >= LIMPETSKEIN_STACK_OVERFLOW && answer != FAILED))
+        printf(" at pixel %lu", (unsigned long)done);
+    printf("\n");
 }
 
 int main(int argc, char **argv)
 {
-    size_t length = 0;
+    size_t length = 0, pixels = 0;
     uint32_t profile = 0, body = 0;
+    uint64_t done = 0;
     if (argc > 2 && strcmp(argv[1], "-p") == 0) {
         profile = (uint32_t)strtoul(argv[2], NULL, 10);
         argc -= 2;
         argv += 2;
     }
-    if (argc < 2 || !read_module(argv[1], &length)) {
+    if (argc < 2 || argc > 2 + PIXELS || !read_module(argv[1], &length)) {
         fprintf(stderr, "usage: host [-p PROFILE] MODULE PIXEL...\n");
         return EXIT_FAILURE;
     }
+    for (; argv[2 + pixels] != NULL; pixels++)
+        put_pixel(pixels, (uint32_t)strtoul(argv[2 + pixels], NULL, 10));
     uint32_t answer = limpetskein_check(module, length, room, sizeof room, &body);
     if (answer == LIMPETSKEIN_NO_TYPING)
         printf("body %lu has no typing\n", (unsigned long)body);
-    for (int i = 2; i < argc && answer == LIMPETSKEIN_DONE; i++) {
-        uint32_t value = 0;
-        answer = run_pixel(length, profile, (uint32_t)strtoul(argv[i], NULL, 10), &value);
-        if (answer == LIMPETSKEIN_DONE)
-            printf(i + 1 < argc ? "%lu " : "%lu\n", (unsigned long)value);
-    }
-    if (answer != LIMPETSKEIN_DONE)
-        printf("stopped with %lu\n", (unsigned long)answer);
+    if (answer == LIMPETSKEIN_DONE)
+        answer = run_row(length, profile, pixels, &done);
+    if (answer == LIMPETSKEIN_DONE)
+        print_row(pixels);
+    else
+        print_stop(answer, done);
     return (int)answer;
 }

@@ -1,6 +1,7 @@
 /*
- * limpetskein.h: for C, the check of a module, the run of one of its bodies, the writer of modules, the compiler of
- * formula lines, and the conversion of modules between editions 3 and 4.
+ * limpetskein.h: for C, the check of a module, the run of one of its bodies, the map of one of its functions over a row
+ * of pixels, the writer of modules, the compiler of formula lines, and the conversion of modules between editions 3
+ * and 4.
  *
  * Link with target/staticlib/liblimpetskein.a (`rt staticlib limpetskein`; x86-64 Linux).
  *
@@ -12,8 +13,8 @@
  * What the caller owes:
  *   - A slice is a pointer and a number of bytes. All of them can be read and, where the pointer
  *     is not const, written. With length 0 the pointer may be null.
- *   - A slice that is written overlaps no other slice, and neither body, steps, height nor written.
- *   - body, steps, height and written are not null, are aligned and do not overlap each other.
+ *   - A slice that is written overlaps no other slice, and neither body, steps, height, rows nor written.
+ *   - body, steps, height, rows and written are not null, are aligned and do not overlap each other.
  *   - Nothing else writes these bytes during the call.
  *
  * Numbers are little endian. Bodies are numbered as in the module's function section.
@@ -76,11 +77,16 @@ extern "C" {
  */
 #define LIMPETSKEIN_NULL 0xFFFFFFFFFFFFFFFFull
 
-/* Answers. A call gives the first in number order that holds; of a formula line and of a conversion 16 comes last. */
+/*
+ * Answers. A call gives the first in number order that holds; of a formula line and of a conversion 16 comes last, and
+ * the number of a map's first row that does not finish comes behind what is refused before any row.
+ */
 enum {
-    LIMPETSKEIN_DONE = 0, /* check: accepted. run: finished. write, formula and conversions: written */
+    LIMPETSKEIN_DONE = 0, /* check: accepted. run: finished. map: every row finished. write, formula and conversions:
+                             written */
 
-    /* The module can't be read: check, run and conversions. 2 and 4 to 9 also: these tables are no module: write. */
+    /* The module can't be read: check, run, map and conversions. 2 and 4 to 9 also: these tables are no module:
+       write. */
     LIMPETSKEIN_TOO_SHORT = 1,     /* under 48 bytes; under 56 in edition 4 */
     LIMPETSKEIN_OTHER_EDITION = 2, /* the edition is none of 1, 3 and 4; a conversion: it is not the one that is
                                       converted */
@@ -99,10 +105,12 @@ enum {
     LIMPETSKEIN_ROOM_TOO_SHORT = 10, /* checking room under 64 bytes per label */
     LIMPETSKEIN_NO_TYPING = 11,      /* some body has no consistent typing; *body is the first */
 
-    /* Run only: it did not start. */
+    /* Run and map only: it did not start. */
     LIMPETSKEIN_NO_SUCH_FUNCTION = 12,
     LIMPETSKEIN_BAD_ARGUMENTS = 13, /* not 8 payload bytes per type byte, other types than declared, an int with
-                                       upper bits, a pointer parameter, or arguments for the entry */
+                                       upper bits, a pointer parameter, or arguments for the entry; map: an output or
+                                       rows of another length, a pointer parameter, no result, the entry, or, at its
+                                       row, an int with upper bits */
     LIMPETSKEIN_OTHER_PROFILE = 17, /* the function was made for another profile */
 
     /* Write, formula and conversions. */
@@ -112,8 +120,8 @@ enum {
     LIMPETSKEIN_NOT_IN_EDITION_3 = 18, /* a profile that is not 0, a structure, or a type byte or opcode that edition 3
                                           lacks */
 
-    /* Run only: it stopped. Of an accepted module only 0, 15, 20, 24 and 35, in editions 3 and 4 also 44, and in
-       edition 4 also 33 and 36, come from a run that started. */
+    /* Run and map only: it stopped, a map at a row. Of an accepted module only 0, 15, 20, 24 and 35, in editions 3 and
+       4 also 44, and in edition 4 also 33 and 36, come from a run that started. */
     LIMPETSKEIN_ALLOWANCE_USED_UP = 15,
     LIMPETSKEIN_STACK_OVERFLOW = 20, /* no free slot, a 65th frame, or arguments that don't fit */
     LIMPETSKEIN_STACK_EMPTY = 21,
@@ -202,15 +210,52 @@ uint32_t limpetskein_run(const uint8_t *module, size_t module_len, uint32_t func
                          size_t blocks_len, uint64_t *steps, uint64_t *height);
 
 /*
- * The same call with named members, for a host that would rather not count nineteen arguments:
+ * Runs a function of a module, checked or not, for each pixel of a row: 0 to 9, 12, 13, 15, 17, 20 to 39, 44, 50.
+ *
+ *   function      its number. It has a result, and no parameter is a pointer.
+ *   profile       the scan's, as for a run.
+ *   arg_payloads  the rows of arguments, one behind the other: 8 bytes for each parameter, parameter 0 first, under the
+ *                 types that the function declares. A function without parameters has none here.
+ *   out           8 bytes for each row, and so it says how many rows there are. Written for each row that finished: the
+ *                 payload that it returned.
+ *   allowance     the most steps that a row may count; each has the whole of it.
+ *   payloads, types, heap, blocks  slots and heap as for a run. All rows use them, one after the other.
+ *   *rows         written with every answer: how many rows finished.
+ *
+ * Row i is the run of the function on the i-th row of arguments. The first row that does not finish ends the call, and
+ * its number is the answer; *rows is the number of rows before it, and so which row it is, counted from 0. The rows
+ * behind it are not looked at. With 0 every row finished; where there is none, nothing is run.
+ *
+ * Refusals before any row, in this order: 1 to 9; 12; 13; 17. This 13 is an output that is no multiple of 8 bytes, rows
+ * of arguments that are not 8 bytes for each parameter of each row, a pointer parameter, or a function without a
+ * result, as the entry is. *rows is 0. An int with upper bits in its payload is 13 at its row, which then is not run; so
+ * it comes behind 17. A map tells no steps and no height.
+ *
+ * The output after the call:
+ *   a refusal before any row  unchanged.
+ *   else                      the payloads of the rows that finished, and past them unchanged.
+ *
+ * The slots and the heap after the call are as a run leaves them, the last that was made: that of the row that stopped,
+ * or else of the last that finished. Where none was made they are unchanged: with a refusal before any row, with 13 at
+ * row 0, and without rows. Every row starts without blocks: what a returned pointer points to is there for the last row
+ * only.
+ */
+uint32_t limpetskein_map(const uint8_t *module, size_t module_len, uint32_t function, uint32_t profile,
+                         const uint8_t *arg_payloads, size_t arg_payloads_len, uint8_t *out, size_t out_len,
+                         uint64_t allowance, uint8_t *payloads, size_t payloads_len, uint8_t *types, size_t types_len,
+                         uint8_t *heap, size_t heap_len, uint8_t *blocks, size_t blocks_len, uint64_t *rows);
+
+/*
+ * The same two calls with named members, for a host that would rather not count nineteen arguments:
  *
  *     struct limpetskein_call call = {.module = file, .module_len = length, .function = LIMPETSKEIN_ENTRY,
  *                                     .allowance = 1000000, .payloads = payloads, .payloads_len = sizeof payloads,
  *                                     .types = types, .types_len = sizeof types};
  *     uint32_t number = limpetskein_call_run(&call);
  *
- * Members that are not named are 0: no arguments, no heap, function 0, a scan of profile 0. steps and height are written as
- * *steps and *height are; a refusal leaves them as they were.
+ * Members that are not named are 0: no arguments, no heap, function 0, a scan of profile 0, no rows. steps, height and
+ * rows are written as *steps, *height and *rows are: a run that is refused leaves steps and height as they were. A run
+ * does not touch out, out_len and rows; limpetskein_call_map does not touch arg_types, arg_types_len, steps and height.
  */
 struct limpetskein_call {
     const uint8_t *module;
@@ -232,12 +277,21 @@ struct limpetskein_call {
     size_t blocks_len;
     uint64_t steps;
     uint64_t height;
+    uint8_t *out;
+    size_t out_len;
+    uint64_t rows;
 };
 
 static inline uint32_t limpetskein_call_run(struct limpetskein_call *c) {
     return limpetskein_run(c->module, c->module_len, c->function, c->arg_types, c->arg_types_len, c->arg_payloads,
                            c->arg_payloads_len, c->profile, c->allowance, c->payloads, c->payloads_len, c->types,
                            c->types_len, c->heap, c->heap_len, c->blocks, c->blocks_len, &c->steps, &c->height);
+}
+
+static inline uint32_t limpetskein_call_map(struct limpetskein_call *c) {
+    return limpetskein_map(c->module, c->module_len, c->function, c->profile, c->arg_payloads, c->arg_payloads_len,
+                           c->out, c->out_len, c->allowance, c->payloads, c->payloads_len, c->types, c->types_len,
+                           c->heap, c->heap_len, c->blocks, c->blocks_len, &c->rows);
 }
 
 /*
