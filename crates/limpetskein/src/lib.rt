@@ -12,7 +12,7 @@ use rules::WriteAnswer;
 
 mod host;
 mod host_map;
-mod map;
+pub mod map;
 
 // The check of any bytes in the lent room, of which 64 bytes a label are used.
 pub fn check(file: &[u8], room: &mut [u8]) -> CheckAnswer

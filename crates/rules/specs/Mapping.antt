@@ -70,12 +70,12 @@ typesOf (t ∷ ts) = typesOf ts ++ (kindOf t ∷ [])
 abbrev pub rowOf : List Ty → List ℕ → ℕ → Lent
 rowOf ts args i = record { payloads = cut args (8 * length ts * i) (8 * length ts); types = typesOf ts }
 
--- "where it finishes with a value, that payload is `out[i]`"
+-- the outputs with the value of row i; as they were where it has none
 abbrev pub withValue : List ℕ → ℕ → Option Slot → List ℕ
 withValue out i none = out
 withValue out i (some v) = written 8 out (8 * i) (v .payload)
 
--- "The first row that does not finish ends the call": after row i, which ran so, the rest
+-- the first row that does not finish ends the call: after row i, which ran so, the rest
 abbrev pub afterRow : (List ℕ → Lent → LentHeap → Mapped) → ℕ → List ℕ → Ran → Mapped
 afterRow rest i out r =
     cond (eqb (runNumber (r .answer)) done) (rest (withValue out i (valueOut (r .answer) (r .stack))) (r .stack) (r .heap))
