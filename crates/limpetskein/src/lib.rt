@@ -1,11 +1,11 @@
 // The public library: the check of any bytes, the run of any body of any bytes, the call of a function for rows, the writer of modules,
 // the conversions between editions 3 and 4, and the compiler of formula lines.
 ghost use Rattle.rules.specs.Tables.{tables};
-ghost use Rattle.limpetskein.specs.Promises.{lentOf, lentHeapOf, CheckKeeps, RunKeeps};
+ghost use Rattle.promises.specs.Promises.{lentOf, lentHeapOf, CheckKeeps, RunKeeps};
 ghost use Rattle.rules.specs.Grammar.{StopsAt};
-ghost use Rattle.limpetskein.specs.WritePromises.{WriteKeeps};
-ghost use Rattle.limpetskein.specs.FormulaPromises.{FormulaKeeps};
-ghost use Rattle.limpetskein.specs.ConvertPromises.{UpKeeps, DownKeeps};
+ghost use Rattle.promises.specs.WritePromises.{WriteKeeps};
+ghost use Rattle.promises.specs.FormulaPromises.{FormulaKeeps};
+ghost use Rattle.promises.specs.ConvertPromises.{UpKeeps, DownKeeps};
 use rules::CheckAnswer;
 use rules::RunAnswer;
 use rules::WriteAnswer;
@@ -18,7 +18,7 @@ pub mod map;
 pub fn check(file: &[u8], room: &mut [u8]) -> CheckAnswer
     ensures { λ r. ⌜ CheckKeeps (now (file .entry)) (now (room .entry)) r (now (room .exit)) ⌝ }
 {
-    checker::check(file, room)
+    checking::check(file, room)
 }
 
 // The run of a body of any bytes on the lent arguments, for a scan of this profile, on the lent slots and heap: cells, and entries
@@ -37,7 +37,7 @@ pub fn run(
 ) -> RunAnswer
     ensures { λ r. ⌜ RunKeeps (now (file .entry)) function (lentOf (now («arg_payloads» .entry)) (now («arg_types» .entry))) profile allowance (lentOf (now (payloads .entry)) (now (types .entry))) (lentHeapOf (now (heap .entry)) (now (blocks .entry))) r (lentOf (now (payloads .exit)) (now (types .exit))) (lentHeapOf (now (heap .exit)) (now (blocks .exit))) ⌝ }
 {
-    runs::run(
+    running::run(
         file,
         function,
         arg_payloads,
@@ -64,7 +64,7 @@ pub fn write(
 ) -> WriteAnswer
     ensures { λ r. ⌜ WriteKeeps (tables edition (now (constants .entry)) (now (functions .entry)) (now (labels .entry)) (now (structures .entry)) (now (code .entry)) entry) (now (out .entry)) r (now (out .exit)) ⌝ }
 {
-    writer::write(
+    saving::write(
         edition,
         constants,
         functions,
@@ -80,26 +80,26 @@ pub fn write(
 pub fn to_edition_4(file: &[u8], out: &mut [u8]) -> WriteAnswer
     ensures { λ r. ⌜ UpKeeps (now (file .entry)) (now (out .entry)) r (now (out .exit)) ⌝ }
 {
-    convert::to_edition_4(file, out)
+    converting::to_edition_4(file, out)
 }
 
 // Writes the module of edition 3 of a module of edition 4, or refuses and changes nothing.
 pub fn to_edition_3(file: &[u8], out: &mut [u8]) -> WriteAnswer
     ensures { λ r. ⌜ DownKeeps (now (file .entry)) (now (out .entry)) r (now (out .exit)) ⌝ }
 {
-    convert::to_edition_3(file, out)
+    converting::to_edition_3(file, out)
 }
 
 // Compiles a formula line and writes its module into the lent output, or refuses and changes nothing.
 pub fn formula(line: &[u8], out: &mut [u8]) -> WriteAnswer
     ensures { λ r. ⌜ FormulaKeeps (now (line .entry)) (now (out .entry)) r (now (out .exit)) ⌝ }
 {
-    formula::compile(line, out)
+    compiling::formula(line, out)
 }
 
 // The place where a formula line stops making sense: its length where it is in the grammar or ends too early.
 pub fn formula_stop(line: &[u8]) -> usize
     ensures { λ r. ⌜ StopsAt (now (line .entry)) r ⌝ }
 {
-    formula::stop(line)
+    compiling::formula_stop(line)
 }
