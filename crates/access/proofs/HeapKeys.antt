@@ -1,5 +1,5 @@
 -- The keys of the instructions that may need a heap.
-use Prim.Native.Nat.{ℕ, zero, suc, _+_, _≤_, _<_}
+use Prim.Native.Nat.{ℕ, zero, suc, _+_, _≤_}
 use native.Mathlib.Omega.{arith}
 use mathlib.Core.Path.{_≡_, refl, sym, ap, _∙_, subst}
 use mathlib.Core.Bool.{Bool, true, false, _&&_, _||_, true≢false}
@@ -14,9 +14,15 @@ use Rattle.soundness.specs.Tests.{none-some, some-inj, and-both}
 use Rattle.soundness.specs.Walks.{size-some}
 use Rattle.soundness.specs.Framed.{heapless}
 use Rattle.soundness.specs.Numbering.{keyTable}
-use Rattle.keys.specs.Keys.{Says, Outside, each, among}
+use Rattle.keys.specs.Keys.{decoded, Says, Outside, each, among}
+use Rattle.keys.specs.declared.Decoded.the-variants as Decoded
+use Rattle.keys.proofs.Places.{at-end, at-key, says-key}
 
 -- ---- the instruction at a place, by its key
+
+-- its key, as it is decoded, is its byte
+pub byte-is : (code : List ℕ) (q stop b : ℕ) → decoded code q stop ≡ Decoded.Instruction b → (i : Instruction) → Says code q i → byte code q ≡ b
+byte-is code q stop b e i s = sym (says-key code q i s) ∙ sym (at-key code q stop b e .1)
 
 -- j of the word behind it, which one that stands alone does not read
 module _ (code : List ℕ) (q k : ℕ) (j : ℕ → Instruction) (key : byte code q ≡ k) (is : (w : ℕ) → instructionOf (opcodeOf keyTable k) w ≡ some (j w)) (i : Instruction) (s : Says code q i) where
@@ -84,5 +90,9 @@ no-other code q b i e o s h =
         ) refl
 
 -- an instruction has a byte
-pub starts-inside : (code : List ℕ) (q : ℕ) (i : Instruction) → Says code q i → q < length code
+pub starts-inside : (code : List ℕ) (q : ℕ) (i : Instruction) → Says code q i → q + 1 ≤ length code
 starts-inside code q i s = omega (arith, s .whole, size-some i)
+
+-- and a body that goes on behind it does not end before it
+pub no-end : {P : Type 0} (code : List ℕ) (q : ℕ) → decoded code q (q + 1) ≡ Decoded.End → P
+no-end code q e = absurd (let z : q + 1 ≤ q = at-end code q (q + 1) e in omega arith)

@@ -12,6 +12,7 @@ ghost use Rattle.keys.specs.Keys.{Says};
 ghost use Rattle.state.specs.State.{ReadyOn};
 ghost use Rattle.access.specs.Access.{HeapReady, AccessIs};
 use format::Sections;
+use keys::Decoded;
 use state::Progress;
 use state::Registers;
 
@@ -21,10 +22,11 @@ pub mod pointers;
 pub mod shelf;
 mod targets;
 
-// No run ends with this: here every key is that of an instruction that may need a heap.
+// No run ends with this: here stands an instruction, one that may need a heap.
 const NEVER: u32 = 0;
 
-// The instruction at the place, which may need a heap, done over it.
+// The instruction at the place, which may need a heap, done over it. Since one stands there, its body goes on at least to the next place;
+// with that for the end, decoding tests nothing.
 pub fn step(
     file: &[u8],
     c: Sections,
@@ -46,8 +48,11 @@ pub fn step(
 {
     let at = c.code + c.extent;
     let d = &file[at..];
-    let place = r.place;
-    match code[place] {
+    let decoded = keys::decode(code, r.place, r.place + 1);
+    let Decoded::Instruction(key) = decoded else {
+        return Progress::Stops(NEVER);
+    };
+    match key {
         0x06 => blocks::flea(d, code, cap, size, r, g, p, t, cells, table),
         0x07 => pointers::tload(d, cap, size, r, g, p, t, cells, table),
         0x08 => pointers::tstore(d, cap, size, r, g, p, t, cells, table),

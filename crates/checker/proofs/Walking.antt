@@ -23,8 +23,8 @@ use Rattle.soundness.specs.Forced.{along, forced-given}
 use Rattle.soundness.specs.Readable.{Has, orderly, has-end, place-inside}
 use Rattle.soundness.specs.Cutting.{good-file}
 use Rattle.soundness.specs.Walks.{ends, size-some}
-use Rattle.keys.specs.Keys.{fetched, Keyed}
-use Rattle.keys.specs.declared.Fetched.the-variants.{Key, End}
+use Rattle.keys.specs.Keys.{decoded, Keyed}
+use Rattle.keys.specs.declared.Decoded.the-variants as Decoded
 use Rattle.keys.proofs.Places.{at-end, at-key}
 use Rattle.keys.proofs.Files.{code-long}
 use Rattle.transfer.specs.Transfers.{KeyAt, Moves}
@@ -199,24 +199,24 @@ module _ (s : List ℕ) (c : Sections) (table : List ℕ) (owner : ℕ) (room₀
   pub walk-less : (p q : ℕ) (l : Lists) → p + 1 ≤ q → Stands s (bodyOf owner) q l → e - q < e - p
   walk-less p q l h at = let x : q ≤ e = walk-bounds q l at .0 in omega arith
 
-  -- ---- what is fetched at a place of the body
+  -- ---- what is decoded at a place of the body
 
   module _ (code : List ℕ) (k : Keyed s code 0) (p : ℕ) (l : Lists) (at : Stands s (bodyOf owner) p l) where
-    pub fetch-fits : e ≤ length code
-    fetch-fits =
+    pub decode-fits : e ≤ length code
+    decode-fits =
         let x : e ≤ c .extent = walk-bounds p l at .1 in
         let y : codeLength s ≤ length code = code-long s code 0 k (w .readable) in
         let z : c .extent ≡ codeLength s = w .packed .extent-is in omega arith
 
-    pub fetched-late : fetched code p e ≡ End → bodyEnd (bodiesIn s) (bodyOf owner) ≤ p
-    fetched-late q = let x : e ≤ p = at-end code p e q in omega arith
+    pub decoded-late : decoded code p e ≡ Decoded.End → bodyEnd (bodiesIn s) (bodyOf owner) ≤ p
+    decoded-late q = let x : e ≤ p = at-end code p e q in omega arith
 
-    module _ (b : ℕ) (key : fetched code p e ≡ Key b) where
+    module _ (b : ℕ) (key : decoded code p e ≡ Decoded.Instruction b) where
       early : p < bodyEnd (bodiesIn s) (bodyOf owner)
       early = let x : p < e = at-key code p e b key .0 in omega arith
 
-      pub fetched-key : KeyAt code p b
-      fetched-key = key-at s c (w .packed) (w .readable) code k owner (w .has) p (at .place) early b (at-key code p e b key .1)
+      pub decoded-key : KeyAt code p b
+      decoded-key = key-at s c (w .packed) (w .readable) code k owner (w .has) p (at .place) early b (at-key code p e b key .1)
 
-      pub fetched-moved : (st : List ℕ) (a : Transfer) (st′ : List ℕ) → Moves (read s) (bodyOf owner) b (word 4 code (p + 1)) p st a st′ → Moved s owner p st a st′
-      fetched-moved = moved s c (w .packed) (w .readable) code k owner (w .has) p (at .place) early b (at-key code p e b key .1)
+      pub decoded-moved : (st : List ℕ) (a : Transfer) (st′ : List ℕ) → Moves (read s) (bodyOf owner) b (word 4 code (p + 1)) p st a st′ → Moved s owner p st a st′
+      decoded-moved = moved s c (w .packed) (w .readable) code k owner (w .has) p (at .place) early b (at-key code p e b key .1)

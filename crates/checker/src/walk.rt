@@ -10,7 +10,7 @@ ghost use Rattle.records.specs.Record.{listsOf, Holds, Labelled};
 ghost use Rattle.nodes.specs.Nodes.{doneOf};
 ghost use Rattle.checker.specs.Work.{Working, Standing, Recorded, WalkedIn, Left, Heads, targets, Turned, TurnLeads};
 use format::Sections;
-use keys::Fetched;
+use keys::Decoded;
 use records::Transfer;
 
 // The number of the entry.
@@ -160,11 +160,11 @@ pub(crate) fn walk(
     let e = nodes::starts::end(file, c, owner);
     let mut at = p;
     loop {
-        let found = keys::fetch(code, at, e);
-        let Fetched::Key(b) = found else {
+        let decoded = keys::decode(code, at, e);
+        let Decoded::Instruction(key) = decoded else {
             return owner == ENTRY;
         };
-        let next = transfer::transfer(file, c, code, owner, at, b, st);
+        let next = transfer::transfer(file, c, code, owner, at, key, st);
         let turn = follow(file, c, table, owner, e, at + 1, next, room, marks, st);
         match turn {
             Turn::Breaks => {

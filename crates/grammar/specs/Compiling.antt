@@ -2,14 +2,15 @@
 use mathlib.Core.Path.{_≡_, refl, sym, ap, subst}
 use Prim.Native.Nat.{ℕ, _≤_, _<_}
 use native.Mathlib.Omega.{arith}
-use mathlib.Core.Bool.{false}
+use mathlib.Core.Bool.{false, cond}
 use mathlib.Core.Option.{Option, none, some}
 use mathlib.Core.List.{List, [], _∷_}
 use lib.ListN.{length, take, drop}
 use lib.Seq.{take-append-seam}
 use lib.Dec.{ltb}
-use Rattle.soundness.specs.Names.{int, Unwritten, Written}
+use Rattle.soundness.specs.Names.{int, Untyped, Accepted, WriteAnswer, Unwritten, Written}
 use Rattle.rules.specs.Bytes.{number, bytes, word}
+use Rattle.rules.specs.Numbers.{output-too-short, line-too-long, not-in-grammar, too-deep, too-many-operands}
 use Rattle.rules.specs.Tables.{moduleOf}
 use Rattle.rules.specs.ModuleFile.{labels, tablesIn, refusal, read}
 use Rattle.rules.specs.Writing.{fileOf}
@@ -17,22 +18,22 @@ use Rattle.rules.specs.Stack.{slot, Lent, capacity, slotAt, slotsOf, payloadByt
 use Rattle.rules.specs.Instructions.{num}
 use Rattle.rules.specs.Heap.{LentHeap, heapCapacity}
 use Rattle.rules.specs.Machine.{Outcome, run}
-use Rattle.rules.specs.Answers.{topSlot, arguments, runRefusal, scanRefusal, outcomeOf, ran, runModule}
+use Rattle.rules.specs.Answers.{check, topSlot, arguments, runRefusal, scanRefusal, outcomeOf, ran, runModule}
 use Rattle.rules.specs.Demand3.{IsAccepted}
 use Rattle.rules.specs.Grammar.{Tree, Line, depth}
 use Rattle.rules.specs.Reading.{reading}
 use Rattle.rules.specs.Formula.{need, formulaTables, value, compiling, formula}
 use Rattle.rules.specs.Compiled.{parameters, threeInts, GivesValue, Compiles}
 use Rattle.memory.proofs.Words.{number-bytes}
-use Rattle.soundness.specs.Tests.{decide, ltb-isnt, ltb-yes, leb-yes}
+use Rattle.soundness.specs.Tests.{decide, ltb-is, ltb-isnt, ltb-yes, ltb-no, leb-yes}
 use Rattle.soundness.specs.Cutting.{labels-length}
 use Rattle.soundness.specs.Saves.{file-readable}
-use Rattle.soundness.specs.Whole.{demand3}
 use Rattle.grammar.specs.Unique.{line-reads, unique}
 use Rattle.grammar.specs.Derived.{reading-spells}
 use Rattle.grammar.specs.Proper.{Proper, spells-proper, count, postfix-count, spells-count}
 use Rattle.grammar.specs.Evaluated.{here, three, three-small, Fits, value-fits, Ends, code-runs}
-use Rattle.grammar.specs.Typed.{locals, Holds, well-typed}
+use Rattle.grammar.specs.Typed.{locals, Holds}
+use Rattle.grammar.specs.Needed.{check-is}
 use Rattle.grammar.specs.Held.{tables-good, holds}
 
 -- ---- three ints as arguments
@@ -57,7 +58,7 @@ gives (some k) f x y c n o d = (rw (d .1) refl, rw (d .1) (top-is k x f c))
 
 -- ---- the file of a tree of at most 256 instructions
 
-abbrev fileFor : Tree → List ℕ
+abbrev pub fileFor : Tree → List ℕ
 fileFor t = fileOf (formulaTables t)
 
 module _ (t : Tree) (w : Proper t) (few : count t ≤ 256) where
@@ -71,9 +72,11 @@ module _ (t : Tree) (w : Proper t) (few : count t ≤ 256) where
   no-labels = omega (arith, labels-length (fileFor t) (readable .0), ap (λ x. length (x .labels)) (readable .1))
 
   -- in any room
+  tree-checked : (room : List ℕ) → check (fileFor t) room .answer ≡ cond (ltb 32 (need t)) (Untyped 0) Accepted
+  tree-checked room = check-is (fileFor t) t file-holds w (readable .0) room (rw no-labels (omega arith))
+
   tree-accepted : need t ≤ 32 → (room : List ℕ) → IsAccepted (fileFor t) room
-  tree-accepted n room =
-      demand3 .exact (fileFor t) room (readable .0) (rw no-labels (omega arith)) .1 (well-typed (read (fileFor t)) t file-holds w n)
+  tree-accepted n room = rw (tree-checked room, ltb-no 32 (need t) n) refl
 
   module _ (r g b : ℕ) (hr : r < 4294967296) (hg : g < 4294967296) (hb : b < 4294967296) where
     started : runRefusal (fileFor t) 0 (threeInts r g b) ≡ 0
@@ -102,37 +105,49 @@ module _ (t : Tree) (w : Proper t) (few : count t ≤ 256) where
 -- ---- lines
 
 -- a line that is compiled: it is in the grammar, needs at most 32 operands, and the output begins with its file
-record CompiledAs (line out : List ℕ) (n : ℕ) : Type 0 where
+pub record CompiledAs (line out : List ℕ) (n : ℕ) : Type 0 where
   tree : Tree
   derived : Line line tree
   narrow : need tree ≤ 32
   few : count tree ≤ 256
   file : take n (formula line out .output) ≡ fileFor tree
 
-compiled-as : (line out : List ℕ) (n : ℕ) → formula line out .answer ≡ Written n → CompiledAs line out n
-unfolding formula
-compiled-as line out n e = decide (ltb 256 (length line)) (λ z. clash 40 (rw z at e)) (λ z. go (reading line) refl z (rw z at e))
-  where
-    clash : {P : Type 0} (k : ℕ) → Unwritten k ≡ Written n → P
-    clash k q = absurd (let z : _≡_ {A = ℕ} 0 1 = cc in omega arith)
+-- what the answer tells of the line; the refusals but 43 are 16, 40, 41 and 42
+pub data Answered (line out : List ℕ) : WriteAnswer → Type 0 where
+  refused : (k : ℕ) → 0 < k → k < too-many-operands → Answered line out (Unwritten k)
+  overfull : (t : Tree) → Line line t → length line ≤ 256 → 32 < need t → Answered line out (Unwritten too-many-operands)
+  compiled : (n : ℕ) → CompiledAs line out n → Answered line out (Written n)
 
-    go : (x : Option Tree) → reading line ≡ x → ltb 256 (length line) ≡ false → compiling x out .answer ≡ Written n → CompiledAs line out n
-    go none q z e = clash 41 e
-    go (some t) q z e =
-        decide (ltb 16 (depth t)) (λ d. clash 42 (rw d at e))
-        (λ d. decide (ltb 32 (need t)) (λ k. clash 43 (rw (d, k) at e))
-        (λ k. decide (ltb (length out) (length (fileFor t))) (λ l. clash 16 (rw (d, k, l) at e))
-        (λ l.
-        let y : Written (length (fileFor t)) ≡ Written n = rw (d, k, l) at e in
-        let n′ : n ≡ length (fileFor t) = cc in
+pub answered : (line out : List ℕ) → Answered line out (formula line out .answer)
+unfolding formula
+answered line out = decide (ltb 256 (length line)) (λ z. rw z (refused line-too-long (omega arith) (omega arith))) (λ z. rw z (go (reading line) refl z))
+  where
+    go : (x : Option Tree) → reading line ≡ x → ltb 256 (length line) ≡ false → Answered line out (compiling x out .answer)
+    go none q z = refused not-in-grammar (omega arith) (omega arith)
+    go (some t) q z =
         let h : Line line t = reading-spells line t q in
-        record {
+        let short : length line ≤ 256 = ltb-isnt 256 (length line) z in
+        decide (ltb 16 (depth t)) (λ d. rw d (refused too-deep (omega arith) (omega arith)))
+        (λ d. decide (ltb 32 (need t)) (λ k. rw (d, k) (overfull t h short (ltb-is 32 (need t) k)))
+        (λ k. decide (ltb (length out) (length (fileFor t))) (λ l. rw (d, k, l) (refused output-too-short (omega arith) (omega arith)))
+        (λ l.
+        rw (d, k, l)
+        (compiled (length (fileFor t))
+        (record {
           tree = t;
           derived = h;
           narrow = ltb-isnt 32 (need t) k;
-          few = omega (arith, spells-count h, ltb-isnt 256 (length line) z);
-          file = rw (z, q, d, k, l, n′) (take-append-seam (fileFor t) (drop (length (fileFor t)) out));
-        })))
+          few = omega (arith, spells-count h);
+          file = rw (z, q, d, k, l) (take-append-seam (fileFor t) (drop (length (fileFor t)) out));
+        })))))
+
+compiled-as : (line out : List ℕ) (n : ℕ) → formula line out .answer ≡ Written n → CompiledAs line out n
+compiled-as line out n e = go (answered line out) e
+  where
+    go : {a : WriteAnswer} → Answered line out a → a ≡ Written n → CompiledAs line out n
+    go (refused k l u) q = absurd (let z : _≡_ {A = ℕ} 0 1 = cc in omega arith)
+    go (overfull t d l k) q = absurd (let z : _≡_ {A = ℕ} 0 1 = cc in omega arith)
+    go (compiled n′ c) q = let z : n′ ≡ n = cc in subst (CompiledAs line out) z c
 
 pub compiles : Compiles
 compiles =
@@ -141,6 +156,7 @@ compiles =
       read = λ s t d. line-reads d;
       unique = λ s t u a b. unique a b;
       unique-within = λ d s t u a b. unique (a .line) (b .line);
+      needed = λ line t d l room. tree-checked t (spells-proper d) (omega (arith, spells-count d)) room;
       accepted = λ line out n e room. let c = compiled-as line out n e in rw (c .file) (tree-accepted (c .tree) (spells-proper (c .derived)) (c .few) (c .narrow) room);
       gives = λ line out n e r g b hr hg hb scan A x y l k.
           let c = compiled-as line out n e in

@@ -7,5 +7,6 @@ pub mod Proper
 pub mod Coded
 pub mod Evaluated
 pub mod Typed
+pub mod Needed
 pub mod Held
 pub mod Compiling

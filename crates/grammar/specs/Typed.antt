@@ -36,7 +36,7 @@ pub record Holds (m : Module) (t : Tree) : Type 0 where
 
 -- ---- the lists at each place
 
-abbrev operands : ℕ → List Ty
+abbrev pub operands : ℕ → List Ty
 operands d = replicate d (num int)
 
 -- the operands after an instruction
@@ -100,7 +100,7 @@ module _ (m : Module) where
 
 -- ---- the entry, of no instruction
 
-abbrev empty : Typing
+abbrev pub empty : Typing
 empty p = cond (eqb p 0) (some (lists [] [])) none
 
 empty-is : (p : ℕ) (l : Lists) → empty p ≡ some l → (p ≡ 0) × (l ≡ lists [] [])
@@ -108,19 +108,28 @@ empty-is p l e = decide (eqb p 0) (λ z. (eqb-is p 0 z, some-inj l (lists [] [])
 
 -- ---- a module that holds a tree
 
-loads : (i : ℕ) → i < 3 → at locals i ≡ some (num int)
+pub loads : (i : ℕ) → i < 3 → at locals i ≡ some (num int)
 loads zero h = refl
 loads (suc zero) h = refl
 loads (suc (suc zero)) h = refl
 loads (suc (suc (suc i))) h = absurd (omega arith)
 
+module _ (m : Module) (t : Tree) (held : Holds m t) where
+  pub judged-by : (p : ℕ) (i : Step) (l : Lists) → p < held .stop → m .code p ≡ some (instruction i)
+      → placeFlow m (fn 0) p l ≡ judge m (fn 0) (instruction i) (p + size (instruction i)) (l .locals) (l .operands)
+  judged-by p i l h c = rw (held .is-function) (decide (leb (held .stop) p) (λ z. absurd (omega (arith, leb-is (held .stop) p z))) (λ z. rw (z, c) refl))
+
+  pub entry-consistent : Consistent m entry empty
+  entry-consistent = record {
+    starts = refl;
+    few = λ p l e. rw (empty-is p l e .1) (omega arith, omega arith);
+    inside = λ p l e. rw (empty-is p l e .0) (omega arith, held .entry-place);
+    flows = λ p l e. rw (empty-is p l e .0, held .entry-ends) tt;
+  }
+
 module _ (m : Module) (t : Tree) (held : Holds m t) (w : Proper t) (n : need t ≤ 32) where
   abbrev code-typing : Typing
   code-typing = given 0 0 (steps t)
-
-  judged-by : (p : ℕ) (i : Step) (l : Lists) → p < held .stop → m .code p ≡ some (instruction i)
-      → placeFlow m (fn 0) p l ≡ judge m (fn 0) (instruction i) (p + size (instruction i)) (l .locals) (l .operands)
-  judged-by p i l h c = rw (held .is-function) (decide (leb (held .stop) p) (λ z. absurd (omega (arith, leb-is (held .stop) p z))) (λ z. rw (z, c) refl))
 
   -- the place after an instruction has the operands that it leaves
   abbrev Next : ℕ → ℕ → List Step → Type 0
@@ -188,7 +197,7 @@ module _ (m : Module) (t : Tree) (held : Holds m t) (w : Proper t) (n : need t �
 
   found-flows : (q : ℕ) (l : Lists) → Found q l → Flows (Gives code-typing) (placeFlow m (fn 0) q l)
   found-flows q l f =
-      rw (judged-by q (f .at-it) l (f .laid .0) (f .laid .1), f .shown)
+      rw (judged-by m t held q (f .at-it) l (f .laid .0) (f .laid .1), f .shown)
       (step-flows q (f .count) (f .at-it) (f .behind) (f .typed) (next-given q (f .count) (f .at-it) (f .behind) (f .agrees)))
 
   code-typed : Typed m 0 (steps t)
@@ -211,14 +220,6 @@ module _ (m : Module) (t : Tree) (held : Holds m t) (w : Proper t) (n : need t �
     flows = λ p l e. found-flows p l (found p l e);
   }
 
-  entry-consistent : Consistent m entry empty
-  entry-consistent = record {
-    starts = refl;
-    few = λ p l e. rw (empty-is p l e .1) (omega arith, omega arith);
-    inside = λ p l e. rw (empty-is p l e .0) (omega arith, held .entry-place);
-    flows = λ p l e. rw (empty-is p l e .0, held .entry-ends) tt;
-  }
-
   other-consistent : (k : ℕ) → Consistent m (fn (suc k)) (λ p. none)
   other-consistent k = record { starts = rw (held .no-other k) tt; few = λ p l e. none-some e; inside = λ p l e. none-some e; flows = λ p l e. none-some e }
 
@@ -231,6 +232,6 @@ module _ (m : Module) (t : Tree) (held : Holds m t) (w : Proper t) (n : need t �
   well-typed = record { typing = typings; consistent = all }
     where
       all : (b : Body) → Consistent m b (typings b)
-      all entry = entry-consistent
+      all entry = entry-consistent m t held
       all (fn zero) = code-consistent
       all (fn (suc k)) = other-consistent k

@@ -12,31 +12,31 @@ use Rattle.rules.specs.declared.Instruction.{Instruction}
 use Rattle.rules.specs.Bytes.{byte, word}
 use Rattle.rules.specs.Instructions.{Opcode, absent, bare, wide, opcodeOf, isAbsent, instructionOf}
 use Rattle.soundness.specs.Numbering.{keyTable}
-use Rattle.keys.specs.declared.Fetched.the-variants.{Key, End}
-use Rattle.keys.specs.Keys.{fetched, Says, Known}
+use Rattle.keys.specs.declared.Decoded.the-variants as Decoded
+use Rattle.keys.specs.Keys.{decoded, Says, Known}
 
-pub fetched-end : (code : List ℕ) (q stop : ℕ) → stop ≤ q → End ≡ fetched code q stop
-unfolding fetched
-fetched-end code q stop h = rw (le-leb stop q h) refl
+pub decoded-end : (code : List ℕ) (q stop : ℕ) → stop ≤ q → Decoded.End ≡ decoded code q stop
+unfolding decoded
+decoded-end code q stop h = rw (le-leb stop q h) refl
 
-pub fetched-key : (code : List ℕ) (q stop : ℕ) → q < stop → Key (byte code q % 64) ≡ fetched code q stop
-unfolding fetched
-fetched-key code q stop h = rw (lt-leb stop q h) refl
+pub decoded-key : (code : List ℕ) (q stop : ℕ) → q < stop → Decoded.Instruction (byte code q % 64) ≡ decoded code q stop
+unfolding decoded
+decoded-key code q stop h = rw (lt-leb stop q h) refl
 
 module _ (code : List ℕ) (q stop : ℕ) where
-  pub at-end : fetched code q stop ≡ End → stop ≤ q
-  unfolding fetched
+  pub at-end : decoded code q stop ≡ Decoded.End → stop ≤ q
+  unfolding decoded
   at-end e = go (leb stop q) refl e
     where
-      go : (x : Bool) → leb stop q ≡ x → cond x End (Key (byte code q % 64)) ≡ End → stop ≤ q
+      go : (x : Bool) → leb stop q ≡ x → cond x Decoded.End (Decoded.Instruction (byte code q % 64)) ≡ Decoded.End → stop ≤ q
       go true y f = leb-true stop q y
       go false y f = absurd (let z : _≡_ {A = ℕ} 0 1 = cc in omega arith)
 
-  pub at-key : (b : ℕ) → fetched code q stop ≡ Key b → (q < stop) × (b ≡ byte code q % 64)
-  unfolding fetched
+  pub at-key : (b : ℕ) → decoded code q stop ≡ Decoded.Instruction b → (q < stop) × (b ≡ byte code q % 64)
+  unfolding decoded
   at-key b e = go (leb stop q) refl e
     where
-      go : (x : Bool) → leb stop q ≡ x → cond x End (Key (byte code q % 64)) ≡ Key b → (q < stop) × (b ≡ byte code q % 64)
+      go : (x : Bool) → leb stop q ≡ x → cond x Decoded.End (Decoded.Instruction (byte code q % 64)) ≡ Decoded.Instruction b → (q < stop) × (b ≡ byte code q % 64)
       go true y f = absurd (let z : _≡_ {A = ℕ} 0 1 = cc in omega arith)
       go false y f = (leb-false stop q y, cc)
 

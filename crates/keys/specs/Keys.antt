@@ -13,14 +13,14 @@ use Rattle.rules.specs.Instructions.{opcodeOf, isAbsent, instructionOf, size}
 use Rattle.rules.specs.ModuleFile.{edition, codeIn}
 use Rattle.soundness.specs.Numbering.{keyTable}
 use Rattle.soundness.specs.Translated.{InKeys}
-use Rattle.keys.specs.declared.Fetched.{Fetched}
-use Rattle.keys.specs.declared.Fetched.the-variants.{Key, End}
+use Rattle.keys.specs.declared.Decoded.{Decoded}
+use Rattle.keys.specs.declared.Decoded.the-variants as Decoded
 
 -- ---- at a place
 
--- what stands at place q of a body that ends at `stop`
-unfoldable pub fetched : List ℕ → ℕ → ℕ → Fetched
-fetched code q stop = cond (leb stop q) End (Key (byte code q % 64))
+-- what is decoded at place q of a body that ends at `stop`
+unfoldable pub decoded : List ℕ → ℕ → ℕ → Decoded
+decoded code q stop = cond (leb stop q) Decoded.End (Decoded.Instruction (byte code q % 64))
 
 -- the bytes at place q of the code are the key of the instruction i and its word, and all of them are there
 pub record Says (code : List ℕ) (q : ℕ) (i : Instruction) : Type 0 where

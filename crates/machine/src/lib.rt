@@ -8,7 +8,7 @@ ghost use Rattle.keys.specs.Keys.{Keyed};
 ghost use Rattle.state.specs.State.{stateOf};
 ghost use Rattle.machine.specs.Ends.{left, endWith, endAtStop, Fits, RunsTo};
 use format::Sections;
-use keys::Fetched;
+use keys::Decoded;
 use state::Progress;
 use state::Registers;
 
@@ -74,14 +74,14 @@ pub fn run_from(
     let mut r = first;
     let mut rest = allowance;
     loop {
-        let fetched = keys::fetch(code, r.place, r.stop);
-        let Fetched::Key(b) = fetched else {
+        let decoded = keys::decode(code, r.place, r.stop);
+        let Decoded::Instruction(key) = decoded else {
             return at_end(r, rest, f);
         };
         if rest == 0 {
             return ending(ALLOWANCE_USED_UP, rest, r);
         }
-        let a = steps::step(file, c, pool, code, cap, r, b, p, t, f);
+        let a = steps::step(file, c, pool, code, cap, r, key, p, t, f);
         match a {
             Progress::Goes(q) => {
                 r = q;

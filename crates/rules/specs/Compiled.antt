@@ -1,19 +1,21 @@
 -- 02, A4: what is claimed of formula lines, as a statement; its proof is `compiles` of the crate grammar.
 use mathlib.Core.Path.{_≡_}
 use Prim.Native.Nat.{ℕ, zero, suc, _^_, _≤_, _<_}
+use mathlib.Core.Bool.{cond}
 use mathlib.Core.Option.{Option, none, some}
 use mathlib.Core.List.{List, [], _∷_}
-use lib.ListN.{take}
+use lib.ListN.{length, take}
+use lib.Dec.{ltb}
 use Rattle.rules.specs.Numbers.{done, arithmetic-divide-by-zero}
 use Rattle.rules.specs.Stack.{slot, Lent, capacity}
 use Rattle.rules.specs.Heap.{LentHeap}
-use Rattle.rules.specs.Writing.{Written}
-use Rattle.rules.specs.Answers.{runNumber, valueOut, Ran, runModule}
+use Rattle.rules.specs.Writing.{Written, fileOf}
+use Rattle.rules.specs.Answers.{Untyped, Accepted, check, runNumber, valueOut, Ran, runModule}
 use Rattle.rules.specs.Demand3.{IsAccepted}
 use Rattle.rules.specs.Files.{lent}
 use Rattle.rules.specs.Grammar.{Tree, Line, LineWithin}
 use Rattle.rules.specs.Reading.{reading}
-use Rattle.rules.specs.Formula.{value, formula}
+use Rattle.rules.specs.Formula.{need, formulaTables, value, formula}
 
 -- "the names r, g, b for parameters 0 to 2"
 abbrev pub parameters : ℕ → ℕ → ℕ → ℕ → ℕ
@@ -42,6 +44,10 @@ pub record Compiles : Type 0 where
   -- "show that no line has two readings", without and with the depth limit
   pub unique : (s : List ℕ) (t u : Tree) → Line s t → Line s u → t ≡ u
   pub unique-within : (d : ℕ) (s : List ℕ) (t u : Tree) → LineWithin d s t → LineWithin d s u → t ≡ u
+  -- "43 a typing would need over 32 operands": exactly then the check of the module of a line's reading, however deep, answers 11 with its
+  -- function, and else 0. The module has no labels, so any room is enough
+  pub needed : (line : List ℕ) (t : Tree) → Line line t → length line ≤ 256 → (room : List ℕ)
+      → check (fileOf (formulaTables t)) room .answer ≡ cond (ltb 32 (need t)) (Untyped 0) Accepted
   -- "Every accepted line's module passes the checker"
   pub accepted : (line out : List ℕ) (n : ℕ) → formula line out .answer ≡ Written n → (room : List ℕ) → IsAccepted (take n (formula line out .output)) room
   -- "run with allowance 257 and 35 slots, or more, it gives the reading's value in wrapping unsigned ints, or 24 where a quotient is by zero"

@@ -88,8 +88,14 @@ pub answers : (formulaNow (nest 16) (nines 74) .answer ≡ Written 74) × (formu
     × (formulaNow (nest 17 ++ (41 ∷ [])) [] .answer ≡ Unwritten 41) × (formulaNow (nest 40 ++ (43 ∷ [])) [] .answer ≡ Unwritten 41)
     × (formulaNow (wide 15) [] .answer ≡ Unwritten 16) × (formulaNow (wide 16) [] .answer ≡ Unwritten 43) × (formulaNow (wide 17) [] .answer ≡ Unwritten 42)
     × (formulaNow (times 256 (32 ∷ []) ++ (114 ∷ [])) [] .answer ≡ Unwritten 40) × (formulaNow (times 255 (32 ∷ []) ++ (114 ∷ [])) (nines 74) .answer ≡ Written 74)
+    -- 40 before 41; minuses and brackets side by side are not deep; of r+r+.. one operand waits, and minuses need none
+    × (formulaNow (times 257 (32 ∷ [])) [] .answer ≡ Unwritten 40) × (formulaNow (times 17 (45 ∷ []) ++ (114 ∷ [])) [] .answer ≡ Unwritten 16)
+    × (formulaNow (times 17 (40 ∷ 114 ∷ 41 ∷ 43 ∷ []) ++ (114 ∷ [])) [] .answer ≡ Unwritten 16) × (formulaNow (times 33 (114 ∷ 43 ∷ []) ++ (114 ∷ [])) [] .answer ≡ Unwritten 16)
+    × (formulaNow (times 33 (45 ∷ []) ++ (114 ∷ [])) [] .answer ≡ Unwritten 16)
+    -- a refusal leaves the output
+    × (formulaNow (times 257 (32 ∷ [])) (nines 3) .output ≡ nines 3) × (formulaNow [] (nines 3) .output ≡ nines 3) × (formulaNow (nest 17) (nines 3) .output ≡ nines 3) × (formulaNow (wide 16) (nines 3) .output ≡ nines 3)
 unfolding formulaNow
-answers = (refl, refl, refl, refl, refl, refl, refl, refl, refl, refl)
+answers = (refl, refl, refl, refl, refl, refl, refl, refl, refl, refl, refl, refl, refl, refl, refl, refl, refl, refl, refl)
 
 -- ---- modules: (r*3+g)/4 on 100, 20, 5; r/(g-20) on the same; -b; 2-3; 6/-2
 

@@ -1,10 +1,11 @@
 -- A table that is not of the paper: 02's A6, runs of edition 4 on a heap of four cells, each new exception, what has a typing, and files.
 use mathlib.Core.Path.{_≡_, refl}
 use Prim.Native.Nat.{ℕ, zero, suc, _+_, _-_, _*_, _^_}
+use mathlib.Core.Bool.{true, false}
 use mathlib.Core.List.{List, [], _∷_, _++_}
 use lib.ListN.{length, set, take}
 use Rattle.rules.specs.Bytes.{bytes, zeros}
-use Rattle.rules.specs.Instructions.{Instruction, tload, new, delete, flea}
+use Rattle.rules.specs.Instructions.{Instruction, two, cmp, tload, new, delete, flea}
 use Rattle.rules.specs.Tables.{entry}
 use Rattle.rules.specs.ModuleFile.{read}
 use Rattle.rules.specs.Stack.{Slot, slot, Lent}
@@ -14,13 +15,13 @@ use Rattle.rules.specs.Answers.{CheckAnswer, Untyped, Accepted, runNumbe
 use Rattle.rules.specs.Files.{PUSH, POP, LOAD, STORE, LEA, TLOAD, TSTORE, COPY, SWAP, ADD, INC, DEC, CMP, ICMP, TOI, CALL, RET, FLEA, NULL, NEW, DELETE, Fn, function, file, file4, nines, payloadsUp, typesIn, lent, scratch, scratchHeap}
 use Rattle.rules.specs.Evaluate.{refusalNow, checkNow, runHeapNow}
 
--- int 5, long 7, double 1.0
+-- int 5, long 7, double 1.0, long -1
 abbrev constants : List (ℕ × ℕ)
-constants = (3, 5) ∷ (4, 7) ∷ (6, 0x3ff0000000000000) ∷ []
+constants = (3, 5) ∷ (4, 7) ∷ (6, 0x3ff0000000000000) ∷ (4, 0xffffffffffffffff) ∷ []
 
--- 10: an int and a double; 11: a long
+-- 10: an int and a double; 11: a long; 12: three ints
 abbrev shapes : List (List ℕ)
-shapes = (3 ∷ 6 ∷ []) ∷ (4 ∷ []) ∷ []
+shapes = (3 ∷ 6 ∷ []) ∷ (4 ∷ []) ∷ (3 ∷ 3 ∷ 3 ∷ []) ∷ []
 
 -- 0 () to a pointer to structure 10; 1 (pointer to int), none; 2 (pointer to structure 10) to the same
 abbrev functions : List Fn
@@ -76,9 +77,17 @@ rows =
     ∷ row (NEW 3 ++ (COPY ++ DEC)) 0 3 ((7, A 1) ∷ []) ((1, 0, 3) ∷ []) (0xffffffff ∷ 0 ∷ 0 ∷ 0 ∷ []) ∷ row (NEW 4 ++ (COPY ++ DEC)) 0 3 ((7, A 1) ∷ []) ((1, 0, 4) ∷ []) (0xffffffffffffffff ∷ 0 ∷ 0 ∷ 0 ∷ [])
     ∷ row (NEW 3 ++ (NEW 11 ++ (COPY ++ (FLEA 0 ++ (PUSH 1 ++ TSTORE))))) 0 6 ((7, A 1) ∷ (7, A 2) ∷ []) ((1, 0, 3) ∷ (2, 1, 11) ∷ []) (0 ∷ 7 ∷ 0 ∷ 0 ∷ []) ∷ row (NEW 10 ++ (FLEA 1 ++ TLOAD)) 0 3 ((6, 0) ∷ []) ((1, 0, 10) ∷ []) empty
     ∷ row (CALL 0 ++ FLEA 1) 0 4 ((7, F 1 1) ∷ []) ((1, 0, 10) ∷ []) empty ∷ row (NEW 10 ++ (CALL 2 ++ FLEA 0)) 0 5 ((7, F 1 0) ∷ []) ((1, 0, 10) ∷ []) empty ∷ row (PUSH 0 ++ CALL 2) 22 1 ((3, 5) ∷ []) [] empty
+    -- of two blocks the older is written, shown and read; the newer is freed and the older stays; each field is its own; a run of three
+    ∷ row (NEW 3 ++ (COPY ++ (PUSH 0 ++ (TSTORE ++ NEW 3)))) 0 5 ((7, A 1) ∷ (7, A 2) ∷ []) ((1, 0, 3) ∷ (2, 1, 3) ∷ []) (5 ∷ 0 ∷ 0 ∷ 0 ∷ [])
+    ∷ row (NEW 3 ++ (NEW 3 ++ (SWAP ++ (COPY ++ (PUSH 0 ++ TSTORE))))) 0 6 ((7, A 2) ∷ (7, A 1) ∷ []) ((1, 0, 3) ∷ (2, 1, 3) ∷ []) (5 ∷ 0 ∷ 0 ∷ 0 ∷ [])
+    ∷ row (NEW 3 ++ (NEW 3 ++ DELETE)) 0 3 ((7, A 1) ∷ []) ((1, 0, 3) ∷ []) empty
+    ∷ row (NEW 10 ++ (COPY ++ (FLEA 0 ++ (PUSH 0 ++ (TSTORE ++ (FLEA 1 ++ TLOAD)))))) 0 7 ((6, 0) ∷ []) ((1, 0, 10) ∷ []) (5 ∷ 0 ∷ 0 ∷ 0 ∷ [])
+    ∷ row (NEW 12 ++ NEW 3) 0 2 ((7, A 1) ∷ (7, A 2) ∷ []) ((1, 0, 12) ∷ (2, 3, 3) ∷ []) empty
     -- null: 36, and nothing to `delete`; compared by payload
     ∷ row (NULL ++ TLOAD) 36 1 ((7, N) ∷ []) [] empty ∷ row (NULL ++ (PUSH 0 ++ TSTORE)) 36 2 ((7, N) ∷ (3, 5) ∷ []) [] empty ∷ row (NULL ++ INC) 36 1 ((7, N) ∷ []) [] empty ∷ row (NULL ++ DELETE) 0 2 [] [] empty ∷ row DELETE 21 0 [] [] empty
     ∷ row (NULL ++ (NEW 3 ++ CMP)) 0 3 ((3, 1) ∷ []) ((1, 0, 3) ∷ []) empty ∷ row (NULL ++ (NEW 3 ++ ICMP)) 0 3 ((3, 1) ∷ []) ((1, 0, 3) ∷ []) empty ∷ row (local ++ (LEA 0 ++ (NEW 3 ++ ICMP))) 0 5 ((3, 5) ∷ (3, 0xffffffff) ∷ []) ((1, 0, 3) ∷ []) empty
+    -- equal ones; no number is null, and null is no number
+    ∷ row (NULL ++ (NULL ++ ICMP)) 0 3 ((3, 0) ∷ []) [] empty ∷ row (NEW 3 ++ (COPY ++ CMP)) 0 3 ((3, 0) ∷ []) ((1, 0, 3) ∷ []) empty ∷ row (PUSH 3 ++ DELETE) 31 1 ((4, 0xffffffffffffffff) ∷ []) [] empty ∷ row (PUSH 3 ++ TLOAD) 31 1 ((4, 0xffffffffffffffff) ∷ []) [] empty ∷ row (NULL ++ TOI) 32 1 ((7, N) ∷ []) [] empty
     -- 33: freed; a field of what is no structure can't be made; `delete` of a field, of a slot, twice
     ∷ row (NEW 3 ++ (COPY ++ (DELETE ++ TLOAD))) 33 3 ((7, A 1) ∷ []) [] empty ∷ row (NEW 10 ++ (FLEA 0 ++ DELETE)) 33 2 ((7, F 1 0) ∷ []) ((1, 0, 10) ∷ []) empty
     ∷ row (local ++ (LEA 0 ++ DELETE)) 33 3 ((3, 5) ∷ (7, 0) ∷ []) [] empty ∷ row (NEW 3 ++ (COPY ++ (DELETE ++ DELETE))) 33 3 ((7, A 1) ∷ []) [] empty
@@ -87,7 +96,7 @@ rows =
     ∷ row (PUSH 0 ++ DELETE) 31 1 ((3, 5) ∷ []) [] empty ∷ row (PUSH 0 ++ FLEA 0) 31 1 ((3, 5) ∷ []) [] empty ∷ row (FLEA 0) 21 0 [] [] empty ∷ row (NULL ++ FLEA 9) 36 1 ((7, N) ∷ []) [] empty
     ∷ row (NEW 3 ++ FLEA 9) 39 1 ((7, A 1) ∷ []) ((1, 0, 3) ∷ []) empty ∷ row (local ++ (LEA 0 ++ FLEA 9)) 39 3 ((3, 5) ∷ (7, 0) ∷ []) [] empty
     ∷ row (NEW 10 ++ FLEA 2) 38 1 ((7, A 1) ∷ []) ((1, 0, 10) ∷ []) empty ∷ row (NEW 10 ++ (FLEA 1 ++ FLEA 0)) 39 2 ((7, F 1 1) ∷ []) ((1, 0, 10) ∷ []) empty
-    ∷ row (NEW 5) 37 0 [] [] empty ∷ row (NEW 12) 37 0 [] [] empty ∷ row (NEW 9) 37 0 [] [] empty
+    ∷ row (NEW 5) 37 0 [] [] empty ∷ row (NEW 13) 37 0 [] [] empty ∷ row (NEW 9) 37 0 [] [] empty
     ∷ row (NEW 7) 37 0 [] [] empty ∷ row (NEW 131) 37 0 [] [] empty ∷ row (NEW 138) 37 0 [] [] empty ∷ row (NEW 259) 37 0 [] [] empty ∷ row (NEW 0) 37 0 [] [] empty ∷ row (NEW 11) 0 1 ((7, A 1) ∷ []) ((1, 0, 11) ∷ []) empty
     ∷ row (NEW 10 ++ TLOAD) 50 1 ((7, A 1) ∷ []) ((1, 0, 10) ∷ []) empty ∷ row (NEW 10 ++ (PUSH 0 ++ TSTORE)) 50 2 ((7, A 1) ∷ (3, 5) ∷ []) ((1, 0, 10) ∷ []) empty
     ∷ row (NEW 10 ++ INC) 50 1 ((7, A 1) ∷ []) ((1, 0, 10) ∷ []) empty ∷ row (NEW 3 ++ (PUSH 1 ++ TSTORE)) 22 2 ((7, A 1) ∷ (4, 7) ∷ []) ((1, 0, 3) ∷ []) empty
@@ -135,12 +144,13 @@ typed =
     (NEW 10 ++ (FLEA 1 ++ TLOAD)) ∷ (NULL ++ (NEW 3 ++ (CMP ++ POP))) ∷ (NULL ++ DELETE) ∷ (NEW 10 ++ DELETE) ∷ (NEW 3 ++ DELETE) ∷ (NEW 10 ++ (FLEA 0 ++ INC)) ∷ (NULL ++ (NULL ++ ICMP))
     ∷ (local ++ (LEA 0 ++ (NEW 11 ++ CMP))) ∷ (local ++ (LEA 0 ++ DELETE)) ∷ (NEW 10 ++ (FLEA 0 ++ DELETE)) ∷ (NULL ++ (STORE 0 ++ (NULL ++ STORE 0))) ∷ (NULL ++ (NULL ++ SWAP)) ∷ (NULL ++ (COPY ++ POP))
     ∷ (NEW 10 ++ (STORE 0 ++ (NEW 10 ++ STORE 0))) ∷ (CALL 0 ++ (FLEA 0 ++ CALL 1)) ∷ (NEW 10 ++ (CALL 2 ++ (FLEA 1 ++ TLOAD))) ∷ (NEW 3 ++ CALL 1) ∷ (NEW 10 ++ (FLEA 1 ++ (PUSH 2 ++ TSTORE))) ∷ (NEW 10 ++ (NEW 11 ++ CMP)) ∷ (NEW 6 ++ TLOAD)
+    ∷ (NULL ++ (STORE 0 ++ (LOAD 0 ++ DELETE))) ∷ (NEW 10 ++ (NEW 4 ++ ICMP)) ∷ (NEW 4 ++ DELETE) ∷ (NEW 6 ++ DELETE) ∷ (NEW 10 ++ (FLEA 1 ++ INC)) ∷ (NEW 4 ++ DEC)
     ∷ []
 
 pub untyped : List (List ℕ)
 untyped =
     (NULL ++ TLOAD) ∷ (NULL ++ INC) ∷ (NULL ++ (PUSH 0 ++ TSTORE)) ∷ (NULL ++ FLEA 0) ∷ (NEW 10 ++ TLOAD) ∷ (NEW 10 ++ INC) ∷ (NEW 10 ++ (PUSH 0 ++ TSTORE)) ∷ (NEW 3 ++ FLEA 0) ∷ (local ++ (LEA 0 ++ FLEA 0)) ∷ (NEW 10 ++ FLEA 2) ∷ (NEW 11 ++ FLEA 1) ∷ (PUSH 0 ++ FLEA 0) ∷ FLEA 0
-    ∷ (NEW 12) ∷ (NEW 9) ∷ (NEW 5) ∷ (NEW 3 ++ (NEW 4 ++ SWAP)) ∷ (NULL ++ (NEW 3 ++ SWAP)) ∷ (NEW 10 ++ (NEW 11 ++ SWAP)) ∷ (NULL ++ (STORE 0 ++ (NEW 3 ++ STORE 0))) ∷ (NEW 10 ++ (STORE 0 ++ (NEW 11 ++ STORE 0)))
+    ∷ (NEW 13) ∷ (NEW 9) ∷ (NEW 5) ∷ (NEW 3 ++ (NEW 4 ++ SWAP)) ∷ (NULL ++ (NEW 3 ++ SWAP)) ∷ (NEW 10 ++ (NEW 11 ++ SWAP)) ∷ (NULL ++ (STORE 0 ++ (NEW 3 ++ STORE 0))) ∷ (NEW 10 ++ (STORE 0 ++ (NEW 11 ++ STORE 0)))
     ∷ (NULL ++ CALL 1) ∷ (NULL ++ CALL 2) ∷ (NEW 11 ++ CALL 2) ∷ (NEW 4 ++ CALL 1) ∷ (NEW 3 ++ (PUSH 0 ++ CMP)) ∷ (PUSH 0 ++ (NULL ++ ICMP)) ∷ (NEW 3 ++ (PUSH 0 ++ ADD)) ∷ (NEW 3 ++ (NEW 3 ++ ADD)) ∷ (NEW 3 ++ TOI)
     ∷ (PUSH 0 ++ DELETE) ∷ DELETE ∷ (NEW 3 ++ (STORE 0 ++ LEA 0)) ∷ (NEW 10 ++ (FLEA 1 ++ (PUSH 0 ++ TSTORE)))
     ∷ []
@@ -185,6 +195,18 @@ numbers (c ∷ cs) = runNumber (runHeapNow (recipe c) 0xffffffff (record { paylo
 pub ends-table : (answers ends ≡ every Accepted ends) × (numbers ends ≡ 33 ∷ 36 ∷ 36 ∷ 33 ∷ [])
 unfolding answers every numbers ends
 ends-table = (refl, refl)
+
+-- structure 25, of eight ints, takes eight cells; 26 is not there
+abbrev eight : List (List ℕ)
+eight = let one : List ℕ = 3 ∷ [] in one ∷ one ∷ one ∷ one ∷ one ∷ one ∷ one ∷ one ∷ one ∷ one ∷ one ∷ one ∷ one ∷ one ∷ one ∷ (3 ∷ 3 ∷ 3 ∷ 3 ∷ 3 ∷ 3 ∷ 3 ∷ 3 ∷ []) ∷ []
+
+abbrev largest : List ℕ → Ran
+largest c = runHeapNow (file4 [] [] [] c eight) 0xffffffff (lent []) 0 9 (scratch 2) (scratchHeap 9)
+
+pub largest-table :
+    (largest (NEW 25 ++ NEW 10) .heap .table ≡ entryBytes ((1, 0, 25) ∷ (2, 8, 10) ∷ []) ++ (zeros 168 ++ (9 ∷ []))) × (runNumber (largest (NEW 26) .answer) ≡ 37)
+unfolding runHeapNow
+largest-table = (refl, refl)
 
 -- ---- the lent heap: "capacity is the smaller count, at most 4,096, the rest untouched"
 
@@ -239,10 +261,12 @@ pub states-table :
     -- "an address not below the height left .. is 33", of `flea` too: 0 is the pointer's own slot
     × (shownIn (on (flea 0) (slot 7 0 ∷ []) [] 1) ≡ ([], 33)) × (shownIn (on (flea 0) (slot 7 1 ∷ slot 3 5 ∷ []) [] 1) ≡ ([], 33)) × (shownIn (on (flea 0) (slot 7 0 ∷ slot 3 5 ∷ []) [] 1) ≡ ([], 39))
     × (shownIn (on tload (slot 7 65535 ∷ []) [] 1) ≡ ([], 33)) × (shownIn (on tload (slot 7 N ∷ []) [] 1) ≡ ([], 36))
+    -- by the whole payload: serial 1 is below serial 65536
+    × (shownIn (on (two (cmp false)) (slot 7 (A 65536) ∷ slot 7 (A 1) ∷ []) [] 1) ≡ (slot 3 0xffffffff ∷ [], 1)) × (shownIn (on (two (cmp true)) (slot 7 (A 65536) ∷ slot 7 (A 1) ∷ []) [] 1) ≡ (slot 3 0xffffffff ∷ [], 1))
 unfolding on
-states-table = (refl, refl, refl, refl, refl, refl, refl, refl, refl, refl, refl)
+states-table = (refl, refl, refl, refl, refl, refl, refl, refl, refl, refl, refl, refl, refl)
 
--- ---- refusals of edition 4: the header is 56 bytes, the record of function 0 at 56 + 36, the structures last
+-- ---- refusals of edition 4: the header is 56 bytes, the record of function 0 at 56 + 48, the structures last
 
 abbrev whole : List ℕ
 whole = recipe (NEW 10)
@@ -251,25 +275,27 @@ abbrev short : List ℕ
 short = file4 [] [] [] [] []
 
 abbrev sixteen : List (List ℕ)
-sixteen = shapes ++ (shapes ++ (shapes ++ (shapes ++ (shapes ++ (shapes ++ (shapes ++ shapes))))))
+sixteen = let pair : List (List ℕ) = (3 ∷ 6 ∷ []) ∷ (4 ∷ []) ∷ [] in pair ++ (pair ++ (pair ++ (pair ++ (pair ++ (pair ++ (pair ++ pair))))))
 
--- where the structures are: the header, 3 constants, 3 functions, 5 bytes of the entry, 6 + 1 + 6 of the functions
+-- where the structures are: the header, 4 constants, 3 functions, 5 bytes of the entry, 6 + 1 + 6 of the functions
 abbrev at-structures : ℕ
-at-structures = 56 + 36 + 72 + 5 + 13
+at-structures = 56 + 48 + 72 + 5 + 13
 
 pub files : List (List ℕ × ℕ)
 files =
     (whole, 0) ∷ (short, 0) ∷ (take 55 short, 1) ∷ (take 48 short, 1) ∷ (file [] [] [] [], 0) ∷ (set (file [] [] [] []) 0 4, 1) ∷ (set short 0 3, 5) ∷ (set short 4 57, 3) ∷ (set short 44 1, 4)
     -- 4: structures over 16; 5: their offset, the sum
-    ∷ (set short 48 17, 4) ∷ (set short 48 16, 5) ∷ (set short 52 55, 5) ∷ (set whole 48 1, 5)
+    ∷ (set short 48 17, 4) ∷ (set short 48 16, 5) ∷ (set short 52 55, 5) ∷ (set whole 48 1, 5) ∷ (set short 50 1, 4) ∷ (set short 54 1, 5)
+    -- a label of function 1
+    ∷ (file4 [] (function [] 0 (POP ++ RET) ∷ function [] 0 (POP ++ RET) ∷ []) ((1, 3) ∷ []) [] [], 0) ∷ (file4 [] (function [] 0 (POP ++ RET) ∷ function [] 0 (POP ++ RET) ∷ []) ((1, 1) ∷ []) [] [], 9)
     -- 6: field count, types, unused, the zeros
     ∷ (set whole at-structures 0, 6) ∷ (set whole at-structures 9, 6) ∷ (set whole at-structures 1, 6) ∷ (set whole at-structures 3, 6) ∷ (set whole (at-structures + 1) 7, 6) ∷ (set whole (at-structures + 1) 4, 0)
     ∷ (set whole (at-structures + 9) 1, 6) ∷ (set whole (at-structures + 11) 1, 6)
     -- the second record; 6 before 7
-    ∷ (set whole (at-structures + 12) 0, 6) ∷ (set whole (at-structures + 13) 5, 6) ∷ (set (set whole (at-structures + 10) 1) 101 140, 6) ∷ (set whole (at-structures + 8) 3, 6) ∷ (file4 [] [] [] [] ((3 ∷ 4 ∷ 6 ∷ 3 ∷ 4 ∷ 6 ∷ 3 ∷ 4 ∷ []) ∷ []), 0)
-    -- 7: return types and parameters; structure 12 is not declared
-    ∷ (set whole 101 139, 0) ∷ (set whole 101 140, 7) ∷ (set whole 101 137, 7) ∷ (set whole 101 131, 7) ∷ (set whole 101 128, 7) ∷ (set whole 101 202, 7) ∷ (set whole 101 6, 0)
-    ∷ (set whole 126 139, 0) ∷ (set whole 126 140, 7) ∷ (set whole 126 137, 7) ∷ (set whole 126 128, 7) ∷ (set whole 126 195, 7) ∷ (set whole 126 134, 0)
+    ∷ (set whole (at-structures + 12) 0, 6) ∷ (set whole (at-structures + 13) 5, 6) ∷ (set (set whole (at-structures + 10) 1) 113 141, 6) ∷ (set whole (at-structures + 8) 3, 6) ∷ (file4 [] [] [] [] ((3 ∷ 4 ∷ 6 ∷ 3 ∷ 4 ∷ 6 ∷ 3 ∷ 4 ∷ []) ∷ []), 0)
+    -- 7: return types and parameters; structure 13 is not declared
+    ∷ (set whole 113 139, 0) ∷ (set whole 113 141, 7) ∷ (set whole 113 137, 7) ∷ (set whole 113 131, 7) ∷ (set whole 113 128, 7) ∷ (set whole 113 202, 7) ∷ (set whole 113 6, 0)
+    ∷ (set whole 138 139, 0) ∷ (set whole 138 141, 7) ∷ (set whole 138 137, 7) ∷ (set whole 138 128, 7) ∷ (set whole 138 195, 7) ∷ (set whole 138 134, 0)
     -- sixteen structures, 99 hex the last
     ∷ (file4 [] (function (153 ∷ []) 153 (LOAD 0 ++ RET) ∷ []) [] [] sixteen, 0) ∷ (file4 [] (function (154 ∷ []) 0 RET ∷ []) [] [] sixteen, 7)
     -- 8: `top`, 2F, is left out; edition 3 has none of these; an operand is not read from the structures

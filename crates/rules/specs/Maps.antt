@@ -11,12 +11,13 @@ use Rattle.rules.specs.Files.{PUSH, POP, LOAD, TLOAD, DIV, RET, NEW, Fn,
 use Rattle.rules.specs.Evaluate.{mapNow}
 
 -- 0 (int, int) to int, their quotient; 1 (int) none; 2 (pointer to int) to int; 3 () to int, 5; 4 (long, int) to long, the first, made for
--- profile 7; 5 (int) to a pointer to a structure, a new one. The entry does nothing
+-- profile 7; 5 (int) to a pointer to a structure, a new one;
+-- 6 (pointer to int, int) to int. The entry does nothing
 abbrev recipes : List ℕ
 recipes =
     file4 ((3, 5) ∷ [])
     (function (3 ∷ 3 ∷ []) 3 (LOAD 0 ++ (LOAD 1 ++ (DIV ++ RET))) ∷ function (3 ∷ []) 0 RET ∷ function (131 ∷ []) 3 (LOAD 0 ++ (TLOAD ++ RET)) ∷ function [] 3 (PUSH 0 ++ RET)
-    ∷ functionFor 7 (4 ∷ 3 ∷ []) 4 (LOAD 0 ++ RET) ∷ function (3 ∷ []) 138 (NEW 10 ++ RET) ∷ [])
+    ∷ functionFor 7 (4 ∷ 3 ∷ []) 4 (LOAD 0 ++ RET) ∷ function (3 ∷ []) 138 (NEW 10 ++ RET) ∷ function (131 ∷ 3 ∷ []) 3 (LOAD 1 ++ RET) ∷ [])
     [] [] ((3 ∷ []) ∷ [])
 
 abbrev plain : List ℕ
@@ -73,9 +74,9 @@ rows =
     ∷ row 0 (12 ∷ 4 ∷ 9 ∷ 3 ∷ []) 16 9 1 1 (ended 20 [] 16 1 [] 1)
     -- 13: lengths that are no whole rows, or not the same count; a pointer; no result, which the entry has not either
     ∷ row 0 (12 ∷ 4 ∷ []) 9 9 4 1 (untouched 13 9 4 1) ∷ row 0 (12 ∷ []) 4 9 4 1 (untouched 13 4 4 1) ∷ row 0 (12 ∷ 4 ∷ 9 ∷ []) 16 9 4 1 (untouched 13 16 4 1) ∷ row 0 (12 ∷ 4 ∷ 9 ∷ 3 ∷ []) 8 9 4 1 (untouched 13 8 4 1) ∷ row 0 [] 8 9 4 1 (untouched 13 8 4 1)
-    ∷ row 2 (0 ∷ []) 8 9 4 1 (untouched 13 8 4 1) ∷ row 2 [] 0 9 4 1 (untouched 13 0 4 1) ∷ row 1 (5 ∷ []) 8 9 4 1 (untouched 13 8 4 1) ∷ row 0xffffffff [] 8 9 4 1 (untouched 13 8 4 1) ∷ row 0xffffffff [] 0 9 4 1 (untouched 13 0 4 1)
+    ∷ row 2 (0 ∷ []) 8 9 4 1 (untouched 13 8 4 1) ∷ row 2 [] 0 9 4 1 (untouched 13 0 4 1) ∷ row 6 [] 0 9 4 1 (untouched 13 0 4 1) ∷ row 1 (5 ∷ []) 8 9 4 1 (untouched 13 8 4 1) ∷ row 0xffffffff [] 8 9 4 1 (untouched 13 8 4 1) ∷ row 0xffffffff [] 0 9 4 1 (untouched 13 0 4 1)
     -- 12, before 13
-    ∷ row 6 [] 8 9 4 1 (untouched 12 8 4 1) ∷ row 0xfffffffe (12 ∷ []) 9 9 4 1 (untouched 12 9 4 1)
+    ∷ row 7 [] 8 9 4 1 (untouched 12 8 4 1) ∷ row 0xfffffffe (12 ∷ []) 9 9 4 1 (untouched 12 9 4 1)
     -- no parameters: the outputs are the rows
     ∷ row 3 [] 16 9 2 1 (ended 0 (5 ∷ 5 ∷ []) 16 2 ((3, 5) ∷ []) 1) ∷ row 3 (5 ∷ []) 8 9 2 1 (untouched 13 8 2 1)
     -- each row starts without blocks

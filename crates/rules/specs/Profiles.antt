@@ -85,6 +85,13 @@ pub bytes-table :
 unfolding upNow downNow
 bytes-table = (refl, refl, refl, refl, refl, refl)
 
+-- two labels
+pub labels-table :
+    (upNow (file [] [] ((0xffffffff, 0) ∷ (0xffffffff, 1) ∷ []) (POP ++ POP)) (nines 74) ≡ wrote (Written 74) (file4 [] [] ((0xffffffff, 0) ∷ (0xffffffff, 1) ∷ []) (POP ++ POP) []))
+    × (downNow (file4 [] [] ((0xffffffff, 0) ∷ (0xffffffff, 1) ∷ []) (POP ++ POP) []) (nines 66) ≡ wrote (Written 66) (file [] [] ((0xffffffff, 0) ∷ (0xffffffff, 1) ∷ []) (POP ++ POP)))
+unfolding upNow downNow
+labels-table = (refl, refl)
+
 -- a module of edition 4 without structures, its entry of this code
 abbrev coded : List ℕ → List ℕ
 coded code = file4 [] [] [] code []
@@ -105,6 +112,8 @@ files =
     -- 18: a profile, of any function, each byte of the word; a structure, also one that is not used; what edition 3 lacks
     ∷ (fourthFor 1 0, (2, 18)) ∷ (fourthFor 0 1, (2, 18)) ∷ (fourthFor 0 256, (2, 18)) ∷ (fourthFor 0 0xff000000, (2, 18)) ∷ (file4 [] [] [] [] ((3 ∷ []) ∷ []), (2, 18)) ∷ (typed 138 0, (2, 18)) ∷ (typed 3 138, (2, 18)) ∷ (typed 3 3, (2, 18))
     ∷ (coded NULL, (2, 18)) ∷ (coded (NEW 3), (2, 18)) ∷ (coded DELETE, (2, 18)) ∷ (coded (FLEA 0), (2, 18)) ∷ (file4 [] (function [] 0 (RET ++ NULL) ∷ []) [] [] [], (2, 18)) ∷ (coded (PUSH 0 ++ NULL), (2, 18))
+    -- of a third function too
+    ∷ (file4 [] (function [] 0 RET ∷ function [] 0 RET ∷ functionFor 1 [] 0 RET ∷ []) [] [] [], (2, 18))
     -- but not an operand's byte; nor what has no typing
     ∷ (coded (PUSH 0x30303030), (2, 0)) ∷ (coded (PUSH 0x06060606 ++ POP), (2, 0)) ∷ (file [] [] [] (PUSH 0x31313131 ++ POP), (0, 2))
     ∷ []

@@ -14,6 +14,10 @@ use Rattle.rules.specs.Evaluate.{refusalNow}
 abbrev bare : ℕ → ℕ → ℕ → ℕ → ℕ → ℕ → ℕ → List ℕ
 bare t c f l n e z = words (3 ∷ t ∷ c ∷ 48 ∷ f ∷ 48 ∷ l ∷ 48 ∷ n ∷ 48 ∷ e ∷ z ∷ [])
 
+-- a header alone of an edition, of 56 bytes: counts of constants, functions, labels, code length
+abbrev bareIn : ℕ → ℕ → ℕ → ℕ → ℕ → List ℕ
+bareIn w c f l n = words (w ∷ 56 ∷ c ∷ 56 ∷ f ∷ 56 ∷ l ∷ 56 ∷ n ∷ 56 ∷ 0 ∷ 0 ∷ 0 ∷ 56 ∷ [])
+
 -- one function of one int to int after an empty entry: its record is at bytes 48 to 67, its code at 68
 abbrev one : List ℕ
 one = file [] (function (3 ∷ []) 3 (LOAD 0 ++ RET) ∷ []) [] []
@@ -39,12 +43,15 @@ pub rows : List (List ℕ × ℕ)
 rows =
     (w1, 0) ∷ ([], 1) ∷ (take 47 w1, 1) ∷ (take 48 w1, 3)
     -- 2: none of 1, 3 and 4; 2 before 3, 3 before the rest
-    ∷ (set w1 0 0, 2) ∷ (set w1 0 1, 0) ∷ (set w1 0 2, 2) ∷ (set w1 0 5, 2) ∷ (set w1 3 1, 2) ∷ (set (set w1 0 1) 3 1, 2) ∷ (set (set w1 0 5) 4 0, 2) ∷ (w1 ++ (0 ∷ []), 3) ∷ (set w1 4 0x54, 3) ∷ (set (set w1 4 0x54) 44 1, 3)
+    ∷ (set w1 0 0, 2) ∷ (set w1 0 1, 0) ∷ (set w1 0 2, 2) ∷ (set w1 0 5, 2) ∷ (set w1 3 1, 2) ∷ (set (set w1 0 1) 3 1, 2) ∷ (set (set w1 0 5) 4 0, 2) ∷ (w1 ++ (0 ∷ []), 3) ∷ (set w1 4 0x54, 3) ∷ (set w1 6 1, 3) ∷ (set w1 7 1, 3) ∷ (set (set w1 4 0x54) 44 1, 3)
     -- the empty module; 4, each limit, and word 44; 4 before 5
     ∷ (bare 48 0 0 0 0 0 0, 0) ∷ (bare 48 1025 0 0 0 0 0, 4) ∷ (bare 48 1024 0 0 0 0 0, 5) ∷ (bare 48 0 129 0 0 0 0, 4) ∷ (bare 48 0 128 0 0 0 0, 5)
     ∷ (bare 48 0 0 257 0 0 0, 4) ∷ (bare 48 0 0 256 0 0 0, 5) ∷ (bare 48 0 0 0 16385 0 0, 4) ∷ (bare 48 0 0 0 16384 0 0, 5) ∷ (bare 48 0 0 0 0 0 1, 4) ∷ (bare 48 0 0 0 0 99999 0, 5)
+    -- the same limits in editions 1 and 4
+    ∷ (bareIn 1 1024 0 0 0, 5) ∷ (bareIn 1 1025 0 0 0, 4) ∷ (bareIn 1 0 128 0 0, 5) ∷ (bareIn 1 0 129 0 0, 4) ∷ (bareIn 1 0 0 256 0, 5) ∷ (bareIn 1 0 0 257 0, 4) ∷ (bareIn 1 0 0 0 16384, 5) ∷ (bareIn 1 0 0 0 16385, 4)
+    ∷ (bareIn 4 1024 0 0 0, 5) ∷ (bareIn 4 1025 0 0 0, 4) ∷ (bareIn 4 0 128 0 0, 5) ∷ (bareIn 4 0 129 0 0, 4) ∷ (bareIn 4 0 0 256 0, 5) ∷ (bareIn 4 0 0 257 0, 4) ∷ (bareIn 4 0 0 0 16384, 5) ∷ (bareIn 4 0 0 0 16385, 4)
     -- 5: each offset, also of an empty section; the sum; the entry longer than the code
-    ∷ (set w1 12 0x31, 5) ∷ (set w1 20 0x49, 5) ∷ (set w1 28 0x49, 5) ∷ (set w1 36 0x49, 5) ∷ (set w1 32 0x0a, 5) ∷ (set w1 40 0x0c, 5)
+    ∷ (set w1 12 0x31, 5) ∷ (set w1 20 0x49, 5) ∷ (set w1 28 0x49, 5) ∷ (set w1 36 0x49, 5) ∷ (set w1 14 1, 5) ∷ (set w1 22 1, 5) ∷ (set w1 30 1, 5) ∷ (set w1 38 1, 5) ∷ (set w1 42 1, 5) ∷ (set w1 32 0x0a, 5) ∷ (set w1 40 0x0c, 5)
     -- 6: type words and upper bytes; a long and a double may have these
     ∷ (set w1 48 5, 6) ∷ (set w1 60 7, 6) ∷ (set w1 49 1, 6) ∷ (set w1 56 1, 6) ∷ (set w1 71 1, 6) ∷ (set (set w1 48 4) 56 1, 0) ∷ (set (set w1 48 6) 59 1, 0)
     -- 7: bodies that don't fill the code; each field of a record
@@ -54,6 +61,8 @@ rows =
     ∷ (set one 57 0, 0) ∷ (set one 57 4, 0) ∷ (set one 57 6, 0) ∷ (set one 57 5, 7) ∷ (set one 57 7, 7) ∷ (set one 57 131, 7) ∷ (set one 58 4, 0) ∷ (set one 58 6, 0) ∷ (set one 58 131, 0) ∷ (set one 58 132, 0)
     ∷ (set one 58 134, 0) ∷ (set one 58 5, 7) ∷ (set one 58 133, 7) ∷ (set one 58 0, 7) ∷ (set one 59 3, 7) ∷ (set one 65 1, 7) ∷ (set one 66 1, 7) ∷ (set one 67 1, 7)
     ∷ (file [] (function [] 0 [] ∷ []) [] RET, 7)
+    -- a label of an empty entry in edition 1
+    ∷ (fileIn 1 [] (function [] 0 (0x22 ∷ []) ∷ []) ((0xffffffff, 0) ∷ []) [], 9)
     -- in edition 1 no pointer parameter; 28 hex is none of its opcodes
     ∷ (set one 0 1, 8) ∷ (old 3 6, 0) ∷ (old 4 6, 0) ∷ (old 6 6, 0) ∷ (old 131 6, 7) ∷ (old 132 6, 7) ∷ (old 134 6, 7) ∷ (old 3 131, 7) ∷ (old 3 5, 7) ∷ (old 3 0, 0)
     -- lengths that fill the code only if their sum wraps at 32 bits

@@ -16,18 +16,11 @@ use Rattle.rules.specs.Tables.{Module}
 use Rattle.rules.specs.Stack.{slot, at}
 use Rattle.rules.specs.Heap.{serialIn, offsetIn, blockAddress, fieldAddress, nullAddress, Shape, single, fields, shapeOf, cellsIn, pointeeIn, Block, Heap, having, find, Spot, onStack, inHeap, nowhere, this, fieldIn, targetIn, targetOf, withCell, stored, placeFor, heapWith, addressGiven, without, lowestRun, apart, serialLimit}
 use Rattle.rules.specs.Machine.{Next, stops, asNumber, asStructure}
-use Rattle.rules.specs.Claims.{Each, HeapLaid}
+use Rattle.rules.specs.Claims.{Each, HeapLaid, cellType}
 use Rattle.soundness.specs.Layout.{each-find, each-stored, each-without, each-map, find-serial, run-is-free, laid-without, laid-stored}
 use Rattle.soundness.specs.Tests.{decide, none-some, some-inj, eqb-is, eqb-isnt, eqb-other, ltb-is, ltb-isnt}
 
 -- ---- what an address is to, of a shape
-
--- the number in cell i
-abbrev pub cellType : Option Shape → ℕ → Option Num
-cellType none i = none
-cellType (some (single τ)) zero = some τ
-cellType (some (single τ)) (suc i) = none
-cellType (some (fields fs)) i = at fs i
 
 -- the number at an offset: 0 for the whole block, 1 + field
 abbrev pub offsetType : Option Shape → ℕ → Option Num

@@ -20,6 +20,7 @@ pub mod Translated
 pub mod Cutting
 pub mod Saves
 pub mod Whole
+pub mod Returned
 pub mod Started
 pub mod Narrow
 pub mod Claimed

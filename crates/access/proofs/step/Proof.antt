@@ -1,12 +1,22 @@
 -- The proof of `access::step`.
 use Rattle.access.proofs.Steps.{ready-rest, shapes-rest, done, over-heap}
-use Rattle.access.proofs.HeapKeys.{said-whole, no-other, starts-inside}
+use Rattle.access.proofs.HeapKeys.{byte-is, said-whole, no-other, no-end, starts-inside}
 use Rattle.rules.specs.declared.Instruction.the-variants.{Tload, Tstore, Bump, Null, New, Delete, Flea}
-use mathlib.Core.Path.{refl}
+use mathlib.Core.Path.{_≡_, refl, sym, _∙_}
 use mathlib.Core.Bool.{true, false}
+use denote.Ref.{now}
 use borrow.Author.Needs.{needs}
+use Rattle.rules.specs.Bytes.{byte}
 use Rattle.access.proofs.step.Statement.{statement}
 use Rattle.access.proofs.step.Tie as tie
+
+-- where a key is at hand: what was known at the start
+abbrev begin : tie.After-known-told → tie.Start
+begin k = k .before .before .before .before .before .before .before .before .before .before .before .before .before .before
+
+-- and that the byte at the place is that key
+byte-there : (k : tie.After-known-told) → byte (now (begin k .args .code)) (begin k .args .r .place) ≡ k .before .decoded .given .0 .0
+byte-there k = byte-is _ _ _ _ (sym (k .before .before .before .decode .ensures) ∙ k .before .decoded .given .1) _ (begin k .pre .1 .0 .1 .1)
 
 add-at : tie.Need-add-at
 add-at c = search needs
@@ -20,35 +30,47 @@ part-d-start c = search needs
 part-d-end : tie.Need-part-d-end
 part-d-end c = search needs
 
-shared-slice-read-match : tie.Need-shared-slice-read-match
-shared-slice-read-match c =
+add-decode : tie.Need-add-decode
+add-decode c = search needs
+
+decode-requires : tie.Need-decode-requires
+decode-requires c κs =
     let start = c .before .before .before .before .before .before .before .before .before .before in
     starts-inside _ _ _ (start .pre .1 .0 .1 .1)
+
+enum-known-decoded : tie.Need-enum-known-decoded
+enum-known-decoded c = search needs
+
+enum-told : tie.Need-enum-told
+enum-told c = search needs
+
+returns : tie.Need-returns
+returns c = no-end _ _ (sym (c .before .before .decode .ensures) ∙ c .enum-told .given .1)
 
 flea-requires : tie.Need-flea-requires
 flea-requires c κs =
     let at-match = c .before .before .before .before .before in
-    let start = at-match .before .before .before .before .before .before .before .before .before .before .before in
-    (ready-rest _ _ (start .pre .0) _ _ _ _ (start .pre .1 .1 .1), (start .pre .1 .1 .0 .0, start .pre .1 .0 .0, said-whole _ _ 6 Flea (at-match .match .keys1) (λ w. refl) _ (start .pre .1 .0 .1 .1) 5 (λ w. refl)))
+    let start = begin (at-match .before) in
+    (ready-rest _ _ (start .pre .0) _ _ _ _ (start .pre .1 .1 .1), (start .pre .1 .1 .0 .0, start .pre .1 .0 .0, said-whole _ _ 6 Flea (byte-there (at-match .before) ∙ at-match .match2 .keys1) (λ w. refl) _ (start .pre .1 .0 .1 .1) 5 (λ w. refl)))
 
 tload-requires : tie.Need-tload-requires
 tload-requires c κs =
-    let start = c .before .before .before .before .before .before .before .before .before .before .before .before .before .before .before .before in
+    let start = begin (c .before .before .before .before .before .before) in
     (ready-rest _ _ (start .pre .0) _ _ _ _ (start .pre .1 .1 .1), (start .pre .1 .1 .0 .0, start .pre .1 .0 .0))
 
 tstore-requires : tie.Need-tstore-requires
 tstore-requires c κs =
-    let start = c .before .before .before .before .before .before .before .before .before .before .before .before .before .before .before .before in
+    let start = begin (c .before .before .before .before .before .before) in
     (ready-rest _ _ (start .pre .0) _ _ _ _ (start .pre .1 .1 .1), (start .pre .1 .1 .0 .0, start .pre .1 .0 .0))
 
 inc-requires : tie.Need-inc-requires
 inc-requires c κs =
-    let start = c .before .before .before .before .before .before .before .before .before .before .before .before .before .before .before .before in
+    let start = begin (c .before .before .before .before .before .before) in
     ((ready-rest _ _ (start .pre .0) _ _ _ _ (start .pre .1 .1 .1), start .pre .1 .1 .0 .1), (start .pre .1 .1 .0 .0, start .pre .1 .0 .0))
 
 dec-requires : tie.Need-dec-requires
 dec-requires c κs =
-    let start = c .before .before .before .before .before .before .before .before .before .before .before .before .before .before .before .before in
+    let start = begin (c .before .before .before .before .before .before) in
     ((ready-rest _ _ (start .pre .0) _ _ _ _ (start .pre .1 .1 .1), start .pre .1 .1 .0 .1), (start .pre .1 .1 .0 .0, start .pre .1 .0 .0))
 
 null-requires : tie.Need-null-requires
@@ -57,12 +79,12 @@ null-requires c κs = search needs
 new-requires : tie.Need-new-requires
 new-requires c κs =
     let at-match = c .before .before .before .before .before in
-    let start = at-match .before .before .before .before .before .before .before .before .before .before .before in
-    (ready-rest _ _ (start .pre .0) _ _ _ _ (start .pre .1 .1 .1), (start .pre .1 .1 .0 .0, start .pre .1 .0 .0, said-whole _ _ 49 New (at-match .match .keys7) (λ w. refl) _ (start .pre .1 .0 .1 .1) 5 (λ w. refl)))
+    let start = begin (at-match .before) in
+    (ready-rest _ _ (start .pre .0) _ _ _ _ (start .pre .1 .1 .1), (start .pre .1 .1 .0 .0, start .pre .1 .0 .0, said-whole _ _ 49 New (byte-there (at-match .before) ∙ at-match .match2 .keys7) (λ w. refl) _ (start .pre .1 .0 .1 .1) 5 (λ w. refl)))
 
 delete-requires : tie.Need-delete-requires
 delete-requires c κs =
-    let start = c .before .before .before .before .before .before .before .before .before .before .before .before .before .before .before .before in
+    let start = begin (c .before .before .before .before .before .before) in
     (ready-rest _ _ (start .pre .0) _ _ _ _ (start .pre .1 .1 .1), (start .pre .1 .1 .0 .0, start .pre .1 .0 .0))
 
 same-length : tie.Need-same-length
@@ -80,12 +102,12 @@ same-length-4 c = search needs
 same-length-5 : tie.Need-same-length-5
 same-length-5 c = search needs
 
-returns : tie.Need-returns
-returns c =
+returns-2 : tie.Need-returns-2
+returns-2 c =
     let at-flea = c .before .before in
     let at-match = at-flea .before .before .before .before .before .before in
-    let start = at-match .before .before .before .before .before .before .before .before .before .before .before in
-    done _ _ (start .pre .0) _ _ _ _ _ _ _ _ _ _ _ _ _ _ _ 6 Flea (at-match .match .keys1) (λ w. refl) (at-flea .flea .ensures _ (shapes-rest _ _ (start .pre .0)))
+    let start = begin (at-match .before) in
+    done _ _ (start .pre .0) _ _ _ _ _ _ _ _ _ _ _ _ _ _ _ 6 Flea (byte-there (at-match .before) ∙ at-match .match2 .keys1) (λ w. refl) (at-flea .flea .ensures _ (shapes-rest _ _ (start .pre .0)))
 
 same-length-6 : tie.Need-same-length-6
 same-length-6 c = search needs
@@ -102,12 +124,12 @@ same-length-9 c = search needs
 same-length-10 : tie.Need-same-length-10
 same-length-10 c = search needs
 
-returns-2 : tie.Need-returns-2
-returns-2 c =
+returns-3 : tie.Need-returns-3
+returns-3 c =
     let at-tload = c .before .before .before .before in
     let at-match = at-tload .before .before .before .before .before .before in
-    let start = at-match .before .before .before .before .before .before .before .before .before .before .before in
-    done _ _ (start .pre .0) _ _ _ _ _ _ _ _ _ _ _ _ _ _ _ 7 (λ w. Tload) (at-match .match .keys2) (λ w. refl) (at-tload .tload .ensures _ (shapes-rest _ _ (start .pre .0)))
+    let start = begin (at-match .before) in
+    done _ _ (start .pre .0) _ _ _ _ _ _ _ _ _ _ _ _ _ _ _ 7 (λ w. Tload) (byte-there (at-match .before) ∙ at-match .match2 .keys2) (λ w. refl) (at-tload .tload .ensures _ (shapes-rest _ _ (start .pre .0)))
 
 same-length-11 : tie.Need-same-length-11
 same-length-11 c = search needs
@@ -124,12 +146,12 @@ same-length-14 c = search needs
 same-length-15 : tie.Need-same-length-15
 same-length-15 c = search needs
 
-returns-3 : tie.Need-returns-3
-returns-3 c =
+returns-4 : tie.Need-returns-4
+returns-4 c =
     let at-tstore = c .before .before .before .before in
     let at-match = at-tstore .before .before .before .before .before .before in
-    let start = at-match .before .before .before .before .before .before .before .before .before .before .before in
-    done _ _ (start .pre .0) _ _ _ _ _ _ _ _ _ _ _ _ _ _ _ 8 (λ w. Tstore) (at-match .match .keys3) (λ w. refl) (at-tstore .tstore .ensures _ (shapes-rest _ _ (start .pre .0)))
+    let start = begin (at-match .before) in
+    done _ _ (start .pre .0) _ _ _ _ _ _ _ _ _ _ _ _ _ _ _ 8 (λ w. Tstore) (byte-there (at-match .before) ∙ at-match .match2 .keys3) (λ w. refl) (at-tstore .tstore .ensures _ (shapes-rest _ _ (start .pre .0)))
 
 same-length-16 : tie.Need-same-length-16
 same-length-16 c = search needs
@@ -146,12 +168,12 @@ same-length-19 c = search needs
 same-length-20 : tie.Need-same-length-20
 same-length-20 c = search needs
 
-returns-4 : tie.Need-returns-4
-returns-4 c =
+returns-5 : tie.Need-returns-5
+returns-5 c =
     let at-inc = c .before .before .before .before in
     let at-match = at-inc .before .before .before .before .before .before in
-    let start = at-match .before .before .before .before .before .before .before .before .before .before .before in
-    done _ _ (start .pre .0) _ _ _ _ _ _ _ _ _ _ _ _ _ _ _ 20 (λ w. Bump true) (at-match .match .keys4) (λ w. refl) (at-inc .inc .ensures _ (shapes-rest _ _ (start .pre .0)))
+    let start = begin (at-match .before) in
+    done _ _ (start .pre .0) _ _ _ _ _ _ _ _ _ _ _ _ _ _ _ 20 (λ w. Bump true) (byte-there (at-match .before) ∙ at-match .match2 .keys4) (λ w. refl) (at-inc .inc .ensures _ (shapes-rest _ _ (start .pre .0)))
 
 same-length-21 : tie.Need-same-length-21
 same-length-21 c = search needs
@@ -168,12 +190,12 @@ same-length-24 c = search needs
 same-length-25 : tie.Need-same-length-25
 same-length-25 c = search needs
 
-returns-5 : tie.Need-returns-5
-returns-5 c =
+returns-6 : tie.Need-returns-6
+returns-6 c =
     let at-dec = c .before .before .before .before in
     let at-match = at-dec .before .before .before .before .before .before in
-    let start = at-match .before .before .before .before .before .before .before .before .before .before .before in
-    done _ _ (start .pre .0) _ _ _ _ _ _ _ _ _ _ _ _ _ _ _ 21 (λ w. Bump false) (at-match .match .keys5) (λ w. refl) (at-dec .dec .ensures _ (shapes-rest _ _ (start .pre .0)))
+    let start = begin (at-match .before) in
+    done _ _ (start .pre .0) _ _ _ _ _ _ _ _ _ _ _ _ _ _ _ 21 (λ w. Bump false) (byte-there (at-match .before) ∙ at-match .match2 .keys5) (λ w. refl) (at-dec .dec .ensures _ (shapes-rest _ _ (start .pre .0)))
 
 same-length-26 : tie.Need-same-length-26
 same-length-26 c = search needs
@@ -181,12 +203,12 @@ same-length-26 c = search needs
 same-length-27 : tie.Need-same-length-27
 same-length-27 c = search needs
 
-returns-6 : tie.Need-returns-6
-returns-6 c =
+returns-7 : tie.Need-returns-7
+returns-7 c =
     let at-null = c .before .before .before .before in
     let at-match = at-null .before .before .before in
-    let start = at-match .before .before .before .before .before .before .before .before .before .before .before in
-    done _ _ (start .pre .0) _ _ _ _ _ _ _ _ _ _ _ _ _ _ _ 48 (λ w. Null) (at-match .match .keys6) (λ w. refl) (over-heap _ Null _ _ _ _ _ _ _ _ _ _ _ _ (ready-rest _ _ (start .pre .0) _ _ _ _ (start .pre .1 .1 .1)) (at-null .null .ensures _))
+    let start = begin (at-match .before) in
+    done _ _ (start .pre .0) _ _ _ _ _ _ _ _ _ _ _ _ _ _ _ 48 (λ w. Null) (byte-there (at-match .before) ∙ at-match .match2 .keys6) (λ w. refl) (over-heap _ Null _ _ _ _ _ _ _ _ _ _ _ _ (ready-rest _ _ (start .pre .0) _ _ _ _ (start .pre .1 .1 .1)) (at-null .null .ensures _))
 
 same-length-28 : tie.Need-same-length-28
 same-length-28 c = search needs
@@ -203,12 +225,12 @@ same-length-31 c = search needs
 same-length-32 : tie.Need-same-length-32
 same-length-32 c = search needs
 
-returns-7 : tie.Need-returns-7
-returns-7 c =
+returns-8 : tie.Need-returns-8
+returns-8 c =
     let at-new = c .before .before .before .before .before .before .before .before in
     let at-match = at-new .before .before .before .before .before .before in
-    let start = at-match .before .before .before .before .before .before .before .before .before .before .before in
-    done _ _ (start .pre .0) _ _ _ _ _ _ _ _ _ _ _ _ _ _ _ 49 New (at-match .match .keys7) (λ w. refl) (at-new .new .ensures _ (shapes-rest _ _ (start .pre .0)))
+    let start = begin (at-match .before) in
+    done _ _ (start .pre .0) _ _ _ _ _ _ _ _ _ _ _ _ _ _ _ 49 New (byte-there (at-match .before) ∙ at-match .match2 .keys7) (λ w. refl) (at-new .new .ensures _ (shapes-rest _ _ (start .pre .0)))
 
 same-length-33 : tie.Need-same-length-33
 same-length-33 c = search needs
@@ -225,17 +247,17 @@ same-length-36 c = search needs
 same-length-37 : tie.Need-same-length-37
 same-length-37 c = search needs
 
-returns-8 : tie.Need-returns-8
-returns-8 c =
-    let at-delete = c .before .before .before .before .before .before in
-    let at-match = at-delete .before .before .before .before .before .before in
-    let start = at-match .before .before .before .before .before .before .before .before .before .before .before in
-    done _ _ (start .pre .0) _ _ _ _ _ _ _ _ _ _ _ _ _ _ _ 50 (λ w. Delete) (at-match .match .keys8) (λ w. refl) (at-delete .delete .ensures _)
-
 returns-9 : tie.Need-returns-9
 returns-9 c =
-    let start = c .before .before .before .before .before .before .before .before .before .before .before in
-    no-other _ _ _ _ refl (c .match .rest) (start .pre .1 .0 .1 .1) (start .pre .1 .0 .1 .2)
+    let at-delete = c .before .before .before .before .before .before in
+    let at-match = at-delete .before .before .before .before .before .before in
+    let start = begin (at-match .before) in
+    done _ _ (start .pre .0) _ _ _ _ _ _ _ _ _ _ _ _ _ _ _ 50 (λ w. Delete) (byte-there (at-match .before) ∙ at-match .match2 .keys8) (λ w. refl) (at-delete .delete .ensures _)
+
+returns-10 : tie.Need-returns-10
+returns-10 c =
+    let start = begin (c .before) in
+    no-other _ _ _ _ (sym (byte-there (c .before))) (c .match2 .rest) (start .pre .1 .0 .1 .1) (start .pre .1 .0 .1 .2)
 
 pub step-spec : {M : Type 1} → statement M
 step-spec =
@@ -245,7 +267,11 @@ step-spec =
     sub-d
     part-d-start
     part-d-end
-    shared-slice-read-match
+    add-decode
+    decode-requires
+    enum-known-decoded
+    enum-told
+    returns
     flea-requires
     tload-requires
     tstore-requires
@@ -259,44 +285,44 @@ step-spec =
     same-length-3
     same-length-4
     same-length-5
-    returns
+    returns-2
     same-length-6
     same-length-7
     same-length-8
     same-length-9
     same-length-10
-    returns-2
+    returns-3
     same-length-11
     same-length-12
     same-length-13
     same-length-14
     same-length-15
-    returns-3
+    returns-4
     same-length-16
     same-length-17
     same-length-18
     same-length-19
     same-length-20
-    returns-4
+    returns-5
     same-length-21
     same-length-22
     same-length-23
     same-length-24
     same-length-25
-    returns-5
+    returns-6
     same-length-26
     same-length-27
-    returns-6
+    returns-7
     same-length-28
     same-length-29
     same-length-30
     same-length-31
     same-length-32
-    returns-7
+    returns-8
     same-length-33
     same-length-34
     same-length-35
     same-length-36
     same-length-37
-    returns-8
-    returns-9)
+    returns-9
+    returns-10)

@@ -36,11 +36,11 @@ part-pool-end c = omega (arith, (c .before .before .before .before .before .befo
 loop-holds : tie.Need-loop-holds Inv-loop μ-loop
 loop-holds c = starts _ _ _ _ _ _ _ _ ((c .before .before .before .before .before .before .before .pre) .0) ((c .before .before .before .before .before .before .before .pre) .1 .1)
 
-fetch-requires : tie.Need-fetch-requires Inv-loop μ-loop
-fetch-requires c κs = stop-there _ ((c .loop) .inv .module-is .1) _ _ _ _ _ ((c .loop) .inv .fits) _ _ ((c .before .before .before .before .before .before .before .before .pre) .1 .0) _ (code-part (now ((c .before .before .before .before .before .before .before .before .args) .source)) ((c .before .before .before .before .before .before .before .before .args) .from))
+decode-requires : tie.Need-decode-requires Inv-loop μ-loop
+decode-requires c κs = stop-there _ ((c .loop) .inv .module-is .1) _ _ _ _ _ ((c .loop) .inv .fits) _ _ ((c .before .before .before .before .before .before .before .before .pre) .1 .0) _ (code-part (now ((c .before .before .before .before .before .before .before .before .args) .source)) ((c .before .before .before .before .before .before .before .before .args) .from))
 
-enum-known-fetched : tie.Need-enum-known-fetched Inv-loop μ-loop
-enum-known-fetched c = search needs
+enum-known-decoded : tie.Need-enum-known-decoded Inv-loop μ-loop
+enum-known-decoded c = search needs
 
 enum-told : tie.Need-enum-told Inv-loop μ-loop
 enum-told c = search needs
@@ -58,7 +58,7 @@ same-length-3 : tie.Need-same-length-3 Inv-loop μ-loop
 same-length-3 c = (c .before .before .before .before .before .loop) .inv .same-f
 
 returns : tie.Need-returns Inv-loop μ-loop
-returns c = ends _ _ _ _ _ _ _ _ _ _ _ _ _ ((c .before .before .before .before .before .loop) .inv) _ ((c .at-end) .ensures) (at-end _ _ _ (sym ((c .before .before .before .before .fetch) .ensures) ∙ (c .before .before .enum-told) .given .1))
+returns c = ends _ _ _ _ _ _ _ _ _ _ _ _ _ ((c .before .before .before .before .before .loop) .inv) _ ((c .at-end) .ensures) (at-end _ _ _ (sym ((c .before .before .before .before .decode) .ensures) ∙ (c .before .before .enum-told) .given .1))
 
 ending-requires : tie.Need-ending-requires Inv-loop μ-loop
 ending-requires c κs = search needs
@@ -73,10 +73,10 @@ same-length-6 : tie.Need-same-length-6 Inv-loop μ-loop
 same-length-6 c = (c .before .before .before .before .before .before .loop) .inv .same-f
 
 returns-2 : tie.Need-returns-2 Inv-loop μ-loop
-returns-2 c = let k = at-key _ _ _ _ (sym ((c .before .before .before .before .before .fetch) .ensures) ∙ (c .before .before .before .fetched) .given .1) in rw ((c .ending) .ensures) (used-up _ _ _ _ _ _ _ _ _ _ _ _ _ ((c .before .before .before .before .before .before .loop) .inv) (k .0) ((c .before .if1) .taken))
+returns-2 c = let k = at-key _ _ _ _ (sym ((c .before .before .before .before .before .decode) .ensures) ∙ (c .before .before .before .decoded) .given .1) in rw ((c .ending) .ensures) (used-up _ _ _ _ _ _ _ _ _ _ _ _ _ ((c .before .before .before .before .before .before .loop) .inv) (k .0) ((c .before .if1) .taken))
 
 step-requires : tie.Need-step-requires Inv-loop μ-loop
-step-requires c κs = let k = at-key _ _ _ _ (sym ((c .before .before .before .before .before .before .before .fetch) .ensures) ∙ (c .before .before .before .before .before .fetched) .given .1) in (((c .before .before .before .before .before .before .before .before .before .before .before .before .before .before .before .before .pre) .0 .0, (c .before .before .before .before .before .before .before .before .before .before .before .before .before .before .before .before .pre) .0 .1, code-part (now ((c .before .before .before .before .before .before .before .before .before .before .before .before .before .before .before .before .args) .file)) ((c .before .before .before .before .before .before .before .before .before .before .before .before .before .before .before .before .args) .c .pool)), ((k .0, stands _ ((c .before .before .before .before .before .before .before .before .loop) .inv .module-is .1) _ _ _ _ _ ((c .before .before .before .before .before .before .before .before .loop) .inv .fits) _ _ ((c .before .before .before .before .before .before .before .before .before .before .before .before .before .before .before .before .pre) .1 .0) _ (code-part (now ((c .before .before .before .before .before .before .before .before .before .before .before .before .before .before .before .before .args) .source)) ((c .before .before .before .before .before .before .before .before .before .before .before .before .before .before .before .before .args) .from)) (k .0) _ (k .1)), ((c .before .before .before .before .before .before .before .before .loop) .inv .fits .ready, computes _ ((c .before .before .before .before .before .before .before .before .loop) .inv .module-is .1) _ _ _ _ _ ((c .before .before .before .before .before .before .before .before .loop) .inv .fits) (k .0))))
+step-requires c κs = let k = at-key _ _ _ _ (sym ((c .before .before .before .before .before .before .before .decode) .ensures) ∙ (c .before .before .before .before .before .decoded) .given .1) in (((c .before .before .before .before .before .before .before .before .before .before .before .before .before .before .before .before .pre) .0 .0, (c .before .before .before .before .before .before .before .before .before .before .before .before .before .before .before .before .pre) .0 .1, code-part (now ((c .before .before .before .before .before .before .before .before .before .before .before .before .before .before .before .before .args) .file)) ((c .before .before .before .before .before .before .before .before .before .before .before .before .before .before .before .before .args) .c .pool)), ((k .0, stands _ ((c .before .before .before .before .before .before .before .before .loop) .inv .module-is .1) _ _ _ _ _ ((c .before .before .before .before .before .before .before .before .loop) .inv .fits) _ _ ((c .before .before .before .before .before .before .before .before .before .before .before .before .before .before .before .before .pre) .1 .0) _ (code-part (now ((c .before .before .before .before .before .before .before .before .before .before .before .before .before .before .before .before .args) .source)) ((c .before .before .before .before .before .before .before .before .before .before .before .before .before .before .before .before .args) .from)) (k .0) _ (k .1)), ((c .before .before .before .before .before .before .before .before .loop) .inv .fits .ready, computes _ ((c .before .before .before .before .before .before .before .before .loop) .inv .module-is .1) _ _ _ _ _ ((c .before .before .before .before .before .before .before .before .loop) .inv .fits) (k .0))))
 
 enum-known-a : tie.Need-enum-known-a Inv-loop μ-loop
 enum-known-a c = search needs
@@ -88,7 +88,7 @@ loop-less : tie.Need-loop-less Inv-loop μ-loop
 loop-less c = omega (arith, (c .before .before .before .before .before .before .before .before .before .before .before .before .before .if1) .left)
 
 loop-again : tie.Need-loop-again Inv-loop μ-loop
-loop-again c = let k = at-key _ _ _ _ (sym ((c .before .before .before .before .before .before .before .before .before .before .before .before .before .before .before .before .before .fetch) .ensures) ∙ (c .before .before .before .before .before .before .before .before .before .before .before .before .before .before .before .fetched) .given .1) in goes-on _ _ _ _ _ _ _ _ _ _ _ _ _ ((c .before .before .before .before .before .before .before .before .before .before .before .before .before .before .before .before .before .before .loop) .inv) (k .0) ((c .before .before .before .before .before .before .before .before .before .before .before .before .before .if1) .left) _ _ _ ((c .before .before .before .before .before .before .before .before .before .step) .kept .1 .1 .1 .1 .1 .1 .1 .1 .1 .0) _ (rw ((c .before .a) .given .1) at (stepped _ ((c .before .before .before .before .before .before .before .before .before .before .before .before .before .before .before .before .before .before .loop) .inv .module-is .1) _ _ _ _ _ ((c .before .before .before .before .before .before .before .before .before .before .before .before .before .before .before .before .before .before .loop) .inv .fits) _ _ ((c .before .before .before .before .before .before .before .before .before .before .before .before .before .before .before .before .before .before .before .before .before .before .before .before .before .before .pre) .1 .0) _ (code-part (now ((c .before .before .before .before .before .before .before .before .before .before .before .before .before .before .before .before .before .before .before .before .before .before .before .before .before .before .args) .source)) ((c .before .before .before .before .before .before .before .before .before .before .before .before .before .before .before .before .before .before .before .before .before .before .before .before .before .before .args) .from)) (k .0) _ _ _ _ ((c .before .before .before .before .before .before .before .before .before .step) .ensures)))
+loop-again c = let k = at-key _ _ _ _ (sym ((c .before .before .before .before .before .before .before .before .before .before .before .before .before .before .before .before .before .decode) .ensures) ∙ (c .before .before .before .before .before .before .before .before .before .before .before .before .before .before .before .decoded) .given .1) in goes-on _ _ _ _ _ _ _ _ _ _ _ _ _ ((c .before .before .before .before .before .before .before .before .before .before .before .before .before .before .before .before .before .before .loop) .inv) (k .0) ((c .before .before .before .before .before .before .before .before .before .before .before .before .before .if1) .left) _ _ _ ((c .before .before .before .before .before .before .before .before .before .step) .kept .1 .1 .1 .1 .1 .1 .1 .1 .1 .0) _ (rw ((c .before .a) .given .1) at (stepped _ ((c .before .before .before .before .before .before .before .before .before .before .before .before .before .before .before .before .before .before .loop) .inv .module-is .1) _ _ _ _ _ ((c .before .before .before .before .before .before .before .before .before .before .before .before .before .before .before .before .before .before .loop) .inv .fits) _ _ ((c .before .before .before .before .before .before .before .before .before .before .before .before .before .before .before .before .before .before .before .before .before .before .before .before .before .before .pre) .1 .0) _ (code-part (now ((c .before .before .before .before .before .before .before .before .before .before .before .before .before .before .before .before .before .before .before .before .before .before .before .before .before .before .args) .source)) ((c .before .before .before .before .before .before .before .before .before .before .before .before .before .before .before .before .before .before .before .before .before .before .before .before .before .before .args) .from)) (k .0) _ _ _ _ ((c .before .before .before .before .before .before .before .before .before .step) .ensures)))
 
 enum-known-a-2 : tie.Need-enum-known-a-2 Inv-loop μ-loop
 enum-known-a-2 c = search needs
@@ -109,7 +109,7 @@ same-length-9 : tie.Need-same-length-9 Inv-loop μ-loop
 same-length-9 c = (c .before .before .before .before .before .before .before .before .before .before .step) .kept .1 .1 .1 .1 .1 .1 .1 .1 .1 .0 ∙ (c .before .before .before .before .before .before .before .before .before .before .before .before .before .before .before .before .before .before .before .loop) .inv .same-f
 
 returns-3 : tie.Need-returns-3 Inv-loop μ-loop
-returns-3 c = let k = at-key _ _ _ _ (sym ((c .before .before .before .before .before .before .before .before .before .before .before .before .before .before .before .before .before .before .fetch) .ensures) ∙ (c .before .before .before .before .before .before .before .before .before .before .before .before .before .before .before .before .fetched) .given .1) in rw ((c .ending2) .ensures) (returned _ _ _ _ _ _ _ _ _ _ _ _ _ ((c .before .before .before .before .before .before .before .before .before .before .before .before .before .before .before .before .before .before .before .loop) .inv) (k .0) ((c .before .before .before .before .before .before .before .before .before .before .before .before .before .before .if1) .left) _ _ _ ((c .before .before .before .before .before .before .before .before .before .before .step) .kept .1 .1 .1 .1 .1 .1 .1 .1 .1 .0) _ (rw ((c .before .before .a2) .given .1) at (stepped _ ((c .before .before .before .before .before .before .before .before .before .before .before .before .before .before .before .before .before .before .before .loop) .inv .module-is .1) _ _ _ _ _ ((c .before .before .before .before .before .before .before .before .before .before .before .before .before .before .before .before .before .before .before .loop) .inv .fits) _ _ ((c .before .before .before .before .before .before .before .before .before .before .before .before .before .before .before .before .before .before .before .before .before .before .before .before .before .before .before .pre) .1 .0) _ (code-part (now ((c .before .before .before .before .before .before .before .before .before .before .before .before .before .before .before .before .before .before .before .before .before .before .before .before .before .before .before .args) .source)) ((c .before .before .before .before .before .before .before .before .before .before .before .before .before .before .before .before .before .before .before .before .before .before .before .before .before .before .before .args) .from)) (k .0) _ _ _ _ ((c .before .before .before .before .before .before .before .before .before .before .step) .ensures))))
+returns-3 c = let k = at-key _ _ _ _ (sym ((c .before .before .before .before .before .before .before .before .before .before .before .before .before .before .before .before .before .before .decode) .ensures) ∙ (c .before .before .before .before .before .before .before .before .before .before .before .before .before .before .before .before .decoded) .given .1) in rw ((c .ending2) .ensures) (returned _ _ _ _ _ _ _ _ _ _ _ _ _ ((c .before .before .before .before .before .before .before .before .before .before .before .before .before .before .before .before .before .before .before .loop) .inv) (k .0) ((c .before .before .before .before .before .before .before .before .before .before .before .before .before .before .if1) .left) _ _ _ ((c .before .before .before .before .before .before .before .before .before .before .step) .kept .1 .1 .1 .1 .1 .1 .1 .1 .1 .0) _ (rw ((c .before .before .a2) .given .1) at (stepped _ ((c .before .before .before .before .before .before .before .before .before .before .before .before .before .before .before .before .before .before .before .loop) .inv .module-is .1) _ _ _ _ _ ((c .before .before .before .before .before .before .before .before .before .before .before .before .before .before .before .before .before .before .before .loop) .inv .fits) _ _ ((c .before .before .before .before .before .before .before .before .before .before .before .before .before .before .before .before .before .before .before .before .before .before .before .before .before .before .before .pre) .1 .0) _ (code-part (now ((c .before .before .before .before .before .before .before .before .before .before .before .before .before .before .before .before .before .before .before .before .before .before .before .before .before .before .before .args) .source)) ((c .before .before .before .before .before .before .before .before .before .before .before .before .before .before .before .before .before .before .before .before .before .before .before .before .before .before .before .args) .from)) (k .0) _ _ _ _ ((c .before .before .before .before .before .before .before .before .before .before .step) .ensures))))
 
 enum-known-a-3 : tie.Need-enum-known-a-3 Inv-loop μ-loop
 enum-known-a-3 c = search needs
@@ -127,7 +127,7 @@ same-length-12 : tie.Need-same-length-12 Inv-loop μ-loop
 same-length-12 c = (c .before .before .before .before .before .before .before .before .before .before .step) .kept .1 .1 .1 .1 .1 .1 .1 .1 .1 .0 ∙ (c .before .before .before .before .before .before .before .before .before .before .before .before .before .before .before .before .before .before .before .loop) .inv .same-f
 
 returns-4 : tie.Need-returns-4 Inv-loop μ-loop
-returns-4 c = let k = at-key _ _ _ _ (sym ((c .before .before .before .before .before .before .before .before .before .before .before .before .before .before .before .before .before .before .fetch) .ensures) ∙ (c .before .before .before .before .before .before .before .before .before .before .before .before .before .before .before .before .fetched) .given .1) in rw ((c .ending3) .ensures) (stopped _ _ _ _ _ _ _ _ _ _ _ _ _ ((c .before .before .before .before .before .before .before .before .before .before .before .before .before .before .before .before .before .before .before .loop) .inv) (k .0) ((c .before .before .before .before .before .before .before .before .before .before .before .before .before .before .if1) .left) _ _ _ ((c .before .before .before .before .before .before .before .before .before .before .step) .kept .1 .1 .1 .1 .1 .1 .1 .1 .1 .0) _ (rw ((c .before .before .a3) .given .1) at (stepped _ ((c .before .before .before .before .before .before .before .before .before .before .before .before .before .before .before .before .before .before .before .loop) .inv .module-is .1) _ _ _ _ _ ((c .before .before .before .before .before .before .before .before .before .before .before .before .before .before .before .before .before .before .before .loop) .inv .fits) _ _ ((c .before .before .before .before .before .before .before .before .before .before .before .before .before .before .before .before .before .before .before .before .before .before .before .before .before .before .before .pre) .1 .0) _ (code-part (now ((c .before .before .before .before .before .before .before .before .before .before .before .before .before .before .before .before .before .before .before .before .before .before .before .before .before .before .before .args) .source)) ((c .before .before .before .before .before .before .before .before .before .before .before .before .before .before .before .before .before .before .before .before .before .before .before .before .before .before .before .args) .from)) (k .0) _ _ _ _ ((c .before .before .before .before .before .before .before .before .before .before .step) .ensures))))
+returns-4 c = let k = at-key _ _ _ _ (sym ((c .before .before .before .before .before .before .before .before .before .before .before .before .before .before .before .before .before .before .decode) .ensures) ∙ (c .before .before .before .before .before .before .before .before .before .before .before .before .before .before .before .before .decoded) .given .1) in rw ((c .ending3) .ensures) (stopped _ _ _ _ _ _ _ _ _ _ _ _ _ ((c .before .before .before .before .before .before .before .before .before .before .before .before .before .before .before .before .before .before .before .loop) .inv) (k .0) ((c .before .before .before .before .before .before .before .before .before .before .before .before .before .before .if1) .left) _ _ _ ((c .before .before .before .before .before .before .before .before .before .before .step) .kept .1 .1 .1 .1 .1 .1 .1 .1 .1 .0) _ (rw ((c .before .before .a3) .given .1) at (stepped _ ((c .before .before .before .before .before .before .before .before .before .before .before .before .before .before .before .before .before .before .before .loop) .inv .module-is .1) _ _ _ _ _ ((c .before .before .before .before .before .before .before .before .before .before .before .before .before .before .before .before .before .before .before .loop) .inv .fits) _ _ ((c .before .before .before .before .before .before .before .before .before .before .before .before .before .before .before .before .before .before .before .before .before .before .before .before .before .before .before .pre) .1 .0) _ (code-part (now ((c .before .before .before .before .before .before .before .before .before .before .before .before .before .before .before .before .before .before .before .before .before .before .before .before .before .before .before .args) .source)) ((c .before .before .before .before .before .before .before .before .before .before .before .before .before .before .before .before .before .before .before .before .before .before .before .before .before .before .before .args) .from)) (k .0) _ _ _ _ ((c .before .before .before .before .before .before .before .before .before .before .step) .ensures))))
 
 pub run-from-spec : {M : Type 1} → statement M
 run-from-spec =
@@ -142,8 +142,8 @@ run-from-spec =
     part-pool-start
     part-pool-end
     loop-holds
-    fetch-requires
-    enum-known-fetched
+    decode-requires
+    enum-known-decoded
     enum-told
     at-end-requires
     same-length

@@ -1,4 +1,4 @@
-use Rattle.checker.proofs.Walking.{Walking, walk-first, walk-ended, heads, walk-on, walk-ends, walk-breaks, walk-bounds, walk-less, fetch-fits, fetched-late, fetched-key, fetched-moved}
+use Rattle.checker.proofs.Walking.{Walking, walk-first, walk-ended, heads, walk-on, walk-ends, walk-breaks, walk-bounds, walk-less, decode-fits, decoded-late, decoded-key, decoded-moved}
 use Rattle.checker.proofs.Turns.{still-working}
 use Rattle.nodes.specs.Nodes.{doneOf}
 use borrow.Author.Needs.{needs}
@@ -21,11 +21,11 @@ end-requires c κs = ((c .before .before .before .before .before .before .pre) .
 loop-holds : tie.Need-loop-holds Inv-loop μ-loop
 loop-holds c = (walk-first _ _ ((c .before .before .before .before .before .before .before .pre) .0 .readable) _ ((c .before .before .before .before .before .before .before .pre) .0 .has) _ _ _ _ ((c .before .before .before .before .before .before .before .pre) .0 .sound) ((c .before .before .before .before .before .before .before .pre) .1 .0 .holds) ((c .before .before .before .before .before .before .before .pre) .1 .0 .stands), refl)
 
-fetch-requires : tie.Need-fetch-requires Inv-loop μ-loop
-fetch-requires c κs = fetch-fits _ _ _ _ _ _ ((c .before .before .before .before .before .before .before .before .pre) .0) _ ((c .before .end) .ensures) _ ((c .before .before .before .before .before .before .before .before .pre) .1 .1) _ _ ((c .loop) .inv .0 .stands)
+decode-requires : tie.Need-decode-requires Inv-loop μ-loop
+decode-requires c κs = decode-fits _ _ _ _ _ _ ((c .before .before .before .before .before .before .before .before .pre) .0) _ ((c .before .end) .ensures) _ ((c .before .before .before .before .before .before .before .before .pre) .1 .1) _ _ ((c .loop) .inv .0 .stands)
 
-enum-known-found : tie.Need-enum-known-found Inv-loop μ-loop
-enum-known-found c = search needs
+enum-known-decoded : tie.Need-enum-known-decoded Inv-loop μ-loop
+enum-known-decoded c = search needs
 
 enum-told : tie.Need-enum-told Inv-loop μ-loop
 enum-told c = search needs
@@ -40,16 +40,16 @@ same-length-3 : tie.Need-same-length-3 Inv-loop μ-loop
 same-length-3 c = (c .before .before .before .loop) .inv .0 .holds .long ∙ sym ((c .before .before .before .before .before .before .before .before .before .before .before .pre) .1 .0 .holds .long)
 
 returns : tie.Need-returns Inv-loop μ-loop
-returns c = (walk-ended _ _ ((c .before .before .before .before .before .before .before .before .before .before .before .pre) .0 .readable) _ ((c .before .before .before .before .before .before .before .before .before .before .before .pre) .0 .has) _ _ _ _ _ _ _ _ ((c .before .before .before .loop) .inv .0) (fetched-late _ _ _ _ _ _ ((c .before .before .before .before .before .before .before .before .before .before .before .pre) .0) _ ((c .before .before .before .before .end) .ensures) _ ((c .before .before .before .before .before .before .before .before .before .before .before .pre) .1 .1) _ _ ((c .before .before .before .loop) .inv .0 .stands) (sym ((c .before .before .fetch) .ensures) ∙ (c .enum-told) .given .1)), (c .before .before .before .loop) .inv .1)
+returns c = (walk-ended _ _ ((c .before .before .before .before .before .before .before .before .before .before .before .pre) .0 .readable) _ ((c .before .before .before .before .before .before .before .before .before .before .before .pre) .0 .has) _ _ _ _ _ _ _ _ ((c .before .before .before .loop) .inv .0) (decoded-late _ _ _ _ _ _ ((c .before .before .before .before .before .before .before .before .before .before .before .pre) .0) _ ((c .before .before .before .before .end) .ensures) _ ((c .before .before .before .before .before .before .before .before .before .before .before .pre) .1 .1) _ _ ((c .before .before .before .loop) .inv .0 .stands) (sym ((c .before .before .decode) .ensures) ∙ (c .enum-told) .given .1)), (c .before .before .before .loop) .inv .1)
 
 transfer-requires : tie.Need-transfer-requires Inv-loop μ-loop
-transfer-requires c κs = (((c .before .before .before .before .before .before .before .before .before .before .before .before .before .pre) .0 .packed, (c .before .before .before .before .before .before .before .before .before .before .before .before .before .pre) .0 .readable), ((c .before .before .before .before .before .loop) .inv .0 .holds, fetched-key _ _ _ _ _ _ ((c .before .before .before .before .before .before .before .before .before .before .before .before .before .pre) .0) _ ((c .before .before .before .before .before .before .end) .ensures) _ ((c .before .before .before .before .before .before .before .before .before .before .before .before .before .pre) .1 .1) _ _ ((c .before .before .before .before .before .loop) .inv .0 .stands) _ (sym ((c .before .before .before .before .fetch) .ensures) ∙ (c .before .before .found) .given .1)))
+transfer-requires c κs = (((c .before .before .before .before .before .before .before .before .before .before .before .before .before .pre) .0 .packed, (c .before .before .before .before .before .before .before .before .before .before .before .before .before .pre) .0 .readable), ((c .before .before .before .before .before .loop) .inv .0 .holds, decoded-key _ _ _ _ _ _ ((c .before .before .before .before .before .before .before .before .before .before .before .before .before .pre) .0) _ ((c .before .before .before .before .before .before .end) .ensures) _ ((c .before .before .before .before .before .before .before .before .before .before .before .before .before .pre) .1 .1) _ _ ((c .before .before .before .before .before .loop) .inv .0 .stands) _ (sym ((c .before .before .before .before .decode) .ensures) ∙ (c .before .before .decoded) .given .1)))
 
 add-follow : tie.Need-add-follow Inv-loop μ-loop
 add-follow c = let b = walk-bounds _ _ _ _ _ _ ((c .before .before .before .before .before .before .before .before .before .before .before .before .before .before .before .before .pre) .0) _ ((c .before .before .before .before .before .before .before .before .before .end) .ensures) _ _ ((c .before .before .before .before .before .before .before .before .loop) .inv .0 .stands) in omega (arith, b .0, b .1, (c .before .before .before .before .before .before .before .before .before .before .before .before .before .before .before .before .pre) .0 .packed .little-code)
 
 follow-requires : tie.Need-follow-requires Inv-loop μ-loop
-follow-requires c κs = let m = fetched-moved _ _ _ _ _ _ ((c .before .before .before .before .before .before .before .before .before .before .before .before .before .before .before .before .before .before .before .pre) .0) _ ((c .before .before .before .before .before .before .before .before .before .before .before .before .end) .ensures) _ ((c .before .before .before .before .before .before .before .before .before .before .before .before .before .before .before .before .before .before .before .pre) .1 .1) _ _ ((c .before .before .before .before .before .before .before .before .before .before .before .loop) .inv .0 .stands) _ (sym ((c .before .before .before .before .before .before .before .before .before .before .fetch) .ensures) ∙ (c .before .before .before .before .before .before .before .before .found) .given .1) ((c .before .before .before .before .before .before .before .before .before .before .before .loop) .st) _ _ ((c .before .before .before .before .before .transfer) .ensures) in (still-working _ _ _ _ _ _ _ _ ((c .before .before .before .before .before .before .before .before .before .before .before .before .before .before .before .before .before .before .before .pre) .0) ((c .before .before .before .before .before .before .before .before .before .before .before .loop) .inv .0 .grows) ((c .before .before .before .before .before .before .before .before .before .before .before .loop) .inv .0 .sound), ((m .holds, heads _ (now ((c .before .before .before .before .before .before .before .before .before .before .before .before .before .before .before .before .before .before .before .args) .table)) ((c .before .before .before .before .before .before .before .before .before .before .before .before .before .before .before .before .before .before .before .pre) .0 .readable) _ ((c .before .before .before .before .before .before .before .before .before .before .before .before .before .before .before .before .before .before .before .pre) .0 .has) _ _ _ _ ((c .before .before .before .before .before .before .before .before .before .before .before .loop) .inv .0 .stands) m), (c .before .before .before .before .before .before .before .before .before .before .before .before .end) .ensures))
+follow-requires c κs = let m = decoded-moved _ _ _ _ _ _ ((c .before .before .before .before .before .before .before .before .before .before .before .before .before .before .before .before .before .before .before .pre) .0) _ ((c .before .before .before .before .before .before .before .before .before .before .before .before .end) .ensures) _ ((c .before .before .before .before .before .before .before .before .before .before .before .before .before .before .before .before .before .before .before .pre) .1 .1) _ _ ((c .before .before .before .before .before .before .before .before .before .before .before .loop) .inv .0 .stands) _ (sym ((c .before .before .before .before .before .before .before .before .before .before .decode) .ensures) ∙ (c .before .before .before .before .before .before .before .before .decoded) .given .1) ((c .before .before .before .before .before .before .before .before .before .before .before .loop) .st) _ _ ((c .before .before .before .before .before .transfer) .ensures) in (still-working _ _ _ _ _ _ _ _ ((c .before .before .before .before .before .before .before .before .before .before .before .before .before .before .before .before .before .before .before .pre) .0) ((c .before .before .before .before .before .before .before .before .before .before .before .loop) .inv .0 .grows) ((c .before .before .before .before .before .before .before .before .before .before .before .loop) .inv .0 .sound), ((m .holds, heads _ (now ((c .before .before .before .before .before .before .before .before .before .before .before .before .before .before .before .before .before .before .before .args) .table)) ((c .before .before .before .before .before .before .before .before .before .before .before .before .before .before .before .before .before .before .before .pre) .0 .readable) _ ((c .before .before .before .before .before .before .before .before .before .before .before .before .before .before .before .before .before .before .before .pre) .0 .has) _ _ _ _ ((c .before .before .before .before .before .before .before .before .before .before .before .loop) .inv .0 .stands) m), (c .before .before .before .before .before .before .before .before .before .before .before .before .end) .ensures))
 
 enum-told-2 : tie.Need-enum-told-2 Inv-loop μ-loop
 enum-told-2 c = search needs
@@ -61,10 +61,10 @@ same-length-5 : tie.Need-same-length-5 Inv-loop μ-loop
 same-length-5 c = (c .before .before .before .before .before .before .follow) .ensures .0 .grows .many ∙ (c .before .before .before .before .before .before .before .before .before .before .before .before .before .before .before .before .before .before .loop) .inv .0 .grows .many
 
 same-length-6 : tie.Need-same-length-6 Inv-loop μ-loop
-same-length-6 c = let m = fetched-moved _ _ _ _ _ _ ((c .before .before .before .before .before .before .before .before .before .before .before .before .before .before .before .before .before .before .before .before .before .before .before .before .before .before .pre) .0) _ ((c .before .before .before .before .before .before .before .before .before .before .before .before .before .before .before .before .before .before .before .end) .ensures) _ ((c .before .before .before .before .before .before .before .before .before .before .before .before .before .before .before .before .before .before .before .before .before .before .before .before .before .before .pre) .1 .1) _ _ ((c .before .before .before .before .before .before .before .before .before .before .before .before .before .before .before .before .before .before .loop) .inv .0 .stands) _ (sym ((c .before .before .before .before .before .before .before .before .before .before .before .before .before .before .before .before .before .fetch) .ensures) ∙ (c .before .before .before .before .before .before .before .before .before .before .before .before .before .before .before .found) .given .1) ((c .before .before .before .before .before .before .before .before .before .before .before .before .before .before .before .before .before .before .loop) .st) _ _ ((c .before .before .before .before .before .before .before .before .before .before .before .before .transfer) .ensures) in m .holds .long ∙ sym ((c .before .before .before .before .before .before .before .before .before .before .before .before .before .before .before .before .before .before .before .before .before .before .before .before .before .before .pre) .1 .0 .holds .long)
+same-length-6 c = let m = decoded-moved _ _ _ _ _ _ ((c .before .before .before .before .before .before .before .before .before .before .before .before .before .before .before .before .before .before .before .before .before .before .before .before .before .before .pre) .0) _ ((c .before .before .before .before .before .before .before .before .before .before .before .before .before .before .before .before .before .before .before .end) .ensures) _ ((c .before .before .before .before .before .before .before .before .before .before .before .before .before .before .before .before .before .before .before .before .before .before .before .before .before .before .pre) .1 .1) _ _ ((c .before .before .before .before .before .before .before .before .before .before .before .before .before .before .before .before .before .before .loop) .inv .0 .stands) _ (sym ((c .before .before .before .before .before .before .before .before .before .before .before .before .before .before .before .before .before .decode) .ensures) ∙ (c .before .before .before .before .before .before .before .before .before .before .before .before .before .before .before .decoded) .given .1) ((c .before .before .before .before .before .before .before .before .before .before .before .before .before .before .before .before .before .before .loop) .st) _ _ ((c .before .before .before .before .before .before .before .before .before .before .before .before .transfer) .ensures) in m .holds .long ∙ sym ((c .before .before .before .before .before .before .before .before .before .before .before .before .before .before .before .before .before .before .before .before .before .before .before .before .before .before .pre) .1 .0 .holds .long)
 
 returns-2 : tie.Need-returns-2 Inv-loop μ-loop
-returns-2 c = let m = fetched-moved _ _ _ _ _ _ ((c .before .before .before .before .before .before .before .before .before .before .before .before .before .before .before .before .before .before .before .before .before .before .before .before .before .before .pre) .0) _ ((c .before .before .before .before .before .before .before .before .before .before .before .before .before .before .before .before .before .before .before .end) .ensures) _ ((c .before .before .before .before .before .before .before .before .before .before .before .before .before .before .before .before .before .before .before .before .before .before .before .before .before .before .pre) .1 .1) _ _ ((c .before .before .before .before .before .before .before .before .before .before .before .before .before .before .before .before .before .before .loop) .inv .0 .stands) _ (sym ((c .before .before .before .before .before .before .before .before .before .before .before .before .before .before .before .before .before .fetch) .ensures) ∙ (c .before .before .before .before .before .before .before .before .before .before .before .before .before .before .before .found) .given .1) ((c .before .before .before .before .before .before .before .before .before .before .before .before .before .before .before .before .before .before .loop) .st) _ _ ((c .before .before .before .before .before .before .before .before .before .before .before .before .transfer) .ensures) in (walk-breaks _ _ ((c .before .before .before .before .before .before .before .before .before .before .before .before .before .before .before .before .before .before .before .before .before .before .before .before .before .before .pre) .0 .readable) _ ((c .before .before .before .before .before .before .before .before .before .before .before .before .before .before .before .before .before .before .before .before .before .before .before .before .before .before .pre) .0 .has) _ _ _ _ _ _ _ _ ((c .before .before .before .before .before .before .before .before .before .before .before .before .before .before .before .before .before .before .loop) .inv .0) _ _ m _ _ (rw ((c .enum-told2) .given .1) at ((c .before .before .before .before .before .before .follow) .ensures .0)), (c .before .before .before .before .before .before .follow) .ensures .1 .1 ∙ (c .before .before .before .before .before .before .before .before .before .before .before .before .before .before .before .before .before .before .loop) .inv .1)
+returns-2 c = let m = decoded-moved _ _ _ _ _ _ ((c .before .before .before .before .before .before .before .before .before .before .before .before .before .before .before .before .before .before .before .before .before .before .before .before .before .before .pre) .0) _ ((c .before .before .before .before .before .before .before .before .before .before .before .before .before .before .before .before .before .before .before .end) .ensures) _ ((c .before .before .before .before .before .before .before .before .before .before .before .before .before .before .before .before .before .before .before .before .before .before .before .before .before .before .pre) .1 .1) _ _ ((c .before .before .before .before .before .before .before .before .before .before .before .before .before .before .before .before .before .before .loop) .inv .0 .stands) _ (sym ((c .before .before .before .before .before .before .before .before .before .before .before .before .before .before .before .before .before .decode) .ensures) ∙ (c .before .before .before .before .before .before .before .before .before .before .before .before .before .before .before .decoded) .given .1) ((c .before .before .before .before .before .before .before .before .before .before .before .before .before .before .before .before .before .before .loop) .st) _ _ ((c .before .before .before .before .before .before .before .before .before .before .before .before .transfer) .ensures) in (walk-breaks _ _ ((c .before .before .before .before .before .before .before .before .before .before .before .before .before .before .before .before .before .before .before .before .before .before .before .before .before .before .pre) .0 .readable) _ ((c .before .before .before .before .before .before .before .before .before .before .before .before .before .before .before .before .before .before .before .before .before .before .before .before .before .before .pre) .0 .has) _ _ _ _ _ _ _ _ ((c .before .before .before .before .before .before .before .before .before .before .before .before .before .before .before .before .before .before .loop) .inv .0) _ _ m _ _ (rw ((c .enum-told2) .given .1) at ((c .before .before .before .before .before .before .follow) .ensures .0)), (c .before .before .before .before .before .before .follow) .ensures .1 .1 ∙ (c .before .before .before .before .before .before .before .before .before .before .before .before .before .before .before .before .before .before .loop) .inv .1)
 
 enum-told-3 : tie.Need-enum-told-3 Inv-loop μ-loop
 enum-told-3 c = search needs
@@ -76,10 +76,10 @@ same-length-8 : tie.Need-same-length-8 Inv-loop μ-loop
 same-length-8 c = (c .before .before .before .before .before .before .follow) .ensures .0 .grows .many ∙ (c .before .before .before .before .before .before .before .before .before .before .before .before .before .before .before .before .before .before .loop) .inv .0 .grows .many
 
 same-length-9 : tie.Need-same-length-9 Inv-loop μ-loop
-same-length-9 c = let m = fetched-moved _ _ _ _ _ _ ((c .before .before .before .before .before .before .before .before .before .before .before .before .before .before .before .before .before .before .before .before .before .before .before .before .before .before .pre) .0) _ ((c .before .before .before .before .before .before .before .before .before .before .before .before .before .before .before .before .before .before .before .end) .ensures) _ ((c .before .before .before .before .before .before .before .before .before .before .before .before .before .before .before .before .before .before .before .before .before .before .before .before .before .before .pre) .1 .1) _ _ ((c .before .before .before .before .before .before .before .before .before .before .before .before .before .before .before .before .before .before .loop) .inv .0 .stands) _ (sym ((c .before .before .before .before .before .before .before .before .before .before .before .before .before .before .before .before .before .fetch) .ensures) ∙ (c .before .before .before .before .before .before .before .before .before .before .before .before .before .before .before .found) .given .1) ((c .before .before .before .before .before .before .before .before .before .before .before .before .before .before .before .before .before .before .loop) .st) _ _ ((c .before .before .before .before .before .before .before .before .before .before .before .before .transfer) .ensures) in m .holds .long ∙ sym ((c .before .before .before .before .before .before .before .before .before .before .before .before .before .before .before .before .before .before .before .before .before .before .before .before .before .before .pre) .1 .0 .holds .long)
+same-length-9 c = let m = decoded-moved _ _ _ _ _ _ ((c .before .before .before .before .before .before .before .before .before .before .before .before .before .before .before .before .before .before .before .before .before .before .before .before .before .before .pre) .0) _ ((c .before .before .before .before .before .before .before .before .before .before .before .before .before .before .before .before .before .before .before .end) .ensures) _ ((c .before .before .before .before .before .before .before .before .before .before .before .before .before .before .before .before .before .before .before .before .before .before .before .before .before .before .pre) .1 .1) _ _ ((c .before .before .before .before .before .before .before .before .before .before .before .before .before .before .before .before .before .before .loop) .inv .0 .stands) _ (sym ((c .before .before .before .before .before .before .before .before .before .before .before .before .before .before .before .before .before .decode) .ensures) ∙ (c .before .before .before .before .before .before .before .before .before .before .before .before .before .before .before .decoded) .given .1) ((c .before .before .before .before .before .before .before .before .before .before .before .before .before .before .before .before .before .before .loop) .st) _ _ ((c .before .before .before .before .before .before .before .before .before .before .before .before .transfer) .ensures) in m .holds .long ∙ sym ((c .before .before .before .before .before .before .before .before .before .before .before .before .before .before .before .before .before .before .before .before .before .before .before .before .before .before .pre) .1 .0 .holds .long)
 
 returns-3 : tie.Need-returns-3 Inv-loop μ-loop
-returns-3 c = let m = fetched-moved _ _ _ _ _ _ ((c .before .before .before .before .before .before .before .before .before .before .before .before .before .before .before .before .before .before .before .before .before .before .before .before .before .before .pre) .0) _ ((c .before .before .before .before .before .before .before .before .before .before .before .before .before .before .before .before .before .before .before .end) .ensures) _ ((c .before .before .before .before .before .before .before .before .before .before .before .before .before .before .before .before .before .before .before .before .before .before .before .before .before .before .pre) .1 .1) _ _ ((c .before .before .before .before .before .before .before .before .before .before .before .before .before .before .before .before .before .before .loop) .inv .0 .stands) _ (sym ((c .before .before .before .before .before .before .before .before .before .before .before .before .before .before .before .before .before .fetch) .ensures) ∙ (c .before .before .before .before .before .before .before .before .before .before .before .before .before .before .before .found) .given .1) ((c .before .before .before .before .before .before .before .before .before .before .before .before .before .before .before .before .before .before .loop) .st) _ _ ((c .before .before .before .before .before .before .before .before .before .before .before .before .transfer) .ensures) in (walk-ends _ _ ((c .before .before .before .before .before .before .before .before .before .before .before .before .before .before .before .before .before .before .before .before .before .before .before .before .before .before .pre) .0 .readable) _ ((c .before .before .before .before .before .before .before .before .before .before .before .before .before .before .before .before .before .before .before .before .before .before .before .before .before .before .pre) .0 .has) _ _ _ _ _ _ _ _ ((c .before .before .before .before .before .before .before .before .before .before .before .before .before .before .before .before .before .before .loop) .inv .0) _ _ m _ _ (rw ((c .enum-told3) .given .1) at ((c .before .before .before .before .before .before .follow) .ensures .0)) (rw ((c .enum-told3) .given .1) at ((c .before .before .before .before .before .before .follow) .ensures .1 .0)), (c .before .before .before .before .before .before .follow) .ensures .1 .1 ∙ (c .before .before .before .before .before .before .before .before .before .before .before .before .before .before .before .before .before .before .loop) .inv .1)
+returns-3 c = let m = decoded-moved _ _ _ _ _ _ ((c .before .before .before .before .before .before .before .before .before .before .before .before .before .before .before .before .before .before .before .before .before .before .before .before .before .before .pre) .0) _ ((c .before .before .before .before .before .before .before .before .before .before .before .before .before .before .before .before .before .before .before .end) .ensures) _ ((c .before .before .before .before .before .before .before .before .before .before .before .before .before .before .before .before .before .before .before .before .before .before .before .before .before .before .pre) .1 .1) _ _ ((c .before .before .before .before .before .before .before .before .before .before .before .before .before .before .before .before .before .before .loop) .inv .0 .stands) _ (sym ((c .before .before .before .before .before .before .before .before .before .before .before .before .before .before .before .before .before .decode) .ensures) ∙ (c .before .before .before .before .before .before .before .before .before .before .before .before .before .before .before .decoded) .given .1) ((c .before .before .before .before .before .before .before .before .before .before .before .before .before .before .before .before .before .before .loop) .st) _ _ ((c .before .before .before .before .before .before .before .before .before .before .before .before .transfer) .ensures) in (walk-ends _ _ ((c .before .before .before .before .before .before .before .before .before .before .before .before .before .before .before .before .before .before .before .before .before .before .before .before .before .before .pre) .0 .readable) _ ((c .before .before .before .before .before .before .before .before .before .before .before .before .before .before .before .before .before .before .before .before .before .before .before .before .before .before .pre) .0 .has) _ _ _ _ _ _ _ _ ((c .before .before .before .before .before .before .before .before .before .before .before .before .before .before .before .before .before .before .loop) .inv .0) _ _ m _ _ (rw ((c .enum-told3) .given .1) at ((c .before .before .before .before .before .before .follow) .ensures .0)) (rw ((c .enum-told3) .given .1) at ((c .before .before .before .before .before .before .follow) .ensures .1 .0)), (c .before .before .before .before .before .before .follow) .ensures .1 .1 ∙ (c .before .before .before .before .before .before .before .before .before .before .before .before .before .before .before .before .before .before .loop) .inv .1)
 
 enum-known-turn : tie.Need-enum-known-turn Inv-loop μ-loop
 enum-known-turn c = search needs
@@ -88,7 +88,7 @@ loop-less : tie.Need-loop-less Inv-loop μ-loop
 loop-less c = let t = rw ((c .before .turn) .given .1) at ((c .before .before .before .before .before .before .before .follow) .ensures .0) in walk-less _ _ _ _ _ _ ((c .before .before .before .before .before .before .before .before .before .before .before .before .before .before .before .before .before .before .before .before .before .before .before .before .before .before .before .pre) .0) _ ((c .before .before .before .before .before .before .before .before .before .before .before .before .before .before .before .before .before .before .before .before .end) .ensures) _ _ _ (t .turn .0) (t .turn .1)
 
 loop-again : tie.Need-loop-again Inv-loop μ-loop
-loop-again c = let m = fetched-moved _ _ _ _ _ _ ((c .before .before .before .before .before .before .before .before .before .before .before .before .before .before .before .before .before .before .before .before .before .before .before .before .before .before .before .pre) .0) _ ((c .before .before .before .before .before .before .before .before .before .before .before .before .before .before .before .before .before .before .before .before .end) .ensures) _ ((c .before .before .before .before .before .before .before .before .before .before .before .before .before .before .before .before .before .before .before .before .before .before .before .before .before .before .before .pre) .1 .1) _ _ ((c .before .before .before .before .before .before .before .before .before .before .before .before .before .before .before .before .before .before .before .loop) .inv .0 .stands) _ (sym ((c .before .before .before .before .before .before .before .before .before .before .before .before .before .before .before .before .before .before .fetch) .ensures) ∙ (c .before .before .before .before .before .before .before .before .before .before .before .before .before .before .before .before .found) .given .1) ((c .before .before .before .before .before .before .before .before .before .before .before .before .before .before .before .before .before .before .before .loop) .st) _ _ ((c .before .before .before .before .before .before .before .before .before .before .before .before .before .transfer) .ensures) in (walk-on _ _ ((c .before .before .before .before .before .before .before .before .before .before .before .before .before .before .before .before .before .before .before .before .before .before .before .before .before .before .before .pre) .0 .readable) _ ((c .before .before .before .before .before .before .before .before .before .before .before .before .before .before .before .before .before .before .before .before .before .before .before .before .before .before .before .pre) .0 .has) _ _ _ _ _ _ _ _ ((c .before .before .before .before .before .before .before .before .before .before .before .before .before .before .before .before .before .before .before .loop) .inv .0) _ _ m _ _ _ (rw ((c .before .turn) .given .1) at ((c .before .before .before .before .before .before .before .follow) .ensures .0)) (rw ((c .before .turn) .given .1) at ((c .before .before .before .before .before .before .before .follow) .ensures .1 .0)), (c .before .before .before .before .before .before .before .follow) .ensures .1 .1 ∙ (c .before .before .before .before .before .before .before .before .before .before .before .before .before .before .before .before .before .before .before .loop) .inv .1)
+loop-again c = let m = decoded-moved _ _ _ _ _ _ ((c .before .before .before .before .before .before .before .before .before .before .before .before .before .before .before .before .before .before .before .before .before .before .before .before .before .before .before .pre) .0) _ ((c .before .before .before .before .before .before .before .before .before .before .before .before .before .before .before .before .before .before .before .before .end) .ensures) _ ((c .before .before .before .before .before .before .before .before .before .before .before .before .before .before .before .before .before .before .before .before .before .before .before .before .before .before .before .pre) .1 .1) _ _ ((c .before .before .before .before .before .before .before .before .before .before .before .before .before .before .before .before .before .before .before .loop) .inv .0 .stands) _ (sym ((c .before .before .before .before .before .before .before .before .before .before .before .before .before .before .before .before .before .before .decode) .ensures) ∙ (c .before .before .before .before .before .before .before .before .before .before .before .before .before .before .before .before .decoded) .given .1) ((c .before .before .before .before .before .before .before .before .before .before .before .before .before .before .before .before .before .before .before .loop) .st) _ _ ((c .before .before .before .before .before .before .before .before .before .before .before .before .before .transfer) .ensures) in (walk-on _ _ ((c .before .before .before .before .before .before .before .before .before .before .before .before .before .before .before .before .before .before .before .before .before .before .before .before .before .before .before .pre) .0 .readable) _ ((c .before .before .before .before .before .before .before .before .before .before .before .before .before .before .before .before .before .before .before .before .before .before .before .before .before .before .before .pre) .0 .has) _ _ _ _ _ _ _ _ ((c .before .before .before .before .before .before .before .before .before .before .before .before .before .before .before .before .before .before .before .loop) .inv .0) _ _ m _ _ _ (rw ((c .before .turn) .given .1) at ((c .before .before .before .before .before .before .before .follow) .ensures .0)) (rw ((c .before .turn) .given .1) at ((c .before .before .before .before .before .before .before .follow) .ensures .1 .0)), (c .before .before .before .before .before .before .before .follow) .ensures .1 .1 ∙ (c .before .before .before .before .before .before .before .before .before .before .before .before .before .before .before .before .before .before .before .loop) .inv .1)
 
 pub walk-spec : {M : Type 1} → statement M
 walk-spec =
@@ -98,8 +98,8 @@ walk-spec =
     μ-loop
     end-requires
     loop-holds
-    fetch-requires
-    enum-known-found
+    decode-requires
+    enum-known-decoded
     enum-told
     same-length
     same-length-2
