@@ -1,10 +1,12 @@
 -- From what was done to the stack and what was made of the heap to what the instruction does over both.
 use Prim.Native.Nat.{ℕ, _-_}
 use native.Mathlib.Omega.{arith}
-use mathlib.Core.Path.{_≡_, refl, sym, ap, _∙_}
+use mathlib.Core.Path.{_≡_, refl, sym, ap, _∙_, subst}
+use mathlib.Core.Bool.{Bool, true, false}
 use mathlib.Core.List.{List, [], _∷_}
 use lib.ListN.{length, set}
-use Rattle.rules.specs.Heap.{Heap}
+use Rattle.rules.specs.declared.Slot.{Slot}
+use Rattle.rules.specs.Heap.{Heap, collected}
 use Rattle.rules.specs.Machine.{State, Next, stops}
 use Rattle.soundness.specs.Framed.{withHeap, onto}
 use Rattle.state.specs.State.{stateOf, Ready, Unchanged, Does, DoesOver}
@@ -13,8 +15,9 @@ use Rattle.state.specs.declared.Progress.{Progress}
 use Rattle.state.specs.declared.Progress.the-variants.{Goes, Finishes, Stops}
 use Rattle.state.proofs.Outcomes.{stopping}
 use Rattle.heap.specs.declared.Shelf.{Shelf}
+use Rattle.heap.specs.Blocks.{heapOf, Sane}
 use Rattle.heap.specs.Changes.{Makes}
-use Rattle.access.specs.Access.{shelfOf, heapIn, HeapReady, Accessed}
+use Rattle.access.specs.Access.{shelfOf, heapIn, source, HeapReady, Accessed}
 
 -- ---- the shelf's words
 
@@ -27,6 +30,25 @@ shelf-kept (x ∷ []) k e = absurd (omega (arith, e))
 shelf-kept (x ∷ y ∷ []) k e = absurd (omega (arith, e))
 shelf-kept (x ∷ y ∷ z ∷ []) k e = absurd (omega (arith, e))
 shelf-kept (x ∷ y ∷ z ∷ w ∷ l) k e = (refl, e)
+
+-- ---- what is made of the heap
+
+pub unmade : {size : ℕ} {k : Shelf} {d c b : List ℕ} → Sane size k d c b → Makes size k d c b c b (heapOf size k d c b)
+unmade s = record { heap = refl; sane = s; past-cells = refl; past-table = refl; same-cells = refl; same-table = refl }
+
+-- for `gcnew`, and for `new`
+pub source-collected : (u : Bool) (n : ℕ) (st : List Slot) (h : Heap) {size : ℕ} {q : Shelf} {d c b c′ b′ : List ℕ} → u ≡ true → Makes size q d c b c′ b′ (collected n st h) → Makes size q d c b c′ b′ (source u n st h)
+source-collected u n st h e x = rw e x
+
+pub source-same : (u : Bool) (n : ℕ) (st : List Slot) (h : Heap) {size : ℕ} {q : Shelf} {d c b c′ b′ : List ℕ} → u ≡ false → Makes size q d c b c′ b′ h → Makes size q d c b c′ b′ (source u n st h)
+source-same u n st h e x = rw e x
+
+-- of so many cells, from the shelf in g
+pub source-at : (g : List ℕ) (u : Bool) (w n : ℕ) (st : List Slot) {size : ℕ} {q k : Shelf} {d c b c′ b′ : List ℕ} → k ≡ shelfOf g → w ≡ n
+    → Makes size q d c b c′ b′ (source u w st (heapOf size k d c b)) → Makes size q d c b c′ b′ (source u n st (heapIn size d g c b))
+source-at g u w n st {size} {q} {k} {d} {c} {b} {c′} {b′} ek ew x =
+    subst (λ (z : ℕ). Makes size q d c b c′ b′ (source u z st (heapIn size d g c b))) ew
+    (subst (λ (z : Shelf). Makes size q d c b c′ b′ (source u w st (heapOf size z d c b))) ek x)
 
 -- ---- what is done
 
@@ -76,7 +98,7 @@ module _ (e : State → Next) (cap size : ℕ) (r : Registers) (d f p t g c b : 
   pub stacked : (a : Progress) (p′ t′ : List ℕ) (x : Next) → Does cap r a p t f p′ t′ f x → onto before x ≡ e state → Accessed e cap size r a d f p t g c b p′ t′ g c b
   stacked a p′ t′ x does is =
       accessed a p′ t′ g c b x before does
-      (record { heap = refl; sane = o .sane; past-cells = refl; past-table = refl; same-cells = refl; same-table = refl })
+      (unmade (o .sane))
       (o .four) is (kept a before)
 
   pub stopped : (n : ℕ) → e state ≡ stops n → Accessed e cap size r (Stops n) d f p t g c b p t g c b

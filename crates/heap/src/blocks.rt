@@ -5,8 +5,8 @@ ghost use mathlib.Core.List.{List};
 ghost use Prim.Native.Nat.{ℕ, _+_, _*_, _<_, _≤_};
 ghost use lib.ListN.{length};
 ghost use Rattle.rules.specs.Heap.{having, without, emptyHeap};
-ghost use Rattle.heap.specs.Blocks.{entryAt, widthIn, bare, heapOf, Sane};
-ghost use Rattle.heap.specs.Changes.{EntryPut, Makes, Given};
+ghost use Rattle.heap.specs.Blocks.{entryAt, sizeIn, listedAs, bare, heapOf, Sane};
+ghost use Rattle.heap.specs.Changes.{EntryPut, Makes, Removed, Given};
 ghost use Rattle.heap.specs.Grants.{Grants};
 use crate::Entry;
 use crate::Found;
@@ -37,13 +37,17 @@ pub fn given(d: &[u8], p: &[u8], t: &[u8], size: usize, k: Shelf, a: u64) -> Fou
     let Found::At(i) = entries::find(t, k.count, k.next, a / 65536) else {
         return Found::Nothing;
     };
+    let e = entries::entry_at(t, i);
+    if 64 <= e.listed {
+        return Found::Nothing;
+    }
     Found::At(i)
 }
 
 // The block of entry i is freed.
 pub fn remove(d: &[u8], p: &mut [u8], t: &mut [u8], size: usize, k: Shelf, i: usize) -> Shelf
     requires { ⌜ Sane size k (now d) (now p) (now t) × (i < k .count) ⌝ }
-    ensures { λ r. ⌜ Makes size r (now (d .entry)) (now (p .entry)) (now (t .entry)) (now (p .exit)) (now (t .exit)) (having (heapOf size k (now (d .entry)) (now (p .entry)) (now (t .entry))) (without (heapOf size k (now (d .entry)) (now (p .entry)) (now (t .entry)) .blocks) (entryAt (now (t .entry)) i .serial))) ⌝ }
+    ensures { λ r. ⌜ Makes size r (now (d .entry)) (now (p .entry)) (now (t .entry)) (now (p .exit)) (now (t .exit)) (having (heapOf size k (now (d .entry)) (now (p .entry)) (now (t .entry))) (without (heapOf size k (now (d .entry)) (now (p .entry)) (now (t .entry)) .blocks) (entryAt (now (t .entry)) i .serial))) × Removed k r (now (t .entry)) (now (t .exit)) i ⌝ }
 {
     let e = entries::entry_at(t, i);
     let n = entries::width(d, e.listed);
@@ -79,10 +83,18 @@ fn lowered(top: usize, first: usize, end: usize) -> usize
     top
 }
 
-// A block of a type, in the lowest run that fits.
-pub fn new(d: &[u8], t: &mut [u8], size: usize, k: Shelf, listed: u64) -> Grant
-    requires { ⌜ ((p : List ℕ) × Sane size k (now d) p (now t)) × (1 ≤ widthIn (now d) listed) ⌝ }
-    ensures { λ r. ⌜ ((p : List ℕ) → Sane size k (now (d .entry)) p (now (t .entry)) → Grants size k (now (d .entry)) p (now (t .entry)) (now (t .exit)) listed r) ⌝ }
+// A block of type n, of so many cells, in the lowest run that fits.
+pub fn new(
+    d: &[u8],
+    t: &mut [u8],
+    size: usize,
+    k: Shelf,
+    managed: bool,
+    n: u64,
+    cells: usize,
+) -> Grant
+    requires { ⌜ ((p : List ℕ) × Sane size k (now d) p (now t)) × (1 ≤ cells) × (cells < 256) × (cells ≡ sizeIn (now d) n) ⌝ }
+    ensures { λ r. ⌜ ((p : List ℕ) → Sane size k (now (d .entry)) p (now (t .entry)) → Grants size k (now (d .entry)) p (now (t .entry)) (now (t .exit)) managed n r) ⌝ }
 {
     if 281474976710655 <= k.next {
         return Grant {
@@ -90,19 +102,29 @@ pub fn new(d: &[u8], t: &mut [u8], size: usize, k: Shelf, listed: u64) -> Grant
             shelf: k,
         };
     }
-    let n = entries::width(d, listed);
-    let room = rooms::place(d, t, size, k, n);
+    let room = rooms::place(d, t, size, k, cells);
     let Room::From(c, low, top) = room else {
         return Grant {
             address: 18446744073709551615,
             shelf: k,
         };
     };
-    let shelf = give(t, k, c, low, top, listed);
+    let shelf = give(t, k, c, low, top, listed(managed, n));
     Grant {
         address: k.next * 65536,
         shelf,
     }
+}
+
+// A type number as the table lists it.
+fn listed(managed: bool, n: u64) -> u64
+    requires { ⌜ n < 64 ⌝ }
+    ensures { λ r. ⌜ r ≡ listedAs managed n ⌝ }
+{
+    if managed {
+        return 64 + n;
+    }
+    n
 }
 
 // The entry of a block from cell c on.
