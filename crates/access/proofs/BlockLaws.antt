@@ -33,13 +33,12 @@ use Rattle.heap.specs.declared.Grant.{Grant}
 use Rattle.heap.specs.declared.Shelf.{Shelf}
 use Rattle.heap.specs.Blocks.{entryAt, sizeIn, heapOf}
 use Rattle.heap.specs.Changes.{Makes, Given}
-use Rattle.heap.specs.Grants.{Grants}
+use Rattle.heap.specs.Grants.{Gives, source}
 use Rattle.heap.specs.Targets.{Shapes}
 use Rattle.heap.proofs.Aimed.{shape-none, shape-some, moduleWith, shapes-with}
-use Rattle.heap.proofs.Collected.{made-then}
 use Rattle.access.specs.declared.targets.Aim.{Aim}
 use Rattle.access.specs.declared.targets.Aim.the-variants.{Slot as slotAim, Whole, Cell, Raises}
-use Rattle.access.specs.Access.{shelfOf, heapIn, source, HeapReady, Accessed}
+use Rattle.access.specs.Access.{shelfOf, heapIn, HeapReady, Accessed}
 use Rattle.access.specs.Targets.{through, ToWhole, Leads}
 use Rattle.access.proofs.Over.{accessed, stacked, stopped}
 use Rattle.access.proofs.Leading.{Aimed}
@@ -119,22 +118,21 @@ module _ (m : Module) (cap : ℕ) (r : Registers) (f p t : List ℕ) (k : Ready 
             stopped (execIn m cap (New u n)) cap size r d f p t g c b k o 20
             (new-creates ∙ rw (length-slots p t (r .height), lt-leb (suc (r .height)) cap (omega arith)) refl)
 
-        -- q: the shelf of that heap
-        module _ (q : Shelf) (c′ b₁ : List ℕ) (made : Makes size q d c b c′ b₁ from) (a : Grant) where
+        module _ (a : Grant) where
           abbrev granted : Slot
           granted = slot (ptrKind u) (a .address)
 
-          pub new-is : (k₀ : ℕ) → k₀ ≡ ptrKind u → (p′ t′ g′ b′ : List ℕ) → r .height < cap → Grants size q d c′ b₁ b′ u n a → shelfOf g′ ≡ a .shelf → length g′ ≡ 4
+          pub new-is : (k₀ : ℕ) → k₀ ≡ ptrKind u → (p′ t′ g′ c′ b′ : List ℕ) → r .height < cap → Gives size d c b c′ b′ from u n a → shelfOf g′ ≡ a .shelf → length g′ ≡ 4
               → p′ ≡ payloadsWith p (r .height) (slot k₀ (a .address)) → t′ ≡ typesWith t (r .height) (slot k₀ (a .address)) → a .address < 2 ^ 64
               → Accessed (execIn m cap (New u n)) cap size r (Goes (movedTo r (r .place + 5) (r .height + 1))) d f p t g c b p′ t′ g′ c′ b′
-          new-is k₀ e p′ t′ g′ b′ h y eg four ep et fits =
+          new-is k₀ e p′ t′ g′ c′ b′ h y eg four ep et fits =
               accessed (execIn m cap (New u n)) cap size r d f p t g c b k o (Goes (movedTo r (r .place + 5) (r .height + 1))) p′ t′ g′ c′ b′
               (shifted (stateOf r p t f) (r .place + 5) (granted ∷ slotsOf p t (r .height)))
               (heapWith from n u (sizeIn d n) (placeFor from (sizeIn d n)))
               (topping cap r p t f k granted (r .height) p′ t′ (subst (λ (x : ℕ). p′ ≡ payloadsWith p (r .height) (slot x (a .address))) e ep)
               (subst (λ (x : ℕ). t′ ≡ typesWith t (r .height) (slot x (a .address))) e et) fits h (r .place + 5) _ (omega (arith, k .over)) refl)
-              (rw (eg, ← made .heap) (made-then made (y .makes))) four
-              (sym (new-creates ∙ rw (length-slots p t (r .height), le-leb (suc (r .height)) cap (omega arith), ← made .heap, ← y .address) refl)) tt
+              (rw eg (y .makes)) four
+              (sym (new-creates ∙ rw (length-slots p t (r .height), le-leb (suc (r .height)) cap (omega arith), ← y .address) refl)) tt
 
     -- ---- delete
 

@@ -2,11 +2,11 @@
 use Prim.Native.Nat.{ℕ, _-_}
 use native.Mathlib.Omega.{arith}
 use mathlib.Core.Path.{_≡_, refl, sym, ap, _∙_, subst}
-use mathlib.Core.Bool.{Bool, true, false}
+use mathlib.Core.Bool.{Bool}
 use mathlib.Core.List.{List, [], _∷_}
 use lib.ListN.{length, set}
 use Rattle.rules.specs.declared.Slot.{Slot}
-use Rattle.rules.specs.Heap.{Heap, collected}
+use Rattle.rules.specs.Heap.{Heap}
 use Rattle.rules.specs.Machine.{State, Next, stops}
 use Rattle.soundness.specs.Framed.{withHeap, onto}
 use Rattle.state.specs.State.{stateOf, Ready, Unchanged, Does, DoesOver}
@@ -15,9 +15,12 @@ use Rattle.state.specs.declared.Progress.{Progress}
 use Rattle.state.specs.declared.Progress.the-variants.{Goes, Finishes, Stops}
 use Rattle.state.proofs.Outcomes.{stopping}
 use Rattle.heap.specs.declared.Shelf.{Shelf}
-use Rattle.heap.specs.Blocks.{heapOf, Sane}
+use Rattle.heap.specs.declared.Grant.{Grant}
+use Rattle.heap.specs.Blocks.{heapOf}
 use Rattle.heap.specs.Changes.{Makes}
-use Rattle.access.specs.Access.{shelfOf, heapIn, source, HeapReady, Accessed}
+use Rattle.heap.specs.Grants.{Gives, source}
+use Rattle.heap.proofs.Collected.{unmade}
+use Rattle.access.specs.Access.{shelfOf, heapIn, HeapReady, Accessed}
 
 -- ---- the shelf's words
 
@@ -31,24 +34,14 @@ shelf-kept (x ∷ y ∷ []) k e = absurd (omega (arith, e))
 shelf-kept (x ∷ y ∷ z ∷ []) k e = absurd (omega (arith, e))
 shelf-kept (x ∷ y ∷ z ∷ w ∷ l) k e = (refl, e)
 
--- ---- what is made of the heap
-
-pub unmade : {size : ℕ} {k : Shelf} {d c b : List ℕ} → Sane size k d c b → Makes size k d c b c b (heapOf size k d c b)
-unmade s = record { heap = refl; sane = s; past-cells = refl; past-table = refl; same-cells = refl; same-table = refl }
-
--- for `gcnew`, and for `new`
-pub source-collected : (u : Bool) (n : ℕ) (st : List Slot) (h : Heap) {size : ℕ} {q : Shelf} {d c b c′ b′ : List ℕ} → u ≡ true → Makes size q d c b c′ b′ (collected n st h) → Makes size q d c b c′ b′ (source u n st h)
-source-collected u n st h e x = rw e x
-
-pub source-same : (u : Bool) (n : ℕ) (st : List Slot) (h : Heap) {size : ℕ} {q : Shelf} {d c b c′ b′ : List ℕ} → u ≡ false → Makes size q d c b c′ b′ h → Makes size q d c b c′ b′ (source u n st h)
-source-same u n st h e x = rw e x
+-- ---- what is given of the heap
 
 -- of so many cells, from the shelf in g
-pub source-at : (g : List ℕ) (u : Bool) (w n : ℕ) (st : List Slot) {size : ℕ} {q k : Shelf} {d c b c′ b′ : List ℕ} → k ≡ shelfOf g → w ≡ n
-    → Makes size q d c b c′ b′ (source u w st (heapOf size k d c b)) → Makes size q d c b c′ b′ (source u n st (heapIn size d g c b))
-source-at g u w n st {size} {q} {k} {d} {c} {b} {c′} {b′} ek ew x =
-    subst (λ (z : ℕ). Makes size q d c b c′ b′ (source u z st (heapIn size d g c b))) ew
-    (subst (λ (z : Shelf). Makes size q d c b c′ b′ (source u w st (heapOf size z d c b))) ek x)
+pub given-at : (g : List ℕ) (u : Bool) (w m : ℕ) (st : List Slot) {size n : ℕ} {k : Shelf} {a : Grant} {d c b c′ b′ : List ℕ} → k ≡ shelfOf g → w ≡ m
+    → Gives size d c b c′ b′ (source u w st (heapOf size k d c b)) u n a → Gives size d c b c′ b′ (source u m st (heapIn size d g c b)) u n a
+given-at g u w m st {size} {n} {k} {a} {d} {c} {b} {c′} {b′} ek ew x =
+    subst (λ (z : ℕ). Gives size d c b c′ b′ (source u z st (heapIn size d g c b)) u n a) ew
+    (subst (λ (z : Shelf). Gives size d c b c′ b′ (source u w st (heapOf size z d c b)) u n a) ek x)
 
 -- ---- what is done
 

@@ -1,13 +1,11 @@
 -- What an instruction over a heap does.
 use Prim.Native.Nat.{ℕ, _*_}
 use mathlib.Core.Path.{_≡_}
-use mathlib.Core.Bool.{Bool, true, false}
 use mathlib.Core.List.{List}
 use lib.ListN.{length, getD, drop}
 use Rattle.rules.specs.declared.Instruction.{Instruction}
 use Rattle.rules.specs.Tables.{Module}
-use Rattle.rules.specs.declared.Slot.{Slot}
-use Rattle.rules.specs.Heap.{Heap, collected}
+use Rattle.rules.specs.Heap.{Heap}
 use Rattle.rules.specs.Machine.{State, Next, execIn}
 use Rattle.soundness.specs.Framed.{withHeap, onto}
 use Rattle.state.specs.State.{stateOf, nextOf, Ready, Unchanged, ReadyAfter, DoesOver}
@@ -24,11 +22,6 @@ shelfOf g = record { count = getD g 0 0; next = getD g 1 0; low = getD g 2 0; to
 -- the heap of `size` cells in lent words and bytes: d the module's structures, g the shelf, c cells, b the table of blocks
 abbrev pub heapIn : ℕ → List ℕ → List ℕ → List ℕ → List ℕ → Heap
 heapIn size d g c b = heapOf size (shelfOf g) d c b
-
--- the heap h from which `new` or, where g, `gcnew` gives n cells, st being the stack
-abbrev pub source : Bool → ℕ → List Slot → Heap → Heap
-source false n st h = h
-source true n st h = collected n st h
 
 pub record HeapReady (size : ℕ) (d g c b : List ℕ) : Type 0 where
   pub four : length g ≡ 4

@@ -1,6 +1,6 @@
 // `null`, `new`, `delete`, `flea`, `gcnull`, `gcnew`.
 ghost use mathlib.Core.Path.{_≡_};
-ghost use Prim.Native.Nat.{_+_, _*_, _<_, _≤_};
+ghost use Prim.Native.Nat.{_+_, _<_, _≤_};
 ghost use lib.ListN.{length};
 ghost use Rattle.rules.specs.Bytes.{word};
 ghost use Rattle.rules.specs.Instructions.{ptrKind};
@@ -10,10 +10,8 @@ ghost use Rattle.rules.specs.Machine.{execIn};
 ghost use Rattle.rules.specs.declared.Instruction.the-variants.{Null, New, Delete, Flea};
 ghost use Rattle.soundness.specs.Kinds.{Kinded};
 ghost use Rattle.state.specs.State.{ReadyOn};
-ghost use Rattle.heap.specs.Blocks.{heapOf, Sane};
-ghost use Rattle.heap.specs.Changes.{Makes};
 ghost use Rattle.heap.specs.Targets.{Shapes};
-ghost use Rattle.access.specs.Access.{HeapReady, AccessIs, ActsOver, source};
+ghost use Rattle.access.specs.Access.{HeapReady, AccessIs, ActsOver};
 use crate::exceptions::FIELD_OUTOFRANGE;
 use crate::exceptions::POINTER_NOTPOINTER;
 use crate::exceptions::POINTER_NOTSTRUCTURE;
@@ -27,7 +25,6 @@ use crate::targets::Aim;
 use crate::targets::NULL;
 use crate::targets::target_of;
 use heap::Found;
-use heap::Shelf;
 use rules::Slot;
 use state::Progress;
 use state::Registers;
@@ -86,8 +83,7 @@ pub fn new(
     if cap <= h {
         return Progress::Stops(STACK_OVERFLOW);
     }
-    let k = prepared(managed, d, size, shelf(g), width, p, t, h, cells, table);
-    let grant = heap::blocks::new(d, table, size, k, managed, n, width);
+    let grant = heap::blocks::new(d, cells, table, size, shelf(g), managed, n, width, p, t, h);
     keep(g, grant.shelf);
     let v = Slot {
         kind: kind_of(managed),
@@ -95,29 +91,6 @@ pub fn new(
     };
     state::put_slot(p, t, h, v);
     Progress::Goes(state::moved(r, r.place + 5, h + 1))
-}
-
-// The heap from which a block of n cells is given, h slots being on the stack: for `gcnew` it is collected.
-fn prepared(
-    managed: bool,
-    d: &[u8],
-    size: usize,
-    k: Shelf,
-    n: usize,
-    p: &[u8],
-    t: &[u8],
-    h: usize,
-    cells: &mut [u8],
-    table: &mut [u8],
-) -> Shelf
-    requires { ⌜ Sane size k (now d) (now cells) (now table) × (1 ≤ n) × (n < 256) ⌝ }
-    requires { ⌜ (h * 8 ≤ length (now p)) × (h ≤ length (now t)) ⌝ }
-    ensures { λ q. ⌜ Makes size q (now (d .entry)) (now (cells .entry)) (now (table .entry)) (now (cells .exit)) (now (table .exit)) (source managed n (slotsOf (now (p .entry)) (now (t .entry)) h) (heapOf size k (now (d .entry)) (now (cells .entry)) (now (table .entry)))) ⌝ }
-{
-    if managed {
-        return heap::collect::collect(d, cells, table, size, k, n, p, t, h);
-    }
-    k
 }
 
 // `delete`.

@@ -5,6 +5,7 @@ use native.Mathlib.Omega.{arith}
 use mathlib.Core.Path.{_≡_, refl, sym, ap, _∙_}
 use mathlib.Core.Option.{Option, none, some}
 use mathlib.Core.Bool.{Bool, true, false, cond}
+use mathlib.Core.Logic.{⊎-elim}
 use mathlib.Core.List.{List}
 use lib.ListN.{length, drop}
 use lib.Dec.{leb, ltb}
@@ -19,6 +20,7 @@ use Rattle.heap.specs.Blocks.{cellIn, entryAt, sizeIn, listedAs, widthIn
 use Rattle.heap.specs.Changes.{EntryPut, Makes}
 use Rattle.heap.specs.Rooms.{Fitting, Finds, roomOf}
 use Rattle.heap.specs.Grants.{Grants}
+use Rattle.heap.proofs.Stores.{split-lt}
 use Rattle.heap.proofs.Giving.{room-left, given-blocks, given-rising, given-laid}
 
 -- ---- a type number, listed and back
@@ -94,3 +96,11 @@ module _ (size : ℕ) (k : Shelf) (d p t : List ℕ) (s : Sane size k d p t) whe
             };
             address = rw (place-is ∙ ap roomOf e) refl;
           }
+
+  -- no run: null, whether serials are left or not
+  pub new-nowhere : (g : Bool) (n w : ℕ) → w ≡ sizeIn d n → Finds size k d p t w Nowhere → Grants size k d p t t g n (nullGrant k)
+  new-nowhere g n w en f =
+      ⊎-elim
+      (λ (a : k .next < serialLimit). new-none g n w en a Nowhere f refl)
+      (λ (a : serialLimit ≤ k .next). new-spent g n a)
+      (split-lt (k .next) serialLimit)

@@ -7,13 +7,15 @@ ghost use lib.ListN.{length};
 ghost use Rattle.rules.specs.Heap.{having, without, emptyHeap};
 ghost use Rattle.heap.specs.Blocks.{entryAt, sizeIn, listedAs, bare, heapOf, Sane};
 ghost use Rattle.heap.specs.Changes.{EntryPut, Makes, Removed, Given};
-ghost use Rattle.heap.specs.Grants.{Grants};
+ghost use Rattle.rules.specs.Stack.{slotsOf};
+ghost use Rattle.heap.specs.Grants.{GrantsAt, Gives, source};
 use crate::Entry;
 use crate::Found;
 use crate::Grant;
 use crate::Room;
 use crate::Shelf;
 use crate::cells;
+use crate::collect;
 use crate::entries;
 use crate::rooms;
 
@@ -83,36 +85,62 @@ fn lowered(top: usize, first: usize, end: usize) -> usize
     top
 }
 
-// A block of type n, of so many cells, in the lowest run that fits.
+// A block of type n, of so many cells, in the lowest run that fits; for `gcnew` once dead blocks are freed, and the rest packed
+// where there is none. sp and st are the stack's payloads and types, h its height.
 pub fn new(
     d: &[u8],
+    p: &mut [u8],
     t: &mut [u8],
     size: usize,
     k: Shelf,
     managed: bool,
     n: u64,
     cells: usize,
+    sp: &[u8],
+    st: &[u8],
+    h: usize,
 ) -> Grant
-    requires { ⌜ ((p : List ℕ) × Sane size k (now d) p (now t)) × (1 ≤ cells) × (cells < 256) × (cells ≡ sizeIn (now d) n) ⌝ }
-    ensures { λ r. ⌜ ((p : List ℕ) → Sane size k (now (d .entry)) p (now (t .entry)) → Grants size k (now (d .entry)) p (now (t .entry)) (now (t .exit)) managed n r) ⌝ }
+    requires { ⌜ Sane size k (now d) (now p) (now t) × (1 ≤ cells) × (cells < 256) × (cells ≡ sizeIn (now d) n) ⌝ }
+    requires { ⌜ (h * 8 ≤ length (now sp)) × (h ≤ length (now st)) ⌝ }
+    ensures { λ r. ⌜ Gives size (now (d .entry)) (now (p .entry)) (now (t .entry)) (now (p .exit)) (now (t .exit)) (source managed cells (slotsOf (now (sp .entry)) (now (st .entry)) h) (heapOf size k (now (d .entry)) (now (p .entry)) (now (t .entry)))) managed n r ⌝ }
+{
+    let q = collect::freed(managed, d, p, t, size, k, sp, st, h);
+    let room = rooms::place(d, t, size, q, cells);
+    let Room::From(c, low, top) = room else {
+        return collect::squeezed(managed, d, p, t, size, q, n, cells);
+    };
+    grant(t, q, c, low, top, managed, n)
+}
+
+// The block from cell c on, unless serials have run out.
+pub fn grant(
+    t: &mut [u8],
+    k: Shelf,
+    c: usize,
+    low: usize,
+    top: usize,
+    managed: bool,
+    n: u64,
+) -> Grant
+    requires { ⌜ (k .count * 24 + 24 ≤ length (now t)) × (n < 64) ⌝ }
+    ensures { λ r. ⌜ GrantsAt k c low top (now (t .entry)) (now (t .exit)) managed n r ⌝ }
 {
     if 281474976710655 <= k.next {
-        return Grant {
-            address: 18446744073709551615,
-            shelf: k,
-        };
+        return null_grant(k);
     }
-    let room = rooms::place(d, t, size, k, cells);
-    let Room::From(c, low, top) = room else {
-        return Grant {
-            address: 18446744073709551615,
-            shelf: k,
-        };
-    };
     let shelf = give(t, k, c, low, top, listed(managed, n));
     Grant {
         address: k.next * 65536,
         shelf,
+    }
+}
+
+pub fn null_grant(k: Shelf) -> Grant
+    ensures { λ r. ⌜ r ≡ record { address = 18446744073709551615; shelf = k } ⌝ }
+{
+    Grant {
+        address: 18446744073709551615,
+        shelf: k,
     }
 }
 

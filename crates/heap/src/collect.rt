@@ -1,47 +1,73 @@
 // What `gcnew` does before it does as `new`. The serials that type 8 slots hold are looked up once each, and their entries marked;
 // managed blocks whose entry is not marked are freed, the last first.
 ghost use mathlib.Core.Path.{_≡_};
+ghost use mathlib.Core.Bool.{true};
 ghost use mathlib.Core.List.{List};
 ghost use Prim.Native.Nat.{ℕ, _+_, _*_, _<_, _≤_};
 ghost use lib.ListN.{length, getD};
 ghost use Rattle.rules.specs.Stack.{slotsOf};
-ghost use Rattle.rules.specs.Heap.{having, swept, collected};
-ghost use Rattle.heap.specs.Blocks.{entryAt, heapOf, Rising, Sane};
+ghost use Rattle.rules.specs.Heap.{having, swept};
+ghost use Rattle.heap.specs.Blocks.{entryAt, sizeIn, heapOf, Rising, Sane};
 ghost use Rattle.heap.specs.Changes.{Makes};
 ghost use Rattle.heap.specs.Holds.{Noted, Holding};
+ghost use Rattle.heap.specs.Rooms.{Finds};
+ghost use Rattle.heap.specs.Grants.{sweptFor, packedFor, Gives};
+ghost use Rattle.heap.specs.declared.Room.the-variants.{Nowhere};
 use crate::Found;
-use crate::Room;
+use crate::Grant;
 use crate::Shelf;
 use crate::blocks;
 use crate::entries;
 use crate::pack;
-use crate::rooms;
 
-// Frees the dead, and packs the rest where no run of n cells is left; sp and st are the stack's payloads and types, h its height.
-pub fn collect(
+// The heap without its dead blocks, for `gcnew`; sp and st are the stack's payloads and types, h its height.
+pub fn freed(
+    managed: bool,
     d: &[u8],
     p: &mut [u8],
     t: &mut [u8],
     size: usize,
     k: Shelf,
-    n: usize,
     sp: &[u8],
     st: &[u8],
     h: usize,
 ) -> Shelf
     requires { ⌜ Sane size k (now d) (now p) (now t) × (h * 8 ≤ length (now sp)) × (h ≤ length (now st)) ⌝ }
-    requires { ⌜ (1 ≤ n) × (n < 256) ⌝ }
-    ensures { λ r. ⌜ Makes size r (now (d .entry)) (now (p .entry)) (now (t .entry)) (now (p .exit)) (now (t .exit)) (collected n (slotsOf (now (sp .entry)) (now (st .entry)) h) (heapOf size k (now (d .entry)) (now (p .entry)) (now (t .entry)))) ⌝ }
+    ensures { λ r. ⌜ Makes size r (now (d .entry)) (now (p .entry)) (now (t .entry)) (now (p .exit)) (now (t .exit)) (sweptFor managed (slotsOf (now (sp .entry)) (now (st .entry)) h) (heapOf size k (now (d .entry)) (now (p .entry)) (now (t .entry)))) ⌝ }
 {
-    let q = sweep(d, p, t, size, k, sp, st, h);
-    let room = rooms::place(d, t, size, q, n);
-    let Room::From(_cell, _low, _top) = room else {
-        return pack::pack(d, p, t, size, q);
-    };
-    q
+    if managed {
+        return sweep(d, p, t, size, k, sp, st, h);
+    }
+    k
 }
 
-// Frees the dead.
+// Where there is no run: for `gcnew` the heap is packed first.
+pub fn squeezed(
+    managed: bool,
+    d: &[u8],
+    p: &mut [u8],
+    t: &mut [u8],
+    size: usize,
+    k: Shelf,
+    n: u64,
+    cells: usize,
+) -> Grant
+    requires { ⌜ Sane size k (now d) (now p) (now t) × Finds size k (now d) (now p) (now t) cells Nowhere ⌝ }
+    requires { ⌜ (1 ≤ cells) × (cells < 256) × (cells ≡ sizeIn (now d) n) ⌝ }
+    ensures { λ r. ⌜ Gives size (now (d .entry)) (now (p .entry)) (now (t .entry)) (now (p .exit)) (now (t .exit)) (packedFor managed (heapOf size k (now (d .entry)) (now (p .entry)) (now (t .entry)))) managed n r ⌝ }
+{
+    if managed {
+        let q = pack::pack(d, p, t, size, k);
+        let top = q.top;
+        if size < top + cells {
+            return blocks::null_grant(q);
+        }
+        return blocks::grant(t, q, top, top + cells, top + cells, true, n);
+    }
+    blocks::null_grant(k)
+}
+
+// Frees the dead, by way of marks for the entries: 64 of them where these are enough.
 fn sweep(
     d: &[u8],
     p: &mut [u8],
@@ -53,16 +79,39 @@ fn sweep(
     h: usize,
 ) -> Shelf
     requires { ⌜ Sane size k (now d) (now p) (now t) × (h * 8 ≤ length (now sp)) × (h ≤ length (now st)) ⌝ }
-    ensures { λ r. ⌜ Makes size r (now (d .entry)) (now (p .entry)) (now (t .entry)) (now (p .exit)) (now (t .exit)) (having (heapOf size k (now (d .entry)) (now (p .entry)) (now (t .entry))) (swept (slotsOf (now (sp .entry)) (now (st .entry)) h) (heapOf size k (now (d .entry)) (now (p .entry)) (now (t .entry)) .blocks))) ⌝ }
+    ensures { λ r. ⌜ Makes size r (now (d .entry)) (now (p .entry)) (now (t .entry)) (now (p .exit)) (now (t .exit)) (sweptFor true (slotsOf (now (sp .entry)) (now (st .entry)) h) (heapOf size k (now (d .entry)) (now (p .entry)) (now (t .entry)))) ⌝ }
 {
+    if k.count <= 64 {
+        let mut few = [0u8; 64];
+        return sweep_by(d, p, t, size, k, sp, st, h, &mut few);
+    }
     let mut u = [0u8; 4096];
-    hold(t, k.count, k.next, sp, st, h, &mut u);
-    free_dead(d, p, t, size, k, sp, st, h, &u)
+    sweep_by(d, p, t, size, k, sp, st, h, &mut u)
+}
+
+// The same by way of marks, all 0.
+fn sweep_by(
+    d: &[u8],
+    p: &mut [u8],
+    t: &mut [u8],
+    size: usize,
+    k: Shelf,
+    sp: &[u8],
+    st: &[u8],
+    h: usize,
+    u: &mut [u8],
+) -> Shelf
+    requires { ⌜ Sane size k (now d) (now p) (now t) × (h * 8 ≤ length (now sp)) × (h ≤ length (now st)) ⌝ }
+    requires { ⌜ (k .count ≤ length (now u)) × ((x : ℕ) → getD (now u) x 0 ≡ 0) ⌝ }
+    ensures { λ r. ⌜ Makes size r (now (d .entry)) (now (p .entry)) (now (t .entry)) (now (p .exit)) (now (t .exit)) (sweptFor true (slotsOf (now (sp .entry)) (now (st .entry)) h) (heapOf size k (now (d .entry)) (now (p .entry)) (now (t .entry)))) ⌝ }
+{
+    hold(t, k.count, k.next, sp, st, h, u);
+    free_dead(d, p, t, size, k, sp, st, h, u)
 }
 
 fn hold(t: &[u8], count: usize, next: u64, sp: &[u8], st: &[u8], h: usize, u: &mut [u8])
     requires { ⌜ (count * 24 ≤ length (now t)) × (count ≤ 4096) × Rising (entryAt (now t)) count next × (h * 8 ≤ length (now sp)) × (h ≤ length (now st)) ⌝ }
-    requires { ⌜ (length (now u) ≡ 4096) × ((x : ℕ) → x < 4096 → getD (now u) x 0 ≡ 0) ⌝ }
+    requires { ⌜ (count ≤ length (now u)) × ((x : ℕ) → getD (now u) x 0 ≡ 0) ⌝ }
     ensures { λ r. ⌜ Holding (now (u .exit)) (entryAt (now (t .entry))) count (slotsOf (now (sp .entry)) (now (st .entry)) h) ⌝ }
 {
     let mut i = 0;
@@ -79,7 +128,7 @@ fn hold(t: &[u8], count: usize, next: u64, sp: &[u8], st: &[u8], h: usize, u: &m
 
 // Marks the entry of serial s.
 fn note(t: &[u8], count: usize, next: u64, s: u64, u: &mut [u8])
-    requires { ⌜ (count * 24 ≤ length (now t)) × (count ≤ 4096) × Rising (entryAt (now t)) count next × (length (now u) ≡ 4096) ⌝ }
+    requires { ⌜ (count * 24 ≤ length (now t)) × (count ≤ 4096) × Rising (entryAt (now t)) count next × (count ≤ length (now u)) ⌝ }
     ensures { λ r. ⌜ Noted (now (u .exit)) (now (u .entry)) (entryAt (now (t .entry))) count s ⌝ }
 {
     let Found::At(j) = entries::find(t, count, next, s) else {

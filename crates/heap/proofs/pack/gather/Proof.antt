@@ -3,11 +3,12 @@ use Rattle.heap.proofs.Packing.{gathered-none, gathered-more, gathered-
 use Rattle.heap.specs.Packs.{Gathered}
 use Prim.Native.Nat.{_≤_, _-_, _+_, _*_}
 use native.Mathlib.Omega.{arith}
+use lib.ListN.{length}
 use Rattle.heap.proofs.pack.gather.Statement.{statement}
 use Rattle.heap.proofs.pack.gather.Tie as tie
 
 abbrev Inv-loop : tie.InvT-loop
-Inv-loop d p t₀ size k s₀ i₀ at₀ t s i at = (i ≤ k .count) × Gathered d p t₀ t s i at
+Inv-loop d p t₀ size k s₀ i₀ at₀ t s i at = (i ≤ k .count) × Gathered (length s₀) d p t₀ t s i at
 
 abbrev μ-loop : tie.MeasureT-loop
 μ-loop d p t₀ size k s₀ i₀ at₀ t s i at = k .count - i
@@ -15,7 +16,7 @@ abbrev μ-loop : tie.MeasureT-loop
 loop-holds : tie.Need-loop-holds Inv-loop μ-loop
 loop-holds c =
     let start = c .before .before .before .before in
-    (omega arith, gathered-none _ _ _ _ (start .pre .1 .0) (start .pre .1 .1))
+    (omega arith, gathered-none _ _ _ _ (start .pre .1 .1))
 
 entry-at-requires : tie.Need-entry-at-requires Inv-loop μ-loop
 entry-at-requires c κs =
@@ -32,7 +33,7 @@ copy-requires c κs =
     let at-if1 = at-entry-at .before .before in
     let at-loop = at-if1 .before .before in
     let start = at-loop .before .before .before .before .before in
-    gather-room _ _ _ _ _ (start .pre .0) _ _ _ _ (at-loop .loop .inv .1) (at-if1 .if1 .taken) _ _ (at-entry-at .entry-at .ensures) (c .before .width .ensures .0)
+    let q = gather-room _ _ _ _ _ (start .pre .0) _ _ _ _ (at-loop .loop .inv .1) (start .pre .1 .0) (at-if1 .if1 .taken) _ _ (at-entry-at .entry-at .ensures) (c .before .width .ensures .0) in (q .0, q .1)
 
 put-entry-requires : tie.Need-put-entry-requires Inv-loop μ-loop
 put-entry-requires c κs =
@@ -47,7 +48,7 @@ add-at c =
     let at-if1 = at-entry-at .before .before in
     let at-loop = at-if1 .before .before in
     let start = at-loop .before .before .before .before .before in
-    let q = gather-room _ _ _ _ _ (start .pre .0) _ _ _ _ (at-loop .loop .inv .1) (at-if1 .if1 .taken) _ _ (at-entry-at .entry-at .ensures) (at-width .width .ensures .0) in omega (arith, q .0, at-loop .loop .inv .1 .room)
+    let q = gather-room _ _ _ _ _ (start .pre .0) _ _ _ _ (at-loop .loop .inv .1) (start .pre .1 .0) (at-if1 .if1 .taken) _ _ (at-entry-at .entry-at .ensures) (at-width .width .ensures .0) in omega (arith, q .2, start .pre .0 .small)
 
 add-i : tie.Need-add-i Inv-loop μ-loop
 add-i c = omega arith
@@ -73,7 +74,7 @@ same-length-2 : tie.Need-same-length-2 Inv-loop μ-loop
 same-length-2 c =
     let at-loop = c .before .before in
     let start = at-loop .before .before .before .before .before in
-    omega (arith, at-loop .loop .inv .1 .room, start .pre .1 .0)
+    at-loop .loop .inv .1 .room
 
 returns : tie.Need-returns Inv-loop μ-loop
 returns c =

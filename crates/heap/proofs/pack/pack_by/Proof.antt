@@ -1,4 +1,5 @@
 -- The proof of `heap::pack::pack_by`.
+use mathlib.Core.Path.{refl}
 use Rattle.heap.proofs.Packing.{packing}
 use borrow.Author.Needs.{needs}
 use Rattle.heap.proofs.pack.pack_by.Statement.{statement}
@@ -24,7 +25,7 @@ returns c =
     let at-copy = c .before .before in
     let at-gather = at-copy .before .before .before .before .before .before .before in
     let start = at-gather .before .before .before .before .before .before .before .before in
-    packing _ _ _ _ _ (start .pre .0) _ _ _ _ (at-gather .gather .ensures) (at-copy .copy .ensures)
+    (packing _ _ _ _ _ (start .pre .0) _ _ _ _ (at-gather .gather .ensures) (at-copy .copy .ensures), refl)
 
 pub pack-by-spec : {M : Type 1} → statement M
 pack-by-spec =
