@@ -59,6 +59,9 @@ extern "C" {
 /* The first structure's type number; the next ones follow. */
 #define LIMPETSKEIN_FIRST_STRUCTURE 10
 
+/* Added to the type number of a managed block, one that gcnew gave, where it is listed. */
+#define LIMPETSKEIN_MANAGED 64
+
 /* Limits of formula lines, and what serves every run of what they compile to. */
 #define LIMPETSKEIN_LONGEST_LINE 256     /* bytes */
 #define LIMPETSKEIN_LONGEST_FORMULA 2373 /* bytes of the module of a line */
@@ -70,10 +73,12 @@ extern "C" {
 #define LIMPETSKEIN_LONG 4    /* 64 bits */
 #define LIMPETSKEIN_DOUBLE 6  /* the bits of an IEEE 754 double */
 #define LIMPETSKEIN_POINTER 7 /* an address: see below */
+#define LIMPETSKEIN_MANAGED_POINTER 8 /* an address as well, from gcnew or gcnull; edition 4 only */
 
 /*
- * Addresses, the payloads of pointers. Below 65,536: the number of a slot, from 0, the deepest. LIMPETSKEIN_NULL: null.
- * Else a block of the heap, by its serial times 65,536, plus 0 for the whole block or 1 + field for a structure's field.
+ * Addresses, the payloads of pointers of both types. Below 65,536: the number of a slot, from 0, the deepest.
+ * LIMPETSKEIN_NULL: null. Else a block of the heap, by its serial times 65,536, plus 0 for the whole block or 1 + field
+ * for a structure's field.
  */
 #define LIMPETSKEIN_NULL 0xFFFFFFFFFFFFFFFFull
 
@@ -108,9 +113,9 @@ enum {
     /* Run and map only: it did not start. */
     LIMPETSKEIN_NO_SUCH_FUNCTION = 12,
     LIMPETSKEIN_BAD_ARGUMENTS = 13, /* not 8 payload bytes per type byte, other types than declared, an int with
-                                       upper bits, a pointer parameter, or arguments for the entry; map: an output or
-                                       rows of another length, a pointer parameter, no result, the entry, or, at its
-                                       row, an int with upper bits */
+                                       upper bits, a pointer parameter, managed or not, or arguments for the entry; map:
+                                       an output or rows of another length, a pointer parameter, no result, the entry,
+                                       or, at its row, an int with upper bits */
     LIMPETSKEIN_OTHER_PROFILE = 17, /* the function was made for another profile */
 
     /* Write, formula and conversions. */
@@ -134,13 +139,13 @@ enum {
     LIMPETSKEIN_FUNCTION_OUTOFRANGE = 28,
     LIMPETSKEIN_FUNCTION_NORETINSTRUCTION = 29,
     LIMPETSKEIN_FUNCTION_TOPOFCALLSTACK = 30,
-    LIMPETSKEIN_POINTER_NOTPOINTER = 31,
+    LIMPETSKEIN_POINTER_NOTPOINTER = 31, /* a number where a pointer is wanted; delete: of type 8 too */
     LIMPETSKEIN_POINTER_INVALIDFORPOINTER = 32,
     LIMPETSKEIN_POINTER_UNKNOWNADDRESS = 33, /* no slot in use, no live block, no field of it; delete: not what new gave */
     LIMPETSKEIN_DOUBLE_INVALIDFORDOUBLE = 34,
     LIMPETSKEIN_DOUBLE_UNORDERED = 35, /* cmp or icmp of two doubles, one of them a NaN */
-    LIMPETSKEIN_POINTER_NULLPOINTER = 36,
-    LIMPETSKEIN_TYPE_OUTOFRANGE = 37,         /* new of a type that there is not */
+    LIMPETSKEIN_POINTER_NULLPOINTER = 36,     /* null or gcnull, followed */
+    LIMPETSKEIN_TYPE_OUTOFRANGE = 37,         /* new or gcnew of a type that there is not */
     LIMPETSKEIN_FIELD_OUTOFRANGE = 38,        /* flea of a field that the structure does not have */
     LIMPETSKEIN_POINTER_NOTSTRUCTURE = 39,    /* flea of what is no structure */
     LIMPETSKEIN_CONVERT_OUTOFRANGE = 44,      /* toi or tol of a double that is a NaN or out of range; not in
@@ -165,8 +170,8 @@ enum {
  *   11       the first 64 bytes per label are zero, the rest is unchanged.
  *   0        for label i, at 64 i: byte 0 is 1 if the label is reached, byte 1 the count of locals, byte 2 of
  *            operands; bytes 16 to 31 the local types, 32 to 63 the operand types, deepest first (3, 4, 6; hex 83,
- *            84, 86 for a pointer to one, 8A to 99 for one to structure 10 to 25, 80 for null); zeros elsewhere, and
- *            all zero if not reached. The rest is unchanged.
+ *            84, 86 for a pointer to one, 8A to 99 for one to structure 10 to 25, 80 for null; hex 40 more, C3, C4, C6,
+ *            CA to D9 and C0, for a managed one); zeros elsewhere, and all zero if not reached. The rest is unchanged.
  */
 uint32_t limpetskein_check(const uint8_t *module, size_t module_len, uint8_t *room, size_t room_len, uint32_t *body);
 
@@ -183,7 +188,7 @@ uint32_t limpetskein_check(const uint8_t *module, size_t module_len, uint8_t *ro
  *   payloads      8 bytes a slot. types: a byte a slot. The capacity is the smaller number of whole slots,
  *                 at most LIMPETSKEIN_MOST_SLOTS.
  *   heap          8 bytes a cell. blocks: 24 bytes an entry. The heap's capacity is the smaller number of whole cells
- *                 and entries, at most LIMPETSKEIN_MOST_CELLS. Where none is lent, new gives null.
+ *                 and entries, at most LIMPETSKEIN_MOST_CELLS. Where none is lent, new and gcnew give null.
  *   *steps        the instructions counted; *height: the slots in use at the end. Both are written with 0, 15,
  *                 20 to 39, 44 and 50 only.
  *
@@ -195,9 +200,11 @@ uint32_t limpetskein_check(const uint8_t *module, size_t module_len, uint8_t *ro
  *
  * The heap after the call:
  *   1 to 9, 12, 13, 17       unchanged.
- *   0, 15, 20 to 39, 44, 50  the entries list the live blocks by serial (serial, first cell, type number, 8 bytes each)
- *                            and are zero after these; the cells of a live block hold its fields' payloads, an int's
- *                            upper four bytes zero, and all other cells are zero; what lies past the capacity is
+ *   0, 15, 20 to 39, 44, 50  the entries list the live blocks by serial (serial, first cell, type number, 8 bytes each;
+ *                            LIMPETSKEIN_MANAGED is added to a managed block's type number, and such a block stays
+ *                            until a gcnew finds no slot of type 8 that holds its serial) and are zero after these; the
+ *                            cells of a live block hold its fields' payloads, an int's upper four bytes zero, and all
+ *                            other cells are zero; what lies past the capacity is
  *                            unchanged. So it is in every edition. What the heap held before does not matter: a run
  *                            starts without blocks, and what it leaves is for the host to read. A later run frees it.
  *
@@ -301,7 +308,8 @@ static inline uint32_t limpetskein_call_map(struct limpetskein_call *c) {
  *                 has structures.
  *   constants     12 bytes each: type word (3, 4, 6), 8-byte payload.
  *   functions     20 bytes each: start, length, parameter count, return type, eight parameter types, two zeros; in
- *                 edition 4 24, with the profile that the function is made for, 0 for any, behind these.
+ *                 edition 4 24, with the profile that the function is made for, 0 for any, behind these. Type bytes are
+ *                 those of label records, but for 80 and C0 hex, and 83, 84 and 86 hex are for parameters only.
  *   labels        8 bytes each: owner's function number, or LIMPETSKEIN_ENTRY; place in the code.
  *   structures    12 bytes each: field count (1 to 8), eight field types (3, 4, 6, unused 0), three zeros.
  *   code          the entry's body, then the functions' in order, without gaps.
@@ -355,8 +363,9 @@ uint32_t limpetskein_formula(const uint8_t *line, size_t line_len, uint8_t *out,
  *   *written  written with 0 only: the length of the new module.
  *
  * Constants, labels, code and entry are the same; places do not change. A module of edition 4 can't become one of
- * edition 3 (18) where a function is made for a profile, a structure is declared, used or not, or an instruction is
- * `flea`, `null`, `new` or `delete`, also one that is never reached.
+ * edition 3 (18) where a function is made for a profile or has a managed pointer in its signature, a structure is
+ * declared, used or not, or an instruction is `flea`, `null`, `new`, `delete`, `gcnull` or `gcnew`, also one that is
+ * never reached.
  *
  * The output after the call:
  *   1 to 9, 16, 18  unchanged.
@@ -365,7 +374,8 @@ uint32_t limpetskein_formula(const uint8_t *line, size_t line_len, uint8_t *out,
  *                   heap, whatever the scan's profile is.
  *                   The check of the module of edition 4 answers as that of the module of edition 3, label records
  *                   included, wherever the latter is accepted or has neither cmp nor icmp. Edition 4's take any two
- *                   pointers, so what only these keep from being accepted in edition 3 is accepted in edition 4.
+ *                   pointers of type 7, so what only these keep from being accepted in edition 3 is accepted in edition
+ *                   4.
  */
 uint32_t limpetskein_to_edition_4(const uint8_t *module, size_t module_len, uint8_t *out, size_t out_len,
                                   uint64_t *written);

@@ -3,7 +3,7 @@
 #include "limpetskein.h"
 
 // The first formula line, and the longest ones.
-enum { FIRST_LINE = 48 };
+enum { FIRST_LINE = 54 };
 static const double first_line_time = 1000, line_time = 60000;
 
 const Group groups[KINDS] = {
@@ -39,6 +39,9 @@ const Group groups[KINDS] = {
 // A run with as many cells as the small program lends.
 #define ON_HEAP .kind = HEAP, .slots = 35, .cells = 1024
 
+// The same with slots for managed pointers.
+#define ON_MANAGED_HEAP .kind = HEAP, .slots = 4096, .cells = 1024
+
 // A formula line, by its name in lines.c.
 #define LINE(name, its_kind) {name, name, .kind = its_kind}
 
@@ -67,6 +70,12 @@ const Row rows[ROWS] = {
     {"a pair, 1,000 blocks alive", "pairs-1000", ON_HEAP, .again = 1, .pairs = 200000},
     {"a pair, 1,000 blocks alive and a short hole", "pairs-hole", ON_HEAP, .pairs = 2000},
     {"a step of a curve in a structure", "heap-curve", ON_HEAP},
+    {"a gcnew, no managed block alive", "gcnew", ON_MANAGED_HEAP, .pairs = 200000},
+    {"a gcnew, 100 managed blocks alive", "gcnew-100", ON_MANAGED_HEAP, .pairs = 20000},
+    {"a gcnew, 1,000 managed blocks alive", "gcnew-1000", ON_MANAGED_HEAP, .pairs = 5000},
+    {"a gcnew, each 100th frees half of 200", "gcnew-half-200", ON_MANAGED_HEAP, .pairs = 20000},
+    {"a gcnew, each 500th frees half of 1,000", "gcnew-half-1000", ON_MANAGED_HEAP, .pairs = 5000},
+    {"two gcnew, of which one must pack", "gcnew-pack", ON_MANAGED_HEAP, .pairs = 5000},
     {"W1", "w1", .kind = CHECK, .limit = SHORTEST_LIMIT},
     {"the recipe of 40 steps", "recipe-40", .kind = CHECK},
     {"the same in edition 1", "recipe-40-edition-1", .kind = CHECK, .limit = OLD_CHECK_LIMIT, .again = 1},

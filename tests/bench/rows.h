@@ -16,7 +16,7 @@ typedef struct {
 
 // A row: its module, or the name of its line; the slots that are lent; a limit of its own, or 0. again: it is the row
 // before it in edition 1, the same program with the same instructions; on a heap, with more blocks. cells: those that
-// are lent. pairs: of new and delete, in a call; 0 where something else is measured.
+// are lent. pairs: of new and delete, or rounds with gcnew, in a call; 0 where something else is measured.
 typedef struct {
     const char *name, *module;
     Kind kind;
@@ -26,7 +26,7 @@ typedef struct {
     uint32_t cells, pairs;
 } Row;
 
-enum { ROWS = 57 };
+enum { ROWS = 63 };
 
 // The pixels of a row that is mapped.
 enum { PIXELS = 4096 };

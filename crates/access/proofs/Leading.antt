@@ -2,6 +2,7 @@
 use Prim.Native.Nat.{ℕ, _+_, _*_, _-_, _≤_, _<_}
 use native.Mathlib.Omega.{arith}
 use mathlib.Core.Path.{_≡_, refl, sym, ap, _∙_}
+use mathlib.Core.Bool.{true, false}
 use mathlib.Core.Logic.{inl, inr}
 use mathlib.Core.List.{List, []}
 use lib.ListN.{length}
@@ -9,15 +10,15 @@ use borrow.Author.Tests.{eq-eqb, ne-eqb}
 use Rattle.rules.specs.declared.Slot.{Slot}
 use Rattle.rules.specs.declared.Num.{Num}
 use Rattle.rules.specs.declared.Num.the-variants.{Int, Long, Double}
-use Rattle.rules.specs.Instructions.{numKind}
+use Rattle.rules.specs.Instructions.{numKind, isPointer}
 use Rattle.rules.specs.Tables.{Module}
 use Rattle.rules.specs.Stack.{slot, slotAt, slotsOf}
 use Rattle.rules.specs.Heap.{nullAddress, serialIn, Target, nowhere, this, onStack, inHeap, targetOf}
 use Rattle.rules.specs.Heap as rules
 use Rattle.rules.specs.Machine.{Next, stops, asNumber}
-use Rattle.soundness.specs.Started.{all-at}
-use Rattle.soundness.specs.Kinds.{Kind, OfKind, Kinded}
+use Rattle.soundness.specs.Kinds.{Kind, Kinded}
 use Rattle.state.proofs.Stack.{at-slots, at-slots-out, take1-short, take1-has}
+use Rattle.state.proofs.Families.{kind-at}
 use Rattle.heap.specs.declared.Shelf.{Shelf}
 use Rattle.heap.specs.declared.Target as heap-target
 use Rattle.heap.specs.declared.Target.the-variants.{Lost, Whole as wholeTarget, Cell as cellTarget}
@@ -38,16 +39,16 @@ abbrev pub Aimed : ℕ → List ℕ → List ℕ → List ℕ → List ℕ → �
 Aimed size d g c b n w x = (m : Module) → Shapes m d → (p t : List ℕ) → Leads m size d g p t c b n w x
 
 module _ (size : ℕ) (d g c b : List ℕ) (o : HeapReady size d g c b) (n : ℕ) (small : n ≤ 4096) (w : Slot) where
-  pub aimed-31 : (w .kind ≡ 7 → ⊥) → Aimed size d g c b n w (Raises 31)
-  aimed-31 ne m sh p t k e = rw (ne-eqb (w .kind) 7 ne) refl
+  pub aimed-31 : isPointer (w .kind) ≡ false → Aimed size d g c b n w (Raises 31)
+  aimed-31 ne m sh p t k e = rw ne refl
 
-  module _ (is : w .kind ≡ 7) where
+  module _ (is : isPointer (w .kind) ≡ true) where
     pub aimed-36 : w .payload ≡ nullAddress → Aimed size d g c b n w (Raises 36)
-    aimed-36 q m sh p t k e = rw (eq-eqb (w .kind) 7 is, eq-eqb (w .payload) nullAddress q) refl
+    aimed-36 q m sh p t k e = rw (is, eq-eqb (w .payload) nullAddress q) refl
 
     module _ (some : w .payload ≡ nullAddress → ⊥) where
       leads : (m : Module) (st : List Slot) (x : Target) → targetOf m (heapIn size d g c b) st (w .payload) ≡ x → LeadsTo m (heapIn size d g c b) w st x
-      leads m st x e k = rw (eq-eqb (w .kind) 7 is, ne-eqb (w .payload) nullAddress some) (ap k e)
+      leads m st x e k = rw (is, ne-eqb (w .payload) nullAddress some) (ap k e)
 
       pub aimed-slot : w .payload < n → Aimed size d g c b n w (slotAim (w .payload))
       unfolding targetOf
@@ -79,7 +80,7 @@ module _ (size : ℕ) (d g c b : List ℕ) (o : HeapReady size d g c b) (n : ℕ
         aimed-whole x e m sh p t = go (rw e at (aims m sh (slotsOf p t n)))
           where
             go : WholeAt (targetOf m (heapIn size d g c b) (slotsOf p t n) (w .payload)) (w .payload) x → ToWhole m (heapIn size d g c b) w (slotsOf p t n) x
-            go a = record { fields = a .fields; leads = leads m (slotsOf p t n) _ (a .is); pointer = is; count = a .count; few = a .few; block = a .block }
+            go a = record { fields = a .fields; leads = leads m (slotsOf p t n) _ (a .is); count = a .count; few = a .few; block = a .block }
 
         pub aimed-cell : (kind x : ℕ) → y ≡ cellTarget kind x → Aimed size d g c b n w (Cell kind x)
         aimed-cell kind x e m sh p t = go (rw e at (aims m sh (slotsOf p t n)))
@@ -197,5 +198,5 @@ module _ (size : ℕ) (d g p t c b : List ℕ) (floor h : ℕ) (x : Named) (l : 
   top-kind y v e ks = let z = top-at (moduleWith d) (shapes-with d) y v e in go y (z .1 .spot) (z .1 .stands)
     where
       go : (y : Spot) (s : rules.Spot) → Stands d g p t c b (h - 1) v y s → Kind (v .kind)
-      go (OnStack i) s st = rw (st .2) (all-at OfKind (slotsOf p t h) ks i (slotAt p t i) (at-slots p t h i (let low = st .1 in omega arith)))
+      go (OnStack i) s st = kind-at p t h i ks (let low = st .1 in omega arith) (st .2)
       go (InHeap i) s st = rw (← st .0 .type) (num-kind (st .0 .number))

@@ -1,9 +1,11 @@
 -- From what was done to the stack and what was made of the heap to what the instruction does over both.
 use Prim.Native.Nat.{ℕ, _-_}
 use native.Mathlib.Omega.{arith}
-use mathlib.Core.Path.{_≡_, refl, sym, ap, _∙_}
+use mathlib.Core.Path.{_≡_, refl, sym, ap, _∙_, subst}
+use mathlib.Core.Bool.{Bool}
 use mathlib.Core.List.{List, [], _∷_}
 use lib.ListN.{length, set}
+use Rattle.rules.specs.declared.Slot.{Slot}
 use Rattle.rules.specs.Heap.{Heap}
 use Rattle.rules.specs.Machine.{State, Next, stops}
 use Rattle.soundness.specs.Framed.{withHeap, onto}
@@ -13,7 +15,11 @@ use Rattle.state.specs.declared.Progress.{Progress}
 use Rattle.state.specs.declared.Progress.the-variants.{Goes, Finishes, Stops}
 use Rattle.state.proofs.Outcomes.{stopping}
 use Rattle.heap.specs.declared.Shelf.{Shelf}
+use Rattle.heap.specs.declared.Grant.{Grant}
+use Rattle.heap.specs.Blocks.{heapOf}
 use Rattle.heap.specs.Changes.{Makes}
+use Rattle.heap.specs.Grants.{Gives, source}
+use Rattle.heap.proofs.Collected.{unmade}
 use Rattle.access.specs.Access.{shelfOf, heapIn, HeapReady, Accessed}
 
 -- ---- the shelf's words
@@ -27,6 +33,15 @@ shelf-kept (x ∷ []) k e = absurd (omega (arith, e))
 shelf-kept (x ∷ y ∷ []) k e = absurd (omega (arith, e))
 shelf-kept (x ∷ y ∷ z ∷ []) k e = absurd (omega (arith, e))
 shelf-kept (x ∷ y ∷ z ∷ w ∷ l) k e = (refl, e)
+
+-- ---- what is given of the heap
+
+-- of so many cells, from the shelf in g
+pub given-at : (g : List ℕ) (u : Bool) (w m : ℕ) (st : List Slot) {size n : ℕ} {k : Shelf} {a : Grant} {d c b c′ b′ : List ℕ} → k ≡ shelfOf g → w ≡ m
+    → Gives size d c b c′ b′ (source u w st (heapOf size k d c b)) u n a → Gives size d c b c′ b′ (source u m st (heapIn size d g c b)) u n a
+given-at g u w m st {size} {n} {k} {a} {d} {c} {b} {c′} {b′} ek ew x =
+    subst (λ (z : ℕ). Gives size d c b c′ b′ (source u z st (heapIn size d g c b)) u n a) ew
+    (subst (λ (z : Shelf). Gives size d c b c′ b′ (source u w st (heapOf size z d c b)) u n a) ek x)
 
 -- ---- what is done
 
@@ -76,7 +91,7 @@ module _ (e : State → Next) (cap size : ℕ) (r : Registers) (d f p t g c b : 
   pub stacked : (a : Progress) (p′ t′ : List ℕ) (x : Next) → Does cap r a p t f p′ t′ f x → onto before x ≡ e state → Accessed e cap size r a d f p t g c b p′ t′ g c b
   stacked a p′ t′ x does is =
       accessed a p′ t′ g c b x before does
-      (record { heap = refl; sane = o .sane; past-cells = refl; past-table = refl; same-cells = refl; same-table = refl })
+      (unmade (o .sane))
       (o .four) is (kept a before)
 
   pub stopped : (n : ℕ) → e state ≡ stops n → Accessed e cap size r (Stops n) d f p t g c b p t g c b

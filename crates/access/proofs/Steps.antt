@@ -1,10 +1,15 @@
 -- From what an instruction's function did to what the step does, the structures being the file's last section.
 use Prim.Native.Nat.{ℕ, _+_, _-_}
-use mathlib.Core.Path.{_≡_, _∙_, subst}
+use mathlib.Core.Path.{_≡_, refl, ap, _∙_, subst}
+use mathlib.Core.Bool.{true, false}
+use mathlib.Core.Logic.{inl, inr}
 use mathlib.Core.Option.{some}
 use mathlib.Core.List.{List}
+use lib.Dec.{eqb}
 use lib.ListN.{length, take, drop}
+use types.Run.{OneOf}
 use Rattle.rules.specs.declared.Instruction.{Instruction}
+use Rattle.rules.specs.declared.Instruction.the-variants.{New}
 use Rattle.rules.specs.Bytes.{byte, word}
 use Rattle.rules.specs.Instructions.{opcodeOf, instructionOf}
 use Rattle.rules.specs.Tables.{Module}
@@ -21,7 +26,7 @@ use Rattle.heap.specs.Targets.{Shapes}
 use Rattle.access.specs.Access.{HeapReady, AccessIs, ActsOver}
 use Rattle.access.proofs.Over.{framed}
 use Rattle.access.proofs.Structures.{shapes-file, structures-rest}
-use Rattle.access.proofs.HeapKeys.{said}
+use Rattle.access.proofs.HeapKeys.{said, newKeys}
 
 module _ (s : List ℕ) (c : Sections) (q : Packed s c × (refusal s ≡ 0)) where
   -- the file from its structures on
@@ -45,6 +50,12 @@ module _ (s : List ℕ) (c : Sections) (q : Packed s c × (refusal s ≡ 0)) whe
     done k j key is x i y =
         subst (λ (n : Instruction). AccessIs (read s) n cap size r a (structuresIn s) p t g cells b p′ t′ g′ cells′ b′) (said code (r .place) k j key is i y)
         (rw last-is at x)
+
+    pub done-new : (n : ℕ) → byte code (r .place) ≡ n → OneOf newKeys n
+        → AccessIs (read s) (New (eqb n 52) (word 4 code (r .place + 1))) cap size r a last p t g cells b p′ t′ g′ cells′ b′
+        → (i : Instruction) → Says code (r .place) i → AccessIs (read s) i cap size r a (structuresIn s) p t g cells b p′ t′ g′ cells′ b′
+    done-new n key (inl e) x = done 49 (New false) (key ∙ e) (λ w. refl) (rw (ap (λ (k : ℕ). eqb k 52) e) at x)
+    done-new n key (inr e) x = done 52 (New true) (key ∙ e) (λ w. refl) (rw (ap (λ (k : ℕ). eqb k 52) e) at x)
 
 -- over a heap that is not looked at
 pub over-heap : (m : Module) (i : Instruction) (cap size : ℕ) (r : Registers) (a : Progress) (d p t g c b p′ t′ : List ℕ) → HeapReady size d g c b

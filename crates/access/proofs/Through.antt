@@ -4,11 +4,11 @@ use native.Mathlib.Omega.{arith}
 use mathlib.Core.Path.{_≡_, refl, sym, ap, _∙_}
 use mathlib.Core.Bool.{Bool, false}
 use mathlib.Core.List.{List, [], _∷_}
-use lib.Dec.{eqb}
 use borrow.Author.Tests.{le-leb, eq-eqb, ne-eqb}
 use Rattle.rules.specs.declared.Slot.{Slot}
 use Rattle.rules.specs.declared.Unary.the-variants.{Count}
 use Rattle.rules.specs.declared.Instruction.the-variants.{Tload, Tstore, Bump}
+use Rattle.rules.specs.Instructions.{isPointer}
 use Rattle.rules.specs.Tables.{Module}
 use Rattle.rules.specs.Stack.{slot, slotAt, slotsOf, put}
 use Rattle.rules.specs.Heap.{Heap, having, stored}
@@ -136,8 +136,8 @@ module _ (m : Module) (cap size : ℕ) (r : Registers) (d f p t g c b : List ℕ
       bump-takes = take1-has p t (r .floor) (r .height) _ (y .0) ∙ y .1 .leads (λ z. asNumber z (bumps (slotsOf p t (r .height - 1))))
 
       -- the number, one up or down
-      counted : (z : Value) → resultOf (Yields z) ≡ apply1 (Count u) v → (eqb (v .kind) 7 ≡ false) × (payloadOf z ≡ bumped u (v .kind) (v .payload))
-      counted z e = decide (eqb (v .kind) 7) (λ q. absurd (yields-raises (rw q at e))) (λ q. (q, payload-in (rw (q, eqb-same (v .kind)) at e)))
+      counted : (z : Value) → resultOf (Yields z) ≡ apply1 (Count u) v → (isPointer (v .kind) ≡ false) × (payloadOf z ≡ bumped u (v .kind) (v .payload))
+      counted z e = decide (isPointer (v .kind)) (λ q. absurd (yields-raises (rw q at e))) (λ q. (q, payload-in (rw (q, eqb-same (v .kind)) at e)))
         where
           yields-raises : yields (slotOf z ∷ []) ≡ raises 32 → ⊥
           yields-raises e = let q : _≡_ {A = ℕ} 0 1 = cc in omega arith
@@ -158,7 +158,7 @@ module _ (m : Module) (cap size : ℕ) (r : Registers) (d f p t g c b : List ℕ
           (stopped (execIn m cap (Bump u)) cap size r d f p t g c b k o i (bump-takes ∙ refused))
         where
           refused : bumps (slotsOf p t (r .height - 1)) (y .1 .spot) v ≡ stops i
-          refused = decide (eqb (v .kind) 7) (λ n. rw n (raised (rw n at e))) (λ n. absurd (raises-yields (rw (n, eqb-same (v .kind)) at e)))
+          refused = decide (isPointer (v .kind)) (λ n. rw n (raised (rw n at e))) (λ n. absurd (raises-yields (rw (n, eqb-same (v .kind)) at e)))
             where
               raised : raises i ≡ raises 32 → stops 32 ≡ stops i
               raised e = cc

@@ -51,7 +51,6 @@ pub record CellOf (d g b : List ℕ) (kind x : ℕ) : Type 0 where
 pub record ToWhole (m : Module) (h : Heap) (w : Slot) (st : List Slot) (n : ℕ) : Type 0 where
   pub fields : List Num
   pub leads : LeadsTo m h w st (entire (serialIn (w .payload)) fields)
-  pub pointer : w .kind ≡ 7
   pub count : length fields ≡ n
   pub few : n < 256
   pub block : offsetIn (w .payload) ≡ 0

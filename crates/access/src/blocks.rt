@@ -1,10 +1,14 @@
-// `null`, `new`, `delete`, `flea`.
+// `null`, `new`, `delete`, `flea`, `gcnull`, `gcnew`.
+ghost use mathlib.Core.Path.{_≡_};
 ghost use Prim.Native.Nat.{_+_, _<_, _≤_};
 ghost use lib.ListN.{length};
 ghost use Rattle.rules.specs.Bytes.{word};
+ghost use Rattle.rules.specs.Instructions.{ptrKind};
 ghost use Rattle.rules.specs.Tables.{Module};
+ghost use Rattle.rules.specs.Stack.{slotsOf};
 ghost use Rattle.rules.specs.Machine.{execIn};
 ghost use Rattle.rules.specs.declared.Instruction.the-variants.{Null, New, Delete, Flea};
+ghost use Rattle.soundness.specs.Kinds.{Kinded};
 ghost use Rattle.state.specs.State.{ReadyOn};
 ghost use Rattle.heap.specs.Targets.{Shapes};
 ghost use Rattle.access.specs.Access.{HeapReady, AccessIs, ActsOver};
@@ -25,25 +29,36 @@ use rules::Slot;
 use state::Progress;
 use state::Registers;
 
-// `null`.
-pub fn null(cap: usize, r: Registers, p: &mut [u8], t: &mut [u8]) -> Progress
+// The type number of a pointer.
+fn kind_of(managed: bool) -> u8
+    ensures { λ k. ⌜ k ≡ ptrKind managed ⌝ }
+{
+    if managed {
+        return 8;
+    }
+    7
+}
+
+// `null`, or `gcnull`.
+pub fn null(managed: bool, cap: usize, r: Registers, p: &mut [u8], t: &mut [u8]) -> Progress
     requires { ⌜ ReadyOn cap r (now p) (now t) × (r .place < r .stop) ⌝ }
-    ensures { λ a. ⌜ ((m : Module) → ActsOver cap r a (now (p .entry)) (now (t .entry)) (now (p .exit)) (now (t .exit)) (execIn m cap Null)) ⌝ }
+    ensures { λ a. ⌜ ((m : Module) → ActsOver cap r a (now (p .entry)) (now (t .entry)) (now (p .exit)) (now (t .exit)) (execIn m cap (Null managed))) ⌝ }
 {
     let h = r.height;
     if cap <= h {
         return Progress::Stops(STACK_OVERFLOW);
     }
     let v = Slot {
-        kind: 7,
+        kind: kind_of(managed),
         payload: NULL,
     };
     state::put_slot(p, t, h, v);
     Progress::Goes(state::moved(r, r.place + 1, h + 1))
 }
 
-// `new`. A full stack leaves the heap as it was.
+// `new`, or `gcnew`. An unknown type, or a full stack, leaves the heap as it was.
 pub fn new(
+    managed: bool,
     d: &[u8],
     code: &[u8],
     cap: usize,
@@ -52,26 +67,26 @@ pub fn new(
     g: &mut [u64],
     p: &mut [u8],
     t: &mut [u8],
-    cells: &[u8],
+    cells: &mut [u8],
     table: &mut [u8],
 ) -> Progress
     requires { ⌜ HeapReady size (now d) (now g) (now cells) (now table) ⌝ }
     requires { ⌜ ReadyOn cap r (now p) (now t) × (r .place < r .stop) × (r .place + 5 ≤ length (now code)) ⌝ }
-    ensures { λ a. ⌜ ((m : Module) → Shapes m (now (d .entry)) → AccessIs m (New (word 4 (now (code .entry)) (r .place + 1))) cap size r a (now (d .entry)) (now (p .entry)) (now (t .entry)) (now (g .entry)) (now (cells .entry)) (now (table .entry)) (now (p .exit)) (now (t .exit)) (now (g .exit)) (now (cells .entry)) (now (table .exit))) ⌝ }
+    ensures { λ a. ⌜ ((m : Module) → Shapes m (now (d .entry)) → AccessIs m (New managed (word 4 (now (code .entry)) (r .place + 1))) cap size r a (now (d .entry)) (now (p .entry)) (now (t .entry)) (now (g .entry)) (now (cells .entry)) (now (table .entry)) (now (p .exit)) (now (t .exit)) (now (g .exit)) (now (cells .exit)) (now (table .exit))) ⌝ }
 {
     let h = r.height;
     let n = keys::operand(code, r.place) as u64;
-    let width = heap::entries::width(d, n);
+    let width = heap::entries::size_of(d, n);
     if width == 0 {
         return Progress::Stops(TYPE_OUTOFRANGE);
     }
     if cap <= h {
         return Progress::Stops(STACK_OVERFLOW);
     }
-    let grant = heap::blocks::new(d, table, size, shelf(g), n);
+    let grant = heap::blocks::new(d, cells, table, size, shelf(g), managed, n, width, p, t, h);
     keep(g, grant.shelf);
     let v = Slot {
-        kind: 7,
+        kind: kind_of(managed),
         payload: grant.address,
     };
     state::put_slot(p, t, h, v);
@@ -129,7 +144,7 @@ pub fn flea(
     table: &[u8],
 ) -> Progress
     requires { ⌜ HeapReady size (now d) (now g) (now cells) (now table) ⌝ }
-    requires { ⌜ ReadyOn cap r (now p) (now t) × (r .place < r .stop) × (r .place + 5 ≤ length (now code)) ⌝ }
+    requires { ⌜ ReadyOn cap r (now p) (now t) × (r .place < r .stop) × (r .place + 5 ≤ length (now code)) × Kinded (slotsOf (now p) (now t) (r .height)) ⌝ }
     ensures { λ a. ⌜ ((m : Module) → Shapes m (now (d .entry)) → AccessIs m (Flea (word 4 (now (code .entry)) (r .place + 1))) cap size r a (now (d .entry)) (now (p .entry)) (now (t .entry)) (now (g .entry)) (now (cells .entry)) (now (table .entry)) (now (p .exit)) (now (t .entry)) (now (g .entry)) (now (cells .entry)) (now (table .entry))) ⌝ }
 {
     let n = keys::operand(code, r.place) as usize;

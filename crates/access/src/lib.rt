@@ -58,9 +58,10 @@ pub fn step(
         0x08 => pointers::tstore(d, cap, size, r, g, p, t, cells, table),
         0x14 => pointers::inc(d, cap, size, r, g, p, t, cells, table),
         0x15 => pointers::dec(d, cap, size, r, g, p, t, cells, table),
-        0x30 => blocks::null(cap, r, p, t),
-        0x31 => blocks::new(d, code, cap, size, r, g, p, t, cells, table),
+        0x30 => blocks::null(false, cap, r, p, t),
+        0x31 | 0x34 => blocks::new(key == 0x34, d, code, cap, size, r, g, p, t, cells, table),
         0x32 => blocks::delete(d, cap, size, r, g, p, t, cells, table),
+        0x33 => blocks::null(true, cap, r, p, t),
         _ => Progress::Stops(NEVER),
     }
 }

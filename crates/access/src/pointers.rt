@@ -33,7 +33,7 @@ pub fn tload(
     table: &[u8],
 ) -> Progress
     requires { ⌜ HeapReady size (now d) (now g) (now cells) (now table) ⌝ }
-    requires { ⌜ ReadyOn cap r (now p) (now t) × (r .place < r .stop) ⌝ }
+    requires { ⌜ ReadyOn cap r (now p) (now t) × (r .place < r .stop) × Kinded (slotsOf (now p) (now t) (r .height)) ⌝ }
     ensures { λ a. ⌜ ((m : Module) → Shapes m (now (d .entry)) → AccessIs m Tload cap size r a (now (d .entry)) (now (p .entry)) (now (t .entry)) (now (g .entry)) (now (cells .entry)) (now (table .entry)) (now (p .exit)) (now (t .exit)) (now (g .entry)) (now (cells .entry)) (now (table .entry))) ⌝ }
 {
     let x = top_number(d, size, r, g, p, t, cells, table);
@@ -59,7 +59,7 @@ pub fn tstore(
     table: &[u8],
 ) -> Progress
     requires { ⌜ HeapReady size (now d) (now g) (now cells) (now table) ⌝ }
-    requires { ⌜ ReadyOn cap r (now p) (now t) × (r .place < r .stop) ⌝ }
+    requires { ⌜ ReadyOn cap r (now p) (now t) × (r .place < r .stop) × Kinded (slotsOf (now p) (now t) (r .height)) ⌝ }
     ensures { λ a. ⌜ ((m : Module) → Shapes m (now (d .entry)) → AccessIs m Tstore cap size r a (now (d .entry)) (now (p .entry)) (now (t .entry)) (now (g .entry)) (now (cells .entry)) (now (table .entry)) (now (p .exit)) (now (t .entry)) (now (g .entry)) (now (cells .exit)) (now (table .entry))) ⌝ }
 {
     let h = r.height;
@@ -107,8 +107,8 @@ pub fn inc(
     cells: &mut [u8],
     table: &[u8],
 ) -> Progress
-    requires { ⌜ HeapReady size (now d) (now g) (now cells) (now table) × Kinded (slotsOf (now p) (now t) (r .height)) ⌝ }
-    requires { ⌜ ReadyOn cap r (now p) (now t) × (r .place < r .stop) ⌝ }
+    requires { ⌜ HeapReady size (now d) (now g) (now cells) (now table) ⌝ }
+    requires { ⌜ ReadyOn cap r (now p) (now t) × (r .place < r .stop) × Kinded (slotsOf (now p) (now t) (r .height)) ⌝ }
     ensures { λ a. ⌜ ((m : Module) → Shapes m (now (d .entry)) → AccessIs m (Bump true) cap size r a (now (d .entry)) (now (p .entry)) (now (t .entry)) (now (g .entry)) (now (cells .entry)) (now (table .entry)) (now (p .exit)) (now (t .entry)) (now (g .entry)) (now (cells .exit)) (now (table .entry))) ⌝ }
 {
     let x = top_number(d, size, r, g, p, t, cells, table);
@@ -136,8 +136,8 @@ pub fn dec(
     cells: &mut [u8],
     table: &[u8],
 ) -> Progress
-    requires { ⌜ HeapReady size (now d) (now g) (now cells) (now table) × Kinded (slotsOf (now p) (now t) (r .height)) ⌝ }
-    requires { ⌜ ReadyOn cap r (now p) (now t) × (r .place < r .stop) ⌝ }
+    requires { ⌜ HeapReady size (now d) (now g) (now cells) (now table) ⌝ }
+    requires { ⌜ ReadyOn cap r (now p) (now t) × (r .place < r .stop) × Kinded (slotsOf (now p) (now t) (r .height)) ⌝ }
     ensures { λ a. ⌜ ((m : Module) → Shapes m (now (d .entry)) → AccessIs m (Bump false) cap size r a (now (d .entry)) (now (p .entry)) (now (t .entry)) (now (g .entry)) (now (cells .entry)) (now (table .entry)) (now (p .exit)) (now (t .entry)) (now (g .entry)) (now (cells .exit)) (now (table .entry))) ⌝ }
 {
     let x = top_number(d, size, r, g, p, t, cells, table);

@@ -4,6 +4,8 @@ ghost use Prim.Native.Nat.{ℕ, _+_, _*_, _≤_};
 ghost use lib.ListN.{length};
 ghost use Rattle.rules.specs.Tables.{Module};
 ghost use Rattle.heap.specs.Targets.{Shapes};
+ghost use Rattle.rules.specs.Stack.{slotsOf};
+ghost use Rattle.soundness.specs.Kinds.{Kind, Kinded};
 ghost use Rattle.access.specs.Access.{HeapReady};
 ghost use Rattle.access.specs.Targets.{Names, Leads, TopNames, Reaches, PutAt};
 use crate::exceptions::POINTER_NOTPOINTER;
@@ -48,10 +50,10 @@ pub(crate) fn target_of(
     n: usize,
     w: Slot,
 ) -> Aim
-    requires { ⌜ HeapReady size (now d) (now g) (now cells) (now table) × (n ≤ 4096) ⌝ }
+    requires { ⌜ HeapReady size (now d) (now g) (now cells) (now table) × (n ≤ 4096) × Kind (w .kind) ⌝ }
     ensures { λ x. ⌜ ((m : Module) → Shapes m (now (d .entry)) → (p t : List ℕ) → Leads m size (now (d .entry)) (now (g .entry)) p t (now (cells .entry)) (now (table .entry)) n w x) ⌝ }
 {
-    if w.kind != 7 {
+    if w.kind < 7 {
         return Aim::Raises(POINTER_NOTPOINTER);
     }
     let a = w.payload;
@@ -84,7 +86,7 @@ pub(crate) fn number_of(
     n: usize,
     w: Slot,
 ) -> Named
-    requires { ⌜ HeapReady size (now d) (now g) (now cells) (now table) × (n ≤ 4096) ⌝ }
+    requires { ⌜ HeapReady size (now d) (now g) (now cells) (now table) × (n ≤ 4096) × Kind (w .kind) ⌝ }
     requires { ⌜ (n * 8 ≤ length (now p)) × (n ≤ length (now t)) ⌝ }
     ensures { λ x. ⌜ ((m : Module) → Shapes m (now (d .entry)) → Names m size (now (d .entry)) (now (g .entry)) (now (p .entry)) (now (t .entry)) (now (cells .entry)) (now (table .entry)) n w x) ⌝ }
 {
@@ -114,7 +116,7 @@ pub(crate) fn top_number(
     cells: &[u8],
     table: &[u8],
 ) -> Named
-    requires { ⌜ HeapReady size (now d) (now g) (now cells) (now table) × (r .height ≤ 4096) ⌝ }
+    requires { ⌜ HeapReady size (now d) (now g) (now cells) (now table) × (r .height ≤ 4096) × Kinded (slotsOf (now p) (now t) (r .height)) ⌝ }
     requires { ⌜ (r .height * 8 ≤ length (now p)) × (r .height ≤ length (now t)) × (r .floor ≤ r .height) ⌝ }
     ensures { λ x. ⌜ ((m : Module) → Shapes m (now (d .entry)) → TopNames m size (now (d .entry)) (now (g .entry)) (now (p .entry)) (now (t .entry)) (now (cells .entry)) (now (table .entry)) (r .floor) (r .height) x) ⌝ }
 {

@@ -11,6 +11,7 @@ use denote.Enum.Declared.{tagOf}
 use types.Run.{OneOf}
 use Rattle.rules.specs.Bytes.{maybe}
 use Rattle.rules.specs.Doubles.{decodeOf}
+use Rattle.rules.specs.Instructions.{isPointer}
 use Rattle.rules.specs.Operations.{apply2, refuse, number, whole, wholeOnly, zeroDivide, computed, low, Result, raises}
 use Rattle.rules.specs.declared.Binary.the-variants.{Arith}
 use Rattle.rules.specs.declared.Operator.{Operator}
@@ -19,7 +20,7 @@ use Rattle.values.specs.Values.{kindOfValue, gives}
 use Rattle.values.specs.declared.Value.{Value}
 use Rattle.values.specs.declared.Value.the-variants.{Int, Long, Double, Pointer}
 use Rattle.values.proofs.Value.{the-type}
-use Rattle.values.proofs.Cases.{ComputesTo, kind-by, int-kind, long-kind, double-kind, pointer-kind, but-int, but-long, but-double, int-apart, long-apart, double-apart}
+use Rattle.values.proofs.Cases.{ComputesTo, kind-by, int-kind, long-kind, double-kind, pointer-told, but-int, but-long, but-double, int-apart, long-apart, double-apart}
 use Rattle.arithmetic.specs.Arithmetic.{wordsOf, doublesOf, unlikeOf}
 
 -- ---- the exceptions before an operation: of two types, and of one
@@ -28,18 +29,18 @@ picked : (t : Bool) (x y : ℕ) → cond t (some x) (some y) ≡ some (cond t x 
 picked true x y = refl
 picked false x y = refl
 
-refused : (w : Bool) (i j : ℕ) → eqb i 7 ≡ false → eqb i j ≡ false
-    → refuse (cond w whole number) i j ≡ some (cond (eqb j 7) 32 22)
-refused true i j e f = rw (e, f) (picked (eqb j 7) 32 22)
-refused false i j e f = rw (e, f) (picked (eqb j 7) 32 22)
+refused : (w : Bool) (i j : ℕ) → isPointer i ≡ false → eqb i j ≡ false
+    → refuse (cond w whole number) i j ≡ some (cond (isPointer j) 32 22)
+refused true i j e f = rw (e, f) (picked (isPointer j) 32 22)
+refused false i j e f = rw (e, f) (picked (isPointer j) 32 22)
 
-admitted : (w : Bool) (k : ℕ) → eqb k 7 ≡ false → refuse (cond w whole number) k k ≡ cond (w && eqb k 6) (some 34) none
+admitted : (w : Bool) (k : ℕ) → isPointer k ≡ false → refuse (cond w whole number) k k ≡ cond (w && eqb k 6) (some 34) none
 admitted true k e = rw (e, eq-eqb k k refl)
 admitted false k e = rw (e, eq-eqb k k refl)
 
-pointer-refused : (w : Bool) (j : ℕ) → refuse (cond w whole number) 7 j ≡ some 32
-pointer-refused true j = refl
-pointer-refused false j = refl
+pointer-refused : (w : Bool) (i j : ℕ) → isPointer i ≡ true → refuse (cond w whole number) i j ≡ some 32
+pointer-refused true i j e = rw e
+pointer-refused false i j e = rw e
 
 settled : (t : Bool) (e : ℕ) (r : Result) → maybe (cond (t && true) (some e) none) r (λ n. raises n) ≡ cond t (raises e) r
 settled true e r = refl
@@ -48,9 +49,9 @@ settled false e r = refl
 -- ---- an operator on two slots, by their type numbers
 
 module _ (o : Operator) (a b : Slot) where
-  arith-unlike : (a .kind ≡ 7 → ⊥) → (a .kind ≡ b .kind → ⊥) → apply2 (Arith o) a b ≡ unlikeOf (b .kind)
+  arith-unlike : isPointer (a .kind) ≡ false → (a .kind ≡ b .kind → ⊥) → apply2 (Arith o) a b ≡ unlikeOf (b .kind)
   unfolding unlikeOf
-  arith-unlike e f = rw (refused (wholeOnly o) (a .kind) (b .kind) (ne-eqb _ _ e) (ne-eqb _ _ f))
+  arith-unlike e f = rw (refused (wholeOnly o) (a .kind) (b .kind) e (ne-eqb _ _ f))
 
   arith-ints : a .kind ≡ 3 → b .kind ≡ 3 → apply2 (Arith o) a b ≡ wordsOf 32 3 o (low (a .payload)) (low (b .payload))
   unfolding wordsOf zeroDivide computed
@@ -64,8 +65,8 @@ module _ (o : Operator) (a b : Slot) where
   unfolding doublesOf zeroDivide computed
   arith-doubles e f = rw (e, f, admitted (wholeOnly o) 6 refl, and-false) (settled (wholeOnly o) 34 _)
 
-  arith-pointer : a .kind ≡ 7 → apply2 (Arith o) a b ≡ raises 32
-  arith-pointer e = rw (e, pointer-refused (wholeOnly o) (b .kind))
+  arith-pointer : isPointer (a .kind) ≡ true → apply2 (Arith o) a b ≡ raises 32
+  arith-pointer e = rw (pointer-refused (wholeOnly o) (a .kind) (b .kind) e)
 
 -- ---- an operator on two values
 
@@ -90,20 +91,20 @@ module _ (o : Operator) {a b : Value} {w : Result} where
       let j = double-kind u l eb g in
       e (s .payload) (u .payload) (i .1) (j .1) ∙ sym (arith-doubles o s u (i .0) (j .0))
 
-  pub pointer : {n : ℕ} → a ≡ Pointer n → w ≡ raises 32 → ComputesTo (Arith o) a b w
-  pointer f e s u k l ea eb = e ∙ sym (arith-pointer o s u (pointer-kind s k ea f .0))
+  pub pointer : {g : Bool} {n : ℕ} → a ≡ Pointer g n → w ≡ raises 32 → ComputesTo (Arith o) a b w
+  pointer f e s u k l ea eb = e ∙ sym (arith-pointer o s u (pointer-told s k ea f))
 
-  unlikes : (kindOfValue a ≡ 7 → ⊥) → (kindOfValue a ≡ kindOfValue b → ⊥) → w ≡ unlikeOf (kindOfValue b) → ComputesTo (Arith o) a b w
+  unlikes : isPointer (kindOfValue a) ≡ false → (kindOfValue a ≡ kindOfValue b → ⊥) → w ≡ unlikeOf (kindOfValue b) → ComputesTo (Arith o) a b w
   unlikes n d e s u k l ea eb =
       let i = kind-by s a k ea in
       let j = kind-by u b l eb in
-      e ∙ ap unlikeOf (sym j) ∙ sym (arith-unlike o s u (λ h. n (sym i ∙ h)) (λ h. d (sym i ∙ h ∙ j)))
+      e ∙ ap unlikeOf (sym j) ∙ sym (arith-unlike o s u (ap isPointer i ∙ n) (λ h. d (sym i ∙ h ∙ j)))
 
   pub unlike-int : {x : ℕ} → a ≡ Int x → OneOf but-int (tagOf the-type b) → w ≡ unlikeOf (kindOfValue b) → ComputesTo (Arith o) a b w
-  unlike-int f t = unlikes (rw f (λ h. omega arith)) (int-apart b f t)
+  unlike-int f t = unlikes (ap (λ (v : Value). isPointer (kindOfValue v)) f) (int-apart b f t)
 
   pub unlike-long : {x : ℕ} → a ≡ Long x → OneOf but-long (tagOf the-type b) → w ≡ unlikeOf (kindOfValue b) → ComputesTo (Arith o) a b w
-  unlike-long f t = unlikes (rw f (λ h. omega arith)) (long-apart b f t)
+  unlike-long f t = unlikes (ap (λ (v : Value). isPointer (kindOfValue v)) f) (long-apart b f t)
 
   pub unlike-double : {x : Float} → a ≡ Double x → OneOf but-double (tagOf the-type b) → w ≡ unlikeOf (kindOfValue b) → ComputesTo (Arith o) a b w
-  unlike-double f t = unlikes (rw f (λ h. omega arith)) (double-apart b f t)
+  unlike-double f t = unlikes (ap (λ (v : Value). isPointer (kindOfValue v)) f) (double-apart b f t)

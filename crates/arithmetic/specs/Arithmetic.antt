@@ -2,6 +2,7 @@
 use mathlib.Core.Bool.{cond, _&&_}
 use Prim.Native.Nat.{ℕ}
 use lib.Dec.{eqb}
+use Rattle.rules.specs.Instructions.{isPointer}
 use Rattle.rules.specs.Numbers.{stack-different-type, arithmetic-divide-by-zero, pointer-invalid-for-pointer, double-invalid-for-double}
 use Rattle.rules.specs.Operations.{onWords, onDoubles, divides, wholeOnly, Result, raises}
 use Rattle.rules.specs.declared.Operator.{Operator}
@@ -17,4 +18,4 @@ doublesOf o p q = cond (wholeOnly o) (raises double-invalid-for-double) (gives 6
 
 -- operands of two types: the first is no pointer, the second has type number k
 unfoldable pub unlikeOf : ℕ → Result
-unlikeOf k = raises (cond (eqb k 7) pointer-invalid-for-pointer stack-different-type)
+unlikeOf k = raises (cond (isPointer k) pointer-invalid-for-pointer stack-different-type)

@@ -19,7 +19,7 @@ const DOUBLE_INVALIDFORDOUBLE: u32 = 34;
 fn unlike(b: Value) -> Computed
     ensures { λ r. ⌜ resultOf r ≡ unlikeOf (kindOfValue b) ⌝ }
 {
-    let Value::Pointer(_) = b else {
+    let Value::Pointer(_, _) = b else {
         return Computed::Raises(STACK_DIFFERENTTYPE);
     };
     Computed::Raises(POINTER_INVALIDFORPOINTER)
@@ -48,7 +48,7 @@ pub fn add_values(a: Value, b: Value) -> Computed
             };
             Computed::Yields(Value::Double(x + y))
         }
-        Value::Pointer(_) => Computed::Raises(POINTER_INVALIDFORPOINTER),
+        Value::Pointer(_, _) => Computed::Raises(POINTER_INVALIDFORPOINTER),
     }
 }
 
@@ -75,7 +75,7 @@ pub fn sub_values(a: Value, b: Value) -> Computed
             };
             Computed::Yields(Value::Double(x - y))
         }
-        Value::Pointer(_) => Computed::Raises(POINTER_INVALIDFORPOINTER),
+        Value::Pointer(_, _) => Computed::Raises(POINTER_INVALIDFORPOINTER),
     }
 }
 
@@ -102,7 +102,7 @@ pub fn mul_values(a: Value, b: Value) -> Computed
             };
             Computed::Yields(Value::Double(x * y))
         }
-        Value::Pointer(_) => Computed::Raises(POINTER_INVALIDFORPOINTER),
+        Value::Pointer(_, _) => Computed::Raises(POINTER_INVALIDFORPOINTER),
     }
 }
 
@@ -129,7 +129,7 @@ pub fn imul_values(a: Value, b: Value) -> Computed
             };
             Computed::Yields(Value::Double(x * y))
         }
-        Value::Pointer(_) => Computed::Raises(POINTER_INVALIDFORPOINTER),
+        Value::Pointer(_, _) => Computed::Raises(POINTER_INVALIDFORPOINTER),
     }
 }
 
@@ -162,7 +162,7 @@ pub fn div_values(a: Value, b: Value) -> Computed
             };
             Computed::Yields(Value::Double(x / y))
         }
-        Value::Pointer(_) => Computed::Raises(POINTER_INVALIDFORPOINTER),
+        Value::Pointer(_, _) => Computed::Raises(POINTER_INVALIDFORPOINTER),
     }
 }
 
@@ -195,7 +195,7 @@ pub fn idiv_values(a: Value, b: Value) -> Computed
             };
             Computed::Yields(Value::Double(x / y))
         }
-        Value::Pointer(_) => Computed::Raises(POINTER_INVALIDFORPOINTER),
+        Value::Pointer(_, _) => Computed::Raises(POINTER_INVALIDFORPOINTER),
     }
 }
 
@@ -228,7 +228,7 @@ pub fn mod_values(a: Value, b: Value) -> Computed
             };
             Computed::Raises(DOUBLE_INVALIDFORDOUBLE)
         }
-        Value::Pointer(_) => Computed::Raises(POINTER_INVALIDFORPOINTER),
+        Value::Pointer(_, _) => Computed::Raises(POINTER_INVALIDFORPOINTER),
     }
 }
 
@@ -261,7 +261,7 @@ pub fn imod_values(a: Value, b: Value) -> Computed
             };
             Computed::Raises(DOUBLE_INVALIDFORDOUBLE)
         }
-        Value::Pointer(_) => Computed::Raises(POINTER_INVALIDFORPOINTER),
+        Value::Pointer(_, _) => Computed::Raises(POINTER_INVALIDFORPOINTER),
     }
 }
 
@@ -288,7 +288,7 @@ pub fn and_values(a: Value, b: Value) -> Computed
             };
             Computed::Raises(DOUBLE_INVALIDFORDOUBLE)
         }
-        Value::Pointer(_) => Computed::Raises(POINTER_INVALIDFORPOINTER),
+        Value::Pointer(_, _) => Computed::Raises(POINTER_INVALIDFORPOINTER),
     }
 }
 
@@ -315,7 +315,7 @@ pub fn or_values(a: Value, b: Value) -> Computed
             };
             Computed::Raises(DOUBLE_INVALIDFORDOUBLE)
         }
-        Value::Pointer(_) => Computed::Raises(POINTER_INVALIDFORPOINTER),
+        Value::Pointer(_, _) => Computed::Raises(POINTER_INVALIDFORPOINTER),
     }
 }
 
@@ -342,7 +342,7 @@ pub fn xor_values(a: Value, b: Value) -> Computed
             };
             Computed::Raises(DOUBLE_INVALIDFORDOUBLE)
         }
-        Value::Pointer(_) => Computed::Raises(POINTER_INVALIDFORPOINTER),
+        Value::Pointer(_, _) => Computed::Raises(POINTER_INVALIDFORPOINTER),
     }
 }
 
@@ -369,7 +369,7 @@ pub fn shl_values(a: Value, b: Value) -> Computed
             };
             Computed::Raises(DOUBLE_INVALIDFORDOUBLE)
         }
-        Value::Pointer(_) => Computed::Raises(POINTER_INVALIDFORPOINTER),
+        Value::Pointer(_, _) => Computed::Raises(POINTER_INVALIDFORPOINTER),
     }
 }
 
@@ -396,7 +396,7 @@ pub fn sal_values(a: Value, b: Value) -> Computed
             };
             Computed::Raises(DOUBLE_INVALIDFORDOUBLE)
         }
-        Value::Pointer(_) => Computed::Raises(POINTER_INVALIDFORPOINTER),
+        Value::Pointer(_, _) => Computed::Raises(POINTER_INVALIDFORPOINTER),
     }
 }
 
@@ -423,7 +423,7 @@ pub fn shr_values(a: Value, b: Value) -> Computed
             };
             Computed::Raises(DOUBLE_INVALIDFORDOUBLE)
         }
-        Value::Pointer(_) => Computed::Raises(POINTER_INVALIDFORPOINTER),
+        Value::Pointer(_, _) => Computed::Raises(POINTER_INVALIDFORPOINTER),
     }
 }
 
@@ -450,6 +450,6 @@ pub fn sar_values(a: Value, b: Value) -> Computed
             };
             Computed::Raises(DOUBLE_INVALIDFORDOUBLE)
         }
-        Value::Pointer(_) => Computed::Raises(POINTER_INVALIDFORPOINTER),
+        Value::Pointer(_, _) => Computed::Raises(POINTER_INVALIDFORPOINTER),
     }
 }

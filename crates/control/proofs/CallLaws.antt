@@ -16,7 +16,7 @@ use Rattle.rules.specs.Tables.{functionCount, functionAt, functionOf, Function,
 use Rattle.rules.specs.ModuleFile.{edition, read, functionsIn}
 use Rattle.rules.specs.Stack.{slotAt, slotsOf}
 use Rattle.rules.specs.Machine.{execIn, kindsMatch}
-use Rattle.soundness.specs.Readable.{params-length}
+use Rattle.soundness.specs.Readable.{params-length, pointer-ty, managed-ty}
 use Rattle.reader.specs.declared.entries.FunctionRecord.{FunctionRecord}
 use Rattle.reader.specs.declared.entries.FoundFunction.the-variants.{Record}
 use Rattle.reader.specs.Answers.{functionFound}
@@ -31,9 +31,11 @@ use Rattle.control.proofs.Frames.{length-saved, length-opened, opened-b
 
 -- ---- the types of arguments, topmost first
 
-pub pointer-kind : (b : ℕ) → 128 ≤ b → 7 ≡ kindOf (tyOf b)
-pointer-kind b h =
-    rw (ne-eqb b 3 (λ e. omega arith), ne-eqb b 4 (λ e. omega arith), ne-eqb b 6 (λ e. omega arith)) refl
+pub pointer-kind : (b : ℕ) → 128 ≤ b → b < 192 → 7 ≡ kindOf (tyOf b)
+pointer-kind b h l = sym (ap kindOf (pointer-ty b h l))
+
+pub managed-kind : (b : ℕ) → 192 ≤ b → 8 ≡ kindOf (tyOf b)
+managed-kind b h = sym (ap kindOf (managed-ty b h))
 
 pub number-kind : (b : ℕ) → typeByte (tyOf b) ≡ b → b < 128 → b ≡ kindOf (tyOf b)
 number-kind b e h = sym e ∙ go (tyOf b) (omega (arith, e))
@@ -42,7 +44,8 @@ number-kind b e h = sym e ∙ go (tyOf b) (omega (arith, e))
     go (num int) l = refl
     go (num long) l = refl
     go (num double) l = refl
-    go (ptr w) l = absurd (omega arith)
+    go (ptr false w) l = absurd (omega arith)
+    go (ptr true w) l = absurd (omega arith)
 
 module _ (s : List ℕ) (a : ℕ) (p t : List ℕ) (b : ℕ) where
   pub kinds-end : (j : ℕ) → j ≡ 0 → kindsMatch (paramsFrom s a j) (slotsOf p t (b + j)) ≡ true

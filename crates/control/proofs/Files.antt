@@ -8,25 +8,18 @@ use mathlib.Core.Option.{Option, none, some}
 use mathlib.Core.List.{List}
 use lib.ListN.{length}
 use lib.Dec.{ltb, eqb}
-use borrow.Author.Tests.{lt-ltb, ltb-true, ne-eqb, eqb-true}
+use borrow.Author.Tests.{lt-ltb, ltb-true, ltb-false, ne-eqb, eqb-true}
 use Rattle.rules.specs.Bytes.{byte, word, maybe}
 use Rattle.rules.specs.Instructions.{pointeeNumber, pointeeOf, typeByte, tyOf}
 use Rattle.rules.specs.Tables.{functionCount, structureCount, badFunctions, endBefore, functionAt, functionOf, resultOf, Function, bodyOf, entry, fn, paramsFrom, moduleOf}
 use Rattle.rules.specs.ModuleFile.{edition, refusal, read, bodiesIn, tablesIn, functionsIn, codeIn}
 use Rattle.soundness.specs.Tests.{decide, none-some, some-inj}
-use Rattle.soundness.specs.Readable.{Has, ResultByte, byte-back, result-type, few-parameters, label-is, params-length, ends-rise, fills, starts-after}
+use Rattle.soundness.specs.Readable.{Has, ResultByte, pointer-back, byte-back, result-type, few-parameters, label-is, params-length, ends-rise, fills, starts-after}
 use Rattle.soundness.specs.Cutting.{few-functions, little-code, good-file, functions-good}
 use Rattle.reader.specs.declared.entries.FunctionRecord.{FunctionRecord}
 use Rattle.reader.specs.declared.entries.FoundFunction.the-variants.{Record}
 use Rattle.reader.specs.declared.entries.LabelRecord.{LabelRecord}
 use Rattle.reader.specs.Answers.{functionFound}
-
-pointee-back : (n : ℕ) → pointeeNumber (pointeeOf n) ≡ n
-pointee-back n =
-    decide (eqb n 0) (λ a. rw a (sym (eqb-true n 0 a)))
-    (λ a. decide (eqb n 3) (λ b. rw (a, b) (sym (eqb-true n 3 b)))
-    (λ b. decide (eqb n 4) (λ c. rw (a, b, c) (sym (eqb-true n 4 c)))
-    (λ c. decide (eqb n 6) (λ d. rw (a, b, c, d) (sym (eqb-true n 6 d))) (λ d. rw (a, b, c, d) refl))))
 
 -- a number whose type is not `null`'s is the byte of that type
 type-back : (x : ℕ) → (typeByte (tyOf x) ≡ 128 → ⊥) → typeByte (tyOf x) ≡ x
@@ -34,15 +27,21 @@ type-back x ne =
     decide (eqb x 3) (λ a. rw a (sym (eqb-true x 3 a)))
     (λ a. decide (eqb x 4) (λ b. rw (a, b) (sym (eqb-true x 4 b)))
     (λ b. decide (eqb x 6) (λ c. rw (a, b, c) (sym (eqb-true x 6 c)))
-    (λ c. let e : typeByte (tyOf x) ≡ 128 + (x - 128) = rw (a, b, c) (ap (λ (n : ℕ). 128 + n) (pointee-back (x - 128))) in
-    let l : 128 < x = omega (arith, ne) in
-    omega arith)))
+    (λ c. decide (ltb x 128)
+    (λ d. let l = ltb-true x 128 d in
+    let z : x - 128 ≡ 0 = omega arith in
+    absurd (ne (rw (a, b, c, lt-ltb x 192 (omega arith), z) refl)))
+    (λ d. pointer-back x (ltb-false x 128 d)))))
 
 not-null : (z t : ℕ) → ResultByte z t → t ≡ 128 → ⊥
 not-null z t (inl (inl e)) q = omega arith
 not-null z t (inl (inr (inl e))) q = omega arith
 not-null z t (inl (inr (inr e))) q = omega arith
-not-null z t (inr h) q = let l : 138 ≤ t = h .0 in omega arith
+not-null z t (inr (inl h)) q = let l : 138 ≤ t = h .0 in omega arith
+not-null z t (inr (inr (inl (inl e)))) q = omega arith
+not-null z t (inr (inr (inl (inr (inl e))))) q = omega arith
+not-null z t (inr (inr (inl (inr (inr e))))) q = omega arith
+not-null z t (inr (inr (inr h))) q = let l : 202 ≤ t = h .0 in omega arith
 
 module _ (s : List ℕ) (readable : refusal s ≡ 0) where
   -- its number, its count of parameters and its end

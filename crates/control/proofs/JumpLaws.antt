@@ -6,7 +6,7 @@ use mathlib.Core.Bool.{Bool, true, false, cond}
 use mathlib.Core.Logic.{_⊎_, inl, inr}
 use mathlib.Core.Option.{none, some}
 use mathlib.Core.List.{List}
-use lib.Dec.{eqb}
+use lib.Dec.{eqb, leb}
 use denote.Enum.Declared.{tagOf}
 use types.Run.{OneOf}
 use borrow.Author.Tests.{eq-eqb, ne-eqb, eqb-true, eqb-false}
@@ -107,16 +107,17 @@ pub popped-int : (v : Slot) (n : ℕ) → valueOf v ≡ Int n → (v .kind ≡ 3
 unfolding valueOf
 popped-int v n e = go (eqb (v .kind) 3) refl e
   where
-    other : (x y : Bool) → cond x (Double (decodeOf (v .payload))) (cond y (Pointer (v .payload)) (Long (v .payload))) ≡ Int n → (v .kind ≡ 3) × (n ≡ low (v .payload))
-    other true y e = let z : _≡_ {A = ℕ} 0 1 = cc in absurd (omega arith)
-    other false true e = let z : _≡_ {A = ℕ} 0 1 = cc in absurd (omega arith)
-    other false false e = let z : _≡_ {A = ℕ} 0 1 = cc in absurd (omega arith)
+    other : (x y w : Bool) → cond x (Double (decodeOf (v .payload))) (cond y (Pointer w (v .payload)) (Long (v .payload))) ≡ Int n
+        → (v .kind ≡ 3) × (n ≡ low (v .payload))
+    other true y w e = let z : _≡_ {A = ℕ} 0 1 = cc in absurd (omega arith)
+    other false true w e = let z : _≡_ {A = ℕ} 0 1 = cc in absurd (omega arith)
+    other false false w e = let z : _≡_ {A = ℕ} 0 1 = cc in absurd (omega arith)
 
     go : (x : Bool) → eqb (v .kind) 3 ≡ x
-        → cond x (Int (low (v .payload))) (cond (eqb (v .kind) 6) (Double (decodeOf (v .payload))) (cond (eqb (v .kind) 7) (Pointer (v .payload)) (Long (v .payload)))) ≡ Int n
+        → cond x (Int (low (v .payload))) (cond (eqb (v .kind) 6) (Double (decodeOf (v .payload))) (cond (leb 7 (v .kind)) (Pointer (eqb (v .kind) 8) (v .payload)) (Long (v .payload)))) ≡ Int n
         → (v .kind ≡ 3) × (n ≡ low (v .payload))
     go true y e = (eqb-true (v .kind) 3 y, cc)
-    go false y e = other (eqb (v .kind) 6) (eqb (v .kind) 7) e
+    go false y e = other (eqb (v .kind) 6) (leb 7 (v .kind)) (eqb (v .kind) 8) e
 
 -- where a `let` found no int
 pub popped-other : (v : Slot) (x : Value) → x ≡ valueOf v → OneOf but-int (tagOf the-type x) → v .kind ≡ 3 → ⊥

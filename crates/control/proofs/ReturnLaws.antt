@@ -46,7 +46,8 @@ same-kind : (x n : ℕ) → Kind n → typeByte (tyOf x) ≡ x → n ≡ x → n
 same-kind x n (inl e) b q = let z : x ≡ 3 = sym q ∙ e in rw (e, z) refl
 same-kind x n (inr (inl e)) b q = let z : x ≡ 4 = sym q ∙ e in rw (e, z) refl
 same-kind x n (inr (inr (inl e))) b q = let z : x ≡ 6 = sym q ∙ e in rw (e, z) refl
-same-kind x n (inr (inr (inr e))) b q = let z : x ≡ 7 = sym q ∙ e in absurd (let w : _≡_ {A = ℕ} 128 7 = rw z at b in omega arith)
+same-kind x n (inr (inr (inr (inl e)))) b q = let z : x ≡ 7 = sym q ∙ e in absurd (let w : _≡_ {A = ℕ} 128 7 = rw z at b in omega arith)
+same-kind x n (inr (inr (inr (inr e)))) b q = let z : x ≡ 8 = sym q ∙ e in absurd (let w : _≡_ {A = ℕ} 128 8 = rw z at b in omega arith)
 
 -- a type number that is a return type's byte is the number of that type: it is no pointer's
 pub top-kind : (p t : List ℕ) (fl h x : ℕ) (v : Slot) → fl + 1 ≤ h → v ≡ slotAt p t (h - 1) → Kinded (slotsOf p t h) → typeByte (tyOf x) ≡ x → v .kind ≡ x → v .kind ≡ kindOf (tyOf x)

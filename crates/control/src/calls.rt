@@ -27,11 +27,14 @@ use state::Registers;
 
 // ---- call
 
-// The type number of a type byte. Every pointer is 7.
+// The type number of a type byte. Every pointer is 7, every managed one 8.
 fn kind_of(b: u8) -> u8
     requires { ⌜ typeByte (tyOf b) ≡ b ⌝ }
     ensures { λ r. ⌜ r ≡ kindOf (tyOf b) ⌝ }
 {
+    if 192 <= b {
+        return 8;
+    }
     if 128 <= b {
         return 7;
     }

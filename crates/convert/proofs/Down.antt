@@ -16,9 +16,9 @@ use Rattle.format.specs.Layout.{headerTests, Packed}
 use Rattle.soundness.specs.Tests.{decide, false-true, eqb-is, eqb-isnt, ltb-yes, ltb-no, or-neither}
 use Rattle.soundness.specs.Readable.{AllFalse, none-first, none-below, same-numbers, GoodTables, good-tables}
 use Rattle.editions.specs.Paired.{Paired, lowered-pair, pair-counts}
-use Rattle.editions.specs.Alike.{same-below, Known, same-due, fourthOf}
+use Rattle.editions.specs.Alike.{same-below, Known, same-due, fourthOf, Signed}
 use Rattle.editions.specs.Alike as Alike
-use Rattle.editions.specs.Conversions.{up-known, down-read}
+use Rattle.editions.specs.Conversions.{up-known, down-read, old-types}
 use Rattle.reader.proofs.Records.{constants-length, functions-length, labels-length, code-length, structures-length}
 use Rattle.format.proofs.Tests.{or-left, or-right}
 use Rattle.convert.specs.Rows.{Headed, GoesDown}
@@ -85,30 +85,6 @@ refused-newer s n e h r =
     absurd (h (e ∙ sym (ap (λ (t : Tables). firstOf 6 (contentTests t)) (d .1)) ∙ none)))
 
 -- ---- signatures and code of tables that both editions take
-
--- what row 7 leaves of the types in a record
-record-types : (e z : ℕ) (s : List ℕ) (a from : ℕ) → badRecord e z s a from ≡ false → (oddReturn z (byte s (a + 9)) ≡ false) × (some-below 8 (badParam e z s a) ≡ false)
-unfolding badRecord
-record-types e z s a from f =
-    let y : _ × (some-below 8 (badParam e z s a) ≡ false) =
-    or-neither _ (some-below 8 (badParam e z s a)) (or-neither _ (differs (byte s (a + 18)) 0) (or-neither _ (differs (byte s (a + 19)) 0) f .0) .0) in
-    let first : Bool = differs (word 4 s a) from || eqb (word 4 s (a + 4)) 0 || ltb 8 (byte s (a + 8)) in
-    (or-neither first (oddReturn z (byte s (a + 9))) (y .0) .1, y .1)
-
-same-odd : (s : List ℕ) (a j : ℕ) → badParam 3 0 s a j ≡ badParam 4 0 s a j
-unfolding badParam
-same-odd s a j = refl
-
-old-types : (t : Tables) (gs : List ℕ) → badFunctions (fourthOf t gs .bodies) ≡ false → (i : ℕ) → i < functionCount 4 gs → newType gs i ≡ false
-unfolding badFunctions badFunction
-old-types t gs h i l =
-    let b : Bodies = fourthOf t gs .bodies in
-    let a : ℕ = functionAt 4 i in
-    let n : ℕ = functionCount 4 gs in
-    let all : some-below n (badFunction b) ≡ false = or-neither (some-below n (badFunction b)) (differs (endBefore b n) (length (b .code))) h .0 in
-    let x : (oddReturn 0 (byte gs (a + 9)) ≡ false) × (some-below 8 (badParam 4 0 gs a) ≡ false) =
-    record-types 4 0 gs a (endBefore b i) (none-below n (badFunction b) all i l) in
-    rw (x .0, same-below 8 (badParam 3 0 gs a) (badParam 4 0 gs a) (λ j u. same-odd gs a j)) (x .1)
 
 old-opcodes : (code : List ℕ) → Known code → (i : ℕ) → i < length code → newOpcode code i ≡ false
 old-opcodes code known i l =
@@ -184,8 +160,11 @@ module _ (s : List ℕ) (c : Sections) (headed : Headed s c) (bare : c .structur
       let l : length (structuresIn s) ≡ 12 * c .structures = structures-length s c k in
       ap₂ (with (tablesIn s)) (headed .fourth) (none (structuresIn s) (omega arith))
 
+  signed : Signed n (functionsIn s)
+  signed = old-types n low (functionsIn s) pair (tablesIn s) (good-tables (toThird (tablesIn s)) third-good .good .seventh)
+
   fourth-good : tableRefusal (fourthOf (tablesIn s) (functionsIn s)) ≡ 0
-  fourth-good = Alike.same-refusal n low (functionsIn s) pair (tablesIn s) known ∙ third-good
+  fourth-good = Alike.same-refusal n low (functionsIn s) pair (tablesIn s) known signed ∙ third-good
 
   -- so it can be read
   readable : refusalIn 4 s ≡ 0
@@ -205,7 +184,7 @@ module _ (s : List ℕ) (c : Sections) (headed : Headed s c) (bare : c .structur
       rw (
         plain,
         ltb-no 0 (structureCount (structuresIn s)) (omega arith),
-        none-found n (newType (functionsIn s)) (old-types (tablesIn s) (functionsIn s) (good-tables (fourthOf (tablesIn s) (functionsIn s)) fourth-good .good .seventh)),
+        none-found n (newType (functionsIn s)) signed,
         none-found (length (codeIn s)) (newOpcode (codeIn s)) (old-opcodes (codeIn s) known),
       )
 

@@ -1,17 +1,19 @@
 -- 02, A7: code and tables of editions 3 and 4 with paired function records are cut alike and refused alike.
-use mathlib.Core.Path.{_≡_, refl, ap, _∙_}
+use mathlib.Core.Path.{_≡_, refl, sym, ap, _∙_}
 use Prim.Native.Nat.{ℕ, zero, suc, _+_, _*_, _%_, _≤_, _<_}
 use native.Mathlib.Omega.{arith}
-use mathlib.Core.Bool.{Bool, false}
+use mathlib.Core.Bool.{Bool, true, false, not, _&&_, _||_}
 use mathlib.Core.List.{List, [], _∷_}
 use lib.ListN.{length, getD}
 use lib.Dec.{ltb, eqb}
 use Rattle.rules.specs.Bytes.{byte, word, some-below}
 use Rattle.rules.specs.Instructions.{isAbsent}
-use Rattle.rules.specs.Tables.{Bodies, Tables, tables, functionAt, labelAt, badParam, badRecord, badFunction, badFunctions, endBefore, opcodeAt, dueAfter, due, unknownAt, crossed, badCode, owns, badLabel, badLabels, labelCount, firstOf, contentTests}
+use Rattle.rules.specs.Tables.{Bodies, Tables, tables, functionAt, labelAt, differs, numberType, pointerType, structureType, managedType, oddReturn, oddParam, badParam, badRecord, badFunction, badFunctions, endBefore, opcodeAt, dueAfter, due, unknownAt, crossed, badCode, owns, badLabel, badLabels, labelCount, firstOf, contentTests}
 use Rattle.rules.specs.Writing.{tooMany, broken, tableRefusal}
+use Rattle.rules.specs.Converting.{newType}
 use Rattle.soundness.specs.Names.{one}
-use Rattle.soundness.specs.Tests.{decide, eqb-is, ltb-is, ltb-isnt}
+use Rattle.soundness.specs.Tests.{decide, eqb-is, ltb-is, ltb-isnt, false-true, or-neither}
+use Rattle.soundness.specs.Readable.{none-below}
 use Rattle.soundness.specs.Numbering.{third-in-fourth}
 use Rattle.editions.specs.Paired.{Paired, pair-byte, pair-byte-at, pair-start, pair-length, pair-counts}
 
@@ -20,6 +22,28 @@ pub same-below : (n : ℕ) (f g : ℕ → Bool) → ((i : ℕ) → i < n → f i
 unfolding some-below
 same-below zero f g h = refl
 same-below (suc n) f g h = rw (same-below n f g (λ i l. h i (omega arith)), h n (omega arith))
+
+-- no i below n passes a test that none passes
+pub none-found : (n : ℕ) (f : ℕ → Bool) → ((i : ℕ) → i < n → f i ≡ false) → some-below n f ≡ false
+unfolding some-below
+none-found zero f h = refl
+none-found (suc n) f h = rw (none-found n f (λ i l. h i (omega arith)), h n (omega arith))
+
+-- ---- types: what edition 3 knows edition 4 knows, too
+
+more-return : (d a m : Bool) → (d && not (a || false)) ≡ false → (d && not (a || m)) ≡ false
+more-return false a m h = refl
+more-return true true m h = refl
+more-return true false m h = false-true (sym h)
+
+more-param : (u a m x : Bool) → ((u && not (a || false)) || x) ≡ false → ((u && not (a || m)) || x) ≡ false
+more-param false a m x h = h
+more-param true true m x h = h
+more-param true false m x h = false-true (sym h)
+
+-- the signatures of the first n functions have only types that edition 3 knows
+abbrev pub Signed : ℕ → List ℕ → Type 0
+Signed n gs = (i : ℕ) → i < n → newType gs i ≡ false
 
 -- ---- opcodes
 
@@ -69,28 +93,56 @@ abbrev pub fourthOf : Tables → List ℕ → Tables
 fourthOf t gs = tables 4 (t .constants) gs (t .labels) [] (t .bodies .code) (t .bodies .entry)
 
 module _ (n : ℕ) (fs gs : List ℕ) (p : Paired n fs gs) where
-  -- a parameter byte of function i
-  same-param : (i : ℕ) → i < n → (j : ℕ) → j < 8 → badParam 4 0 gs (functionAt 4 i) j ≡ badParam 3 0 fs (functionAt 3 i) j
+  -- a parameter byte of function i, by the rules of edition 3
+  same-param : (i : ℕ) → i < n → (j : ℕ) → j < 8 → badParam 3 0 gs (functionAt 4 i) j ≡ badParam 3 0 fs (functionAt 3 i) j
   unfolding badParam
   same-param i l j h = rw (pair-byte n fs gs p i 8 l (omega arith), pair-byte-at n fs gs p i 10 j l (omega arith))
 
   -- all eight
-  same-params : (i : ℕ) → i < n → some-below 8 (badParam 4 0 gs (functionAt 4 i)) ≡ some-below 8 (badParam 3 0 fs (functionAt 3 i))
-  same-params i l = same-below 8 (badParam 4 0 gs (functionAt 4 i)) (badParam 3 0 fs (functionAt 3 i)) (same-param i l)
+  same-params : (i : ℕ) → i < n → some-below 8 (badParam 3 0 gs (functionAt 4 i)) ≡ some-below 8 (badParam 3 0 fs (functionAt 3 i))
+  same-params i l = same-below 8 (badParam 3 0 gs (functionAt 4 i)) (badParam 3 0 fs (functionAt 3 i)) (same-param i l)
 
-  -- the record of function i
-  same-record : (i : ℕ) → i < n → (from : ℕ) → badRecord 4 0 gs (functionAt 4 i) from ≡ badRecord 3 0 fs (functionAt 3 i) from
-  unfolding badRecord
-  same-record i l from =
-      rw (
-        pair-start n fs gs p i,
-        pair-length n fs gs p i,
-        pair-byte n fs gs p i 8 l (omega arith),
-        pair-byte n fs gs p i 9 l (omega arith),
-        same-params i l,
-        pair-byte n fs gs p i 18 l (omega arith),
-        pair-byte n fs gs p i 19 l (omega arith),
-      )
+  -- the types of function i in each edition's records
+  pub same-types : (i : ℕ) → i < n → newType gs i ≡ (oddReturn 3 0 (byte fs (functionAt 3 i + 9)) || some-below 8 (badParam 3 0 fs (functionAt 3 i)))
+  same-types i l = rw (pair-byte n fs gs p i 9 l (omega arith), same-params i l)
+
+  -- the record of function i, where edition 3 knows its types
+  module _ (i : ℕ) (l : i < n) (old : newType gs i ≡ false) where
+    old-types : (oddReturn 3 0 (byte gs (functionAt 4 i + 9)) ≡ false) × (some-below 8 (badParam 3 0 gs (functionAt 4 i)) ≡ false)
+    old-types = or-neither (oddReturn 3 0 (byte gs (functionAt 4 i + 9))) (some-below 8 (badParam 3 0 gs (functionAt 4 i))) old
+
+    return-4 : oddReturn 4 0 (byte gs (functionAt 4 i + 9)) ≡ false
+    return-4 = let t : ℕ = byte gs (functionAt 4 i + 9) in more-return (differs t 0) (numberType t || structureType 0 t) (managedType 4 0 t) (old-types .0)
+
+    return-3 : oddReturn 3 0 (byte fs (functionAt 3 i + 9)) ≡ false
+    return-3 = sym (ap (λ (t : ℕ). oddReturn 3 0 t) (pair-byte n fs gs p i 9 l (omega arith))) ∙ old-types .0
+
+    params-4 : some-below 8 (badParam 4 0 gs (functionAt 4 i)) ≡ false
+    unfolding badParam
+    params-4 =
+        none-found 8 (badParam 4 0 gs (functionAt 4 i))
+        (λ j h. let t : ℕ = byte gs (functionAt 4 i + 10 + j) in
+        let u : Bool = ltb j (byte gs (functionAt 4 i + 8)) in
+        more-param u (numberType t || pointerType 4 t || structureType 0 t) (managedType 4 0 t) (not u && differs t 0)
+        (none-below 8 (badParam 3 0 gs (functionAt 4 i)) (old-types .1) j h))
+
+    params-3 : some-below 8 (badParam 3 0 fs (functionAt 3 i)) ≡ false
+    params-3 = sym (same-params i l) ∙ old-types .1
+
+    same-record : (from : ℕ) → badRecord 4 0 gs (functionAt 4 i) from ≡ badRecord 3 0 fs (functionAt 3 i) from
+    unfolding badRecord
+    same-record from =
+        rw (
+          return-4,
+          return-3,
+          params-4,
+          params-3,
+          pair-start n fs gs p i,
+          pair-length n fs gs p i,
+          pair-byte n fs gs p i 8 l (omega arith),
+          pair-byte n fs gs p i 18 l (omega arith),
+          pair-byte n fs gs p i 19 l (omega arith),
+        )
 
   -- an owner of a place
   same-owns : (m o q : ℕ) → owns 4 gs m o q ≡ owns 3 fs m o q
@@ -111,14 +163,14 @@ module _ (n : ℕ) (fs gs : List ℕ) (p : Paired n fs gs) where
     same-ends (suc i) = rw (same-ends i, pair-length n fs gs p i)
 
     -- row 7, of one function and of all
-    same-function : (i : ℕ) → i < n → badFunction B4 i ≡ badFunction B3 i
+    same-function : Signed n gs → (i : ℕ) → i < n → badFunction B4 i ≡ badFunction B3 i
     unfolding badFunction
-    same-function i l = rw (same-ends i) (same-record i l (endBefore B3 i))
+    same-function signed i l = rw (same-ends i) (same-record i l (signed i l) (endBefore B3 i))
 
-    same-functions : badFunctions B4 ≡ badFunctions B3
+    same-functions : Signed n gs → badFunctions B4 ≡ badFunctions B3
     unfolding badFunctions
-    same-functions =
-        rw (pair-counts n fs gs p .0, pair-counts n fs gs p .1, same-ends n, same-below n (badFunction B4) (badFunction B3) same-function)
+    same-functions signed =
+        rw (pair-counts n fs gs p .0, pair-counts n fs gs p .1, same-ends n, same-below n (badFunction B4) (badFunction B3) (same-function signed))
 
     -- row 4
     same-many : tooMany (fourthOf t gs) ≡ tooMany (thirdOf t fs)
@@ -135,7 +187,7 @@ module _ (n : ℕ) (fs gs : List ℕ) (p : Paired n fs gs) where
         let y : length fs % 20 ≡ 0 = omega arith in
         rw (x, y)
 
-    module _ (known : Known (t .bodies .code)) where
+    module _ (known : Known (t .bodies .code)) (signed : Signed n gs) where
       -- row 8, at a body's end and of all code
       same-crossed : (i : ℕ) → crossed B4 i ≡ crossed B3 i
       unfolding crossed
@@ -165,7 +217,7 @@ module _ (n : ℕ) (fs gs : List ℕ) (p : Paired n fs gs) where
 
       -- rows 6 to 9
       same-content : contentTests (fourthOf t gs) ≡ contentTests (thirdOf t fs)
-      same-content = rw (same-functions, same-code, same-labels)
+      same-content = rw (same-functions signed, same-code, same-labels)
 
       -- tables of edition 4 are refused as those of edition 3
       pub same-refusal : tableRefusal (fourthOf t gs) ≡ tableRefusal (thirdOf t fs)

@@ -19,7 +19,7 @@ use Rattle.soundness.specs.Readable.{AllFalse, none-first, none-below, same-num
 use Rattle.soundness.specs.Cutting.{good-file}
 use Rattle.soundness.specs.Saves.{file-readable, file-back}
 use Rattle.editions.specs.Paired.{Paired, raised-pair, lowered-pair, pair-profile, pair-counts, raises, lowers}
-use Rattle.editions.specs.Alike.{same-below, Known, same-due, thirdOf, fourthOf, same-refusal}
+use Rattle.editions.specs.Alike.{none-found, Known, Signed, same-types, same-due, thirdOf, fourthOf, same-refusal}
 
 -- ---- rows
 
@@ -28,12 +28,6 @@ first-none : (n : ℕ) (ts : List Bool) → AllFalse ts → firstOf n ts ≡ 0
 unfolding firstOf
 first-none n [] h = refl
 first-none n (t ∷ ts) h = rw (h .0) (first-none (suc n) ts (h .1))
-
--- no i below n passes a test that none passes
-none-found : (n : ℕ) (f : ℕ → Bool) → ((i : ℕ) → i < n → f i ≡ false) → some-below n f ≡ false
-unfolding some-below
-none-found zero f h = refl
-none-found (suc n) f h = rw (none-found n f (λ i l. h i (omega arith)), h n (omega arith))
 
 -- a file that must be of edition e is of edition e, and can be read
 pub edition-is : (e : ℕ) (s : List ℕ) → unknownEdition e ≡ false → refusalIn e s ≡ 0 → (edition s ≡ e) × (refusal s ≡ 0)
@@ -101,6 +95,29 @@ third-knows b q h p l d d′ =
     let y : unknownAt 3 code p ≡ false = none-below (length code) (unknownAt 3 code) (rw q at x) p l in
     and-not (eqb (due 3 code p) 0) (isAbsent (opcodeAt 3 code p)) y (rw d refl)
 
+-- what row 7 leaves of the types in a record
+record-types : (e z : ℕ) (s : List ℕ) (a from : ℕ) → badRecord e z s a from ≡ false
+    → (oddReturn e z (byte s (a + 9)) ≡ false) × (some-below 8 (badParam e z s a) ≡ false)
+unfolding badRecord
+record-types e z s a from f =
+    let y : _ × (some-below 8 (badParam e z s a) ≡ false) =
+    or-neither _ (some-below 8 (badParam e z s a)) (or-neither _ (differs (byte s (a + 18)) 0) (or-neither _ (differs (byte s (a + 19)) 0) f .0) .0) in
+    let first : Bool = differs (word 4 s a) from || eqb (word 4 s (a + 4)) 0 || ltb 8 (byte s (a + 8)) in
+    (or-neither first (oddReturn e z (byte s (a + 9))) (y .0) .1, y .1)
+
+-- in the signatures of records that edition 3 does not refuse it knows every type
+pub old-types : (n : ℕ) (fs gs : List ℕ) → Paired n fs gs → (t : Tables) → badFunctions (thirdOf t fs .bodies) ≡ false → Signed n gs
+unfolding badFunctions badFunction
+old-types n fs gs p t h i l =
+    let b : Bodies = thirdOf t fs .bodies in
+    let a : ℕ = functionAt 3 i in
+    let k : ℕ = functionCount 3 fs in
+    let c : k ≡ n = pair-counts n fs gs p .0 in
+    let all : some-below k (badFunction b) ≡ false = or-neither (some-below k (badFunction b)) (differs (endBefore b k) (length (b .code))) h .0 in
+    let x : (oddReturn 3 0 (byte fs (a + 9)) ≡ false) × (some-below 8 (badParam 3 0 fs a) ≡ false) =
+    record-types 3 0 fs a (endBefore b i) (none-below k (badFunction b) all i (omega arith)) in
+    same-types n fs gs p i l ∙ rw (x .0, x .1)
+
 module _ (t : Tables) (e : tableRefusal t ≡ 0) (q : t .bodies .edition ≡ 3) where
   -- how many functions there are, and their new records
   abbrev pub upCount : ℕ
@@ -120,9 +137,12 @@ module _ (t : Tables) (e : tableRefusal t ≡ 0) (q : t .bodies .edition ≡ 3) 
   pub up-known : Known (t .bodies .code)
   up-known = third-knows (t .bodies) q (good-tables t e .good .eighth)
 
+  up-signed : Signed upCount upRecords
+  up-signed = old-types upCount (t .bodies .functions) upRecords up-pair t (good-tables (thirdOf t (t .bodies .functions)) third-good .good .seventh)
+
   -- the new tables are not refused
   up-good : tableRefusal (toFourth t) ≡ 0
-  up-good = same-refusal upCount (t .bodies .functions) upRecords up-pair t up-known ∙ third-good
+  up-good = same-refusal upCount (t .bodies .functions) upRecords up-pair t up-known up-signed ∙ third-good
 
 -- what comes out can be read, and its tables are those of edition 4
 pub up-read : (s : List ℕ) → refusalIn 3 s ≡ 0 → (refusal (fourth s) ≡ 0) × (tablesIn (fourth s) ≡ toFourth (tablesIn s))
@@ -133,10 +153,11 @@ up-read s h =
 
 -- ---- down
 
--- what is asked of tables that go down; type bytes need no asking where there is no structure
+-- what is asked of tables that go down
 record InThird (t : Tables) : Type 0 where
   no-profile : some-below (functionCount 4 (t .bodies .functions)) (profiled (t .bodies .functions)) ≡ false
   no-structure : ltb 0 (structureCount (t .bodies .structures)) ≡ false
+  no-type : some-below (functionCount 4 (t .bodies .functions)) (newType (t .bodies .functions)) ≡ false
   no-opcode : some-below (length (t .bodies .code)) (newOpcode (t .bodies .code)) ≡ false
 
 in-third : (t : Tables) → notInThird t ≡ false → InThird t
@@ -149,7 +170,7 @@ in-third t h =
     let a : _ × (opcode ≡ false) = or-neither _ opcode h in
     let b : _ × (some-below n (newType gs) ≡ false) = or-neither _ (some-below n (newType gs)) (a .0) in
     let c : (some-below n (profiled gs) ≡ false) × (z ≡ false) = or-neither (some-below n (profiled gs)) z (b .0) in
-    record { no-profile = c .0; no-structure = c .1; no-opcode = a .1 }
+    record { no-profile = c .0; no-structure = c .1; no-type = b .1; no-opcode = a .1 }
 
 module _ (t : Tables) (e : tableRefusal t ≡ 0) (q : t .bodies .edition ≡ 4) (h : notInThird t ≡ false) where
   -- how many functions there are, and their new records
@@ -174,10 +195,13 @@ module _ (t : Tables) (e : tableRefusal t ≡ 0) (q : t .bodies .edition ≡ 4) 
       let code : List ℕ = t .bodies .code in
       and-not (eqb (due 4 code p) 0) (isAbsent (opcodeAt 3 code p)) (none-below (length code) (newOpcode code) (in-third t h .no-opcode) p l) (rw d′ refl)
 
+  down-signed : Signed downCount (t .bodies .functions)
+  down-signed i l = none-below downCount (newType (t .bodies .functions)) (in-third t h .no-type) i l
+
   -- the new tables are not refused
   down-good : tableRefusal (toThird t) ≡ 0
   down-good =
-      sym (same-refusal downCount downRecords (t .bodies .functions) down-pair t down-known) ∙ sym (ap tableRefusal no-structures) ∙ e
+      sym (same-refusal downCount downRecords (t .bodies .functions) down-pair t down-known down-signed) ∙ sym (ap tableRefusal no-structures) ∙ e
 
 -- what comes out can be read, and its tables are those of edition 3
 pub down-read : (s : List ℕ) → downRefusal s ≡ 0 → (refusal (third s) ≡ 0) × (tablesIn (third s) ≡ toThird (tablesIn s))
@@ -189,34 +213,7 @@ down-read s h =
 
 -- ---- up then down
 
--- what row 7 leaves of the types in a record
-record-types : (e z : ℕ) (s : List ℕ) (a from : ℕ) → badRecord e z s a from ≡ false
-    → (oddReturn z (byte s (a + 9)) ≡ false) × (some-below 8 (badParam e z s a) ≡ false)
-unfolding badRecord
-record-types e z s a from f =
-    let y : _ × (some-below 8 (badParam e z s a) ≡ false) =
-    or-neither _ (some-below 8 (badParam e z s a)) (or-neither _ (differs (byte s (a + 18)) 0) (or-neither _ (differs (byte s (a + 19)) 0) f .0) .0) in
-    let first : Bool = differs (word 4 s a) from || eqb (word 4 s (a + 4)) 0 || ltb 8 (byte s (a + 8)) in
-    (or-neither first (oddReturn z (byte s (a + 9))) (y .0) .1, y .1)
-
--- editions 3 and 4 have the same types of parameters, but for structures
-same-odd : (s : List ℕ) (a j : ℕ) → badParam 3 0 s a j ≡ badParam 4 0 s a j
-unfolding badParam
-same-odd s a j = refl
-
--- in the signatures of records that are not refused edition 3 knows every type
-old-types : (t : Tables) (gs : List ℕ) → badFunctions (fourthOf t gs .bodies) ≡ false → (i : ℕ) → i < functionCount 4 gs → newType gs i ≡ false
-unfolding badFunctions badFunction
-old-types t gs h i l =
-    let b : Bodies = fourthOf t gs .bodies in
-    let a : ℕ = functionAt 4 i in
-    let n : ℕ = functionCount 4 gs in
-    let all : some-below n (badFunction b) ≡ false = or-neither (some-below n (badFunction b)) (differs (endBefore b n) (length (b .code))) h .0 in
-    let x : (oddReturn 0 (byte gs (a + 9)) ≡ false) × (some-below 8 (badParam 4 0 gs a) ≡ false) =
-    record-types 4 0 gs a (endBefore b i) (none-below n (badFunction b) all i l) in
-    rw (x .0, same-below 8 (badParam 3 0 gs a) (badParam 4 0 gs a) (λ j u. same-odd gs a j)) (x .1)
-
--- nor is there an opcode that it lacks
+-- there is no opcode that it lacks
 old-opcodes : (code : List ℕ) → Known code → (i : ℕ) → i < length code → newOpcode code i ≡ false
 old-opcodes code known i l =
     decide (eqb (due 4 code i) 0)
@@ -233,7 +230,7 @@ module _ (t : Tables) (e : tableRefusal t ≡ 0) (q : t .bodies .edition ≡ 3) 
       let c : functionCount 4 gs ≡ n = pair-counts n (t .bodies .functions) gs p .1 in
       rw (
         none-found (functionCount 4 gs) (profiled gs) (λ i l. rw (pair-profile n (t .bodies .functions) gs p i (rw c at l)) refl),
-        none-found (functionCount 4 gs) (newType gs) (old-types t gs (good-tables (toFourth t) (up-good t e q) .good .seventh)),
+        none-found (functionCount 4 gs) (newType gs) (λ i l. up-signed t e q i (rw c at l)),
         none-found (length (t .bodies .code)) (newOpcode (t .bodies .code)) (old-opcodes (t .bodies .code) (up-known t e q)),
       )
 

@@ -61,8 +61,8 @@ module _ (m : Module) (c : ℕ → Option Instruction) (b : Body) where
   judge-alike (branch d l) = inr (λ q L O. refl)
   judge-alike (call k) = inr (λ q L O. refl)
   judge-alike ret = inr (λ q L O. rw (same-own m 4 c b))
-  judge-alike null = inr (λ q L O. refl)
-  judge-alike (new k) = inr (λ q L O. refl)
+  judge-alike (null g) = inr (λ q L O. refl)
+  judge-alike (new g k) = inr (λ q L O. refl)
   judge-alike delete = inr (λ q L O. refl)
   judge-alike (flea k) = inr (λ q L O. refl)
 

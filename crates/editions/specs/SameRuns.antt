@@ -52,8 +52,9 @@ module _ (m : Module) (e : ℕ) (c : ℕ → Option Instruction) where
   same-exec cap (branch b l) s = refl
   same-exec cap (call k) s = refl
   same-exec cap ret s = rw (same-own (s .top .body))
-  same-exec cap null s = refl
-  same-exec cap (new t) s = refl
+  same-exec cap (null g) s = refl
+  same-exec cap (new false t) s = refl
+  same-exec cap (new true t) s = refl
   same-exec cap delete s = refl
   same-exec cap (flea n) s = refl
 

@@ -1,4 +1,4 @@
--- The editions that there are; row 7 by edition: editions 3 and 4 differ by their structures, and in edition 1 a parameter byte over
+-- The editions that there are; row 7 by edition: editions 3 and 4 have types of their own, and in edition 1 a parameter byte over
 -- 127 is bad besides.
 use Prim.Native.Nat.{ℕ, zero, suc, _+_, _≤_, _<_}
 use native.Mathlib.Omega.{arith}
@@ -8,12 +8,12 @@ use mathlib.Core.Bool.{Bool, true, false, _||_, or-false}
 use mathlib.Core.List.{List, []}
 use lib.Dec.{ltb, leb, eqb}
 use lib.ListN.{length}
-use borrow.Author.Tests.{ne-eqb, le-ltb, ltb-true, ltb-false, leb-true}
+use borrow.Author.Tests.{ne-eqb, le-ltb, ltb-true, ltb-false, leb-true, eqb-true}
 use Rattle.rules.specs.Bytes.{byte, word, some-below}
-use Rattle.rules.specs.Tables.{bodies, functionCount, functionAt, structureCount, structureLimit, unknownEdition, structureType, oddReturn, oddParam, badParam, badRecord, endBefore, badFunction, badFunctions, differs}
+use Rattle.rules.specs.Tables.{bodies, functionCount, functionAt, structureCount, structureLimit, unknownEdition, structureType, managedType, oddReturn, oddParam, badParam, badRecord, endBefore, badFunction, badFunctions, differs}
 use Rattle.soundness.specs.Tests.{decide}
 use Rattle.soundness.specs.Readable.{known-edition}
-use Rattle.format.specs.Layout.{highParam, highParams, badTable}
+use Rattle.format.specs.Layout.{typesOf, highParam, highParams, badTable}
 use Rattle.format.proofs.Tests.{or-right, differs-true}
 use Rattle.format.proofs.Gathered.{some-same}
 
@@ -23,10 +23,21 @@ third-edition e known one four = ⊎-elim (λ q. absurd (one q)) (λ o. ⊎-elim
 pub limit-small : (e : ℕ) → structureLimit e ≤ 16
 limit-small e = decide (eqb e 4) (λ y. rw y (omega arith)) (λ y. rw y (omega arith))
 
+-- an edition's structures are those of the edition whose types it has
+pub limit-types : (e : ℕ) → structureLimit (typesOf e) ≡ structureLimit e
+limit-types e = decide (eqb e 4) (λ y. rw y refl) (λ y. rw y refl)
+
 -- ---- one byte
 
-pub no-structures : (z t : ℕ) → z ≡ 0 → false ≡ structureType z t
+no-structures : (z t : ℕ) → z ≡ 0 → false ≡ structureType z t
 no-structures z t q = rw q (decide (leb 138 t) (λ y. let l = leb-true _ _ y in sym (rw y (le-ltb t 138 l))) (λ y. rw y refl))
+
+-- what edition 4 adds to the types of pointers, no other edition has
+pub none-added : (e z t : ℕ) → (e ≡ 4 → ⊥) → z ≤ structureLimit e → false ≡ (structureType z t || managedType e z t)
+none-added e z t other few = rw (ne-eqb e 4 other) (no-structures z t (none (rw (ne-eqb e 4 other) at few)) ∙ sym (or-false (structureType z t)))
+  where
+    none : z ≤ 0 → z ≡ 0
+    none l = omega arith
 
 odd-high : (used : Bool) (t : ℕ) → 127 < t → oddParam 1 0 used t ≡ true
 odd-high true t h =
@@ -64,17 +75,19 @@ module _ (s code : List ℕ) (n : ℕ) where
   end-same e zs zero = refl
   end-same e zs (suc i) = ap (λ (p : ℕ). p + word 4 s (functionAt e i + 4)) (end-same e zs i)
 
-  record-later : (e z a from : ℕ) → eqb e 1 ≡ false → badRecord e z s a from ≡ badRecord 3 z s a from
+  record-later : (e z a from : ℕ) → eqb e 1 ≡ false → badRecord e z s a from ≡ badRecord (typesOf e) z s a from
   unfolding badRecord badParam
-  record-later e z a from q = rw (some-same (badParam e z s a) (badParam 3 z s a) (λ j. rw q refl) 8)
+  record-later e z a from q =
+      decide (eqb e 4) (λ y. let p : e ≡ 4 = eqb-true e 4 y in rw p refl)
+      (λ y. rw (y, some-same (badParam e z s a) (badParam 3 z s a) (λ j. rw (q, y) refl) 8) refl)
 
   functions-later : (e : ℕ) (zs : List ℕ) → eqb e 1 ≡ false → badTable e (structureCount zs) s code n ≡ badFunctions (bodies e s zs code n)
   unfolding badTable badFunctions badFunction
   functions-later e zs q =
       rw (
         end-same e zs (functionCount e s),
-        some-same (badFunction (bodies e s zs code n)) (λ i. badRecord 3 (structureCount zs) s (functionAt e i) (endBefore (bodies e s [] code n) i))
-            (λ i. record-later e (structureCount zs) (functionAt e i) (endBefore (bodies e s zs code n) i) q ∙ ap (badRecord 3 (structureCount zs) s (functionAt e i)) (end-same e zs i)) (functionCount e s),
+        some-same (badFunction (bodies e s zs code n)) (λ i. badRecord (typesOf e) (structureCount zs) s (functionAt e i) (endBefore (bodies e s [] code n) i))
+            (λ i. record-later e (structureCount zs) (functionAt e i) (endBefore (bodies e s zs code n) i) q ∙ ap (badRecord (typesOf e) (structureCount zs) s (functionAt e i)) (end-same e zs i)) (functionCount e s),
       )
 
   pub functions-third : (e : ℕ) (zs : List ℕ) (z : ℕ) → (e ≡ 1 → ⊥) → z ≡ structureCount zs → (b : Bool) → b ≡ badTable e z s code n → b ≡ badFunctions (bodies e s zs code n)
@@ -86,7 +99,7 @@ module _ (s code : List ℕ) (n : ℕ) where
 
   record-first : (a from : ℕ) → badRecord 1 0 s a from ≡ (badRecord 3 0 s a from || some-below 8 (highParam s a))
   unfolding badRecord
-  record-first a from = rw (params-first a) (last (differs (word 4 s a) from || eqb (word 4 s (a + 4)) 0 || ltb 8 (byte s (a + 8)) || oddReturn 0 (byte s (a + 9))) (some-below 8 (badParam 3 0 s a)) (some-below 8 (highParam s a)) (differs (byte s (a + 18)) 0) (differs (byte s (a + 19)) 0))
+  record-first a from = rw (params-first a) (last (differs (word 4 s a) from || eqb (word 4 s (a + 4)) 0 || ltb 8 (byte s (a + 8)) || oddReturn 3 0 (byte s (a + 9))) (some-below 8 (badParam 3 0 s a)) (some-below 8 (highParam s a)) (differs (byte s (a + 18)) 0) (differs (byte s (a + 19)) 0))
     where
       last : (a p h x y : Bool) → (((a || (p || h)) || x) || y) ≡ ((((a || p) || x) || y) || h)
       last true p h x y = refl

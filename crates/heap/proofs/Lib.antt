@@ -11,3 +11,6 @@ pub mod Places
 pub mod Granted
 pub mod Lent
 pub mod Aimed
+pub mod Sweeps
+pub mod Packing
+pub mod Collected

@@ -1,5 +1,5 @@
 -- Blocks read off entries and cells: what the rules' `find` and `stored` come to.
-use Prim.Native.Nat.{ℕ, zero, suc, _+_, _*_, _-_, _≤_, _<_}
+use Prim.Native.Nat.{ℕ, zero, suc, _+_, _*_, _-_, _%_, _≤_, _<_}
 use native.Mathlib.Nat.{add-zero}
 use native.Mathlib.Omega.{arith}
 use mathlib.Core.Path.{_≡_, refl, sym, ap, _∙_}
@@ -113,7 +113,7 @@ module _ {w C : ℕ → ℕ} {E : ℕ → Entry} {size n low top : ℕ} (k : Lai
   other-block C′ i j hi hj ne o =
       block-alike w C′ C (E j) (λ x l m. o x (⊎-elim (λ (a : endOf w (E j) ≤ E i .first). inl (omega arith)) (λ (a : endOf w (E i) ≤ E j .first). inr (omega arith)) (parted j i hj hi ne)))
 
-  -- x written to cell o of block i
+  -- x withCell to cell o of block i
   module _ (C′ : ℕ → ℕ) (i o x : ℕ) (hi : i < n) (ho : o < w (E i .listed)) (same : C′ (E i .first + o) ≡ x) (other : (c : ℕ) → (c ≡ E i .first + o → ⊥) → C′ c ≡ C c) where
     outside-same : (c : ℕ) → Outside w (E i) c → C′ c ≡ C c
     outside-same c = ⊎-elim (λ (l : c < E i .first). other c (λ q. omega arith)) (λ (l : endOf w (E i) ≤ c). other c (λ q. omega arith))
@@ -138,6 +138,7 @@ module _ {w C : ℕ → ℕ} {E : ℕ → Entry} {size n low top : ℕ} (k : Lai
     pub stored-laid : Laid w C′ E size n low top
     stored-laid =
         record {
+          listed = k .listed;
           wide = k .wide;
           inside = k .inside;
           apart = k .apart;

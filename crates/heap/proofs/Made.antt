@@ -1,5 +1,5 @@
 -- What stores, removals and new entries make of the heap.
-use Prim.Native.Nat.{ℕ, zero, suc, _+_, _*_, _-_, _≤_, _<_}
+use Prim.Native.Nat.{ℕ, zero, suc, _+_, _*_, _-_, _%_, _≤_, _<_}
 use native.Mathlib.Omega.{arith}
 use mathlib.Core.Path.{_≡_, refl, sym, ap, _∙_}
 use mathlib.Core.Bool.{Bool, true, false, _&&_}
@@ -8,7 +8,7 @@ use mathlib.Core.Option.{none, some}
 use mathlib.Core.Logic.{_⊎_, inl, inr, ⊎-elim}
 use mathlib.Core.List.{List}
 use lib.ListN.{length, drop}
-use borrow.Author.Tests.{eq-eqb, ne-eqb}
+use borrow.Author.Tests.{eq-eqb, ne-eqb, lt-leb, le-leb}
 use Rattle.rules.specs.Bytes.{word}
 use Rattle.rules.specs.Heap.{Heap, Block, having, stored, without, find, isGiven, serialIn, offsetIn, emptyHeap}
 use Rattle.heap.specs.declared.Entry.{Entry}
@@ -111,8 +111,13 @@ module _ (size : ℕ) (k : Shelf) (d p t : List ℕ) (s : Sane size k d p t) whe
     pub given-none : ((i : ℕ) → i < k .count → entryAt t i .serial ≡ serialIn a → ⊥) → isGiven h a ≡ false
     given-none none-is = rw (find-none (widthIn d) (cellIn p) (entryAt t) (serialIn a) (k .count) none-is) (and-false (eqb (offsetIn a) 0))
 
-    pub given-is : (i : ℕ) → offsetIn a ≡ 0 → i < k .count → entryAt t i .serial ≡ serialIn a → isGiven h a ≡ true
-    given-is i z hi q = rw (eq-eqb (offsetIn a) 0 z, find-some (widthIn d) (cellIn p) (entryAt t) (serialIn a) (k .count) (s .rising) i hi q) refl
+    pub given-managed : (i : ℕ) (e : Entry) → i < k .count → entryAt t i .serial ≡ serialIn a → e ≡ entryAt t i → 64 ≤ e .listed → isGiven h a ≡ false
+    given-managed i e hi q is l =
+        rw (find-some (widthIn d) (cellIn p) (entryAt t) (serialIn a) (k .count) (s .rising) i hi q, le-leb 64 (entryAt t i .listed) (omega (arith, ap (λ (x : Entry). x .listed) is))) (and-false (eqb (offsetIn a) 0))
+
+    pub given-is : (i : ℕ) (e : Entry) → offsetIn a ≡ 0 → i < k .count → entryAt t i .serial ≡ serialIn a → e ≡ entryAt t i → e .listed < 64 → isGiven h a ≡ true
+    given-is i e z hi q is l =
+        rw (eq-eqb (offsetIn a) 0 z, find-some (widthIn d) (cellIn p) (entryAt t) (serialIn a) (k .count) (s .rising) i hi q, lt-leb 64 (entryAt t i .listed) (omega (arith, ap (λ (x : Entry). x .listed) is))) refl
 
   pub end-inside : (i : ℕ) (e : Entry) (n : ℕ) → i < k .count → e ≡ entryAt t i → n ≡ widthIn d (e .listed) → e .first + n ≤ size
   end-inside i e n hi ee en = rw (en, ee) (omega (arith, s .laid .inside i hi, s .laid .top-size))
@@ -145,6 +150,7 @@ starting size d p t p′ t′ hs hp ht cp ct =
         to-limit = omega arith;
         rising = record { rise = λ i j l m. absurd (omega arith); from-1 = λ i l. absurd (omega arith); given = λ i l. absurd (omega arith) };
         laid = record {
+          listed = λ i l. absurd (omega arith);
           wide = λ i l. absurd (omega arith);
           inside = λ i l. absurd (omega arith);
           apart = λ i j l m. absurd (omega arith);

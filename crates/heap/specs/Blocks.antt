@@ -1,7 +1,7 @@
 -- How the code keeps a heap of the rules: a shelf of four registers, the table's entries by number, the cells by number.
-use Prim.Native.Nat.{ℕ, zero, suc, _+_, _*_, _-_, _≤_, _<_}
+use Prim.Native.Nat.{ℕ, zero, suc, _+_, _*_, _-_, _%_, _≤_, _<_}
 use mathlib.Core.Path.{_≡_}
-use mathlib.Core.Bool.{cond}
+use mathlib.Core.Bool.{Bool, cond}
 use mathlib.Core.Option.{Option, none, some}
 use mathlib.Core.Logic.{_⊎_}
 use mathlib.Core.List.{List, [], _∷_}
@@ -32,10 +32,18 @@ unfoldable pub fieldsIn : List ℕ → ℕ → ℕ
 fieldsIn d n = cond (ltb n 10) 0 (cond (leb 26 n) 0 (byte d (structureAt (n - 10))))
 
 -- the cells of a type: 1 for a number; a structure's fields; 0 for a type that there is not
-unfoldable pub widthIn : List ℕ → ℕ → ℕ
-widthIn d n = maybe (numOf n) (fieldsIn d n) (λ τ. 1)
+unfoldable pub sizeIn : List ℕ → ℕ → ℕ
+sizeIn d n = maybe (numOf n) (fieldsIn d n) (λ τ. 1)
 
--- ---- blocks. Below, w gives the cells of a type, C the cells, E the entries, all by number.
+-- a type number as it is listed: "with 64 added" where the block is managed
+abbrev pub listedAs : Bool → ℕ → ℕ
+listedAs g n = cond g (64 + n) n
+
+-- the cells of a type as it is listed
+unfoldable pub widthIn : List ℕ → ℕ → ℕ
+widthIn d l = sizeIn d (l % 64)
+
+-- ---- blocks. Below, w gives the cells of a listed type, C the cells, E the entries, all by number.
 
 -- n cells from c on
 unfoldable pub cellsOf : (ℕ → ℕ) → ℕ → ℕ → List ℕ
@@ -44,7 +52,7 @@ cellsOf C c (suc n) = C c ∷ cellsOf C (suc c) n
 
 abbrev pub blockOf : (ℕ → ℕ) → (ℕ → ℕ) → Entry → Block
 blockOf w C e =
-    record { serial = e .serial; from = e .first; type = e .listed; cells = cellsOf C (e .first) (w (e .listed)) }
+    record { serial = e .serial; from = e .first; type = e .listed % 64; managed = leb 64 (e .listed); cells = cellsOf C (e .first) (w (e .listed)) }
 
 -- the first n, the last one first
 unfoldable pub blocksOf : (ℕ → ℕ) → (ℕ → ℕ) → (ℕ → Entry) → ℕ → List Block
@@ -77,8 +85,9 @@ pub record Rising (E : ℕ → Entry) (n next : ℕ) : Type 0 where
   pub from-1 : (i : ℕ) → i < n → 1 ≤ E i .serial
   pub given : (i : ℕ) → i < n → E i .serial < next
 
--- blocks are not empty, lie below top, apart from each other; every cell below low is of one, every free cell is zero
+-- listed types are below 128; blocks are not empty, lie below top, apart from each other; every cell below low is of one, every free cell is zero
 pub record Laid (w C : ℕ → ℕ) (E : ℕ → Entry) (size n low top : ℕ) : Type 0 where
+  pub listed : (i : ℕ) → i < n → E i .listed < 128
   pub wide : (i : ℕ) → i < n → 1 ≤ w (E i .listed)
   pub inside : (i : ℕ) → i < n → endOf w (E i) ≤ top
   pub apart : (i j : ℕ) → i < j → j < n → (endOf w (E i) ≤ E j .first) ⊎ (endOf w (E j) ≤ E i .first)

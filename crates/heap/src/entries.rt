@@ -2,7 +2,7 @@
 ghost use mathlib.Core.Path.{_≡_};
 ghost use Prim.Native.Nat.{_+_, _*_, _-_, _<_, _≤_};
 ghost use lib.ListN.{length};
-ghost use Rattle.heap.specs.Blocks.{entryAt, widthIn, Rising, Finds};
+ghost use Rattle.heap.specs.Blocks.{entryAt, sizeIn, widthIn, Rising, Finds};
 ghost use Rattle.heap.specs.Changes.{EntryPut, Closed};
 use crate::Entry;
 use crate::Found;
@@ -30,9 +30,16 @@ pub fn put_entry(t: &mut [u8], i: usize, e: Entry)
     memory::store64(t, i * 24 + 16, e.listed);
 }
 
-// The cells of a block of type n, 0 where there is no such type; d holds the module's structure records.
-pub fn width(d: &[u8], n: u64) -> usize
-    ensures { λ r. ⌜ (r ≡ widthIn (now (d .entry)) n) × (r < 256) ⌝ }
+// The cells of a block of a listed type, 0 where there is no such type; d holds the module's structure records.
+pub fn width(d: &[u8], listed: u64) -> usize
+    ensures { λ r. ⌜ (r ≡ widthIn (now (d .entry)) listed) × (r < 256) ⌝ }
+{
+    size_of(d, listed % 64)
+}
+
+// The same of a type number.
+pub fn size_of(d: &[u8], n: u64) -> usize
+    ensures { λ r. ⌜ (r ≡ sizeIn (now (d .entry)) n) × (r < 256) ⌝ }
 {
     if n == 3 {
         return 1;

@@ -19,7 +19,7 @@ pub fn target(d: &[u8], t: &[u8], size: usize, k: Shelf, a: u64) -> Target
         return Target::Lost;
     };
     let e = entries::entry_at(t, i);
-    let n = e.listed as usize;
+    let n = (e.listed % 64) as usize;
     let o = (a % 65536) as usize;
     let first = e.first as usize;
     if n < 10 {

@@ -30,7 +30,7 @@ none-of : (b : ℕ) (ks : List ℕ) → (OneOf ks b → ⊥) → among b ks ≡ 
 none-of b [] h = refl
 none-of b (k ∷ ks) h = no-key b k ks h
 
-outside : (b : ℕ) (kss : List (List ℕ)) → Outside b kss → amongAny b kss ≡ false
+pub outside : (b : ℕ) (kss : List (List ℕ)) → Outside b kss → amongAny b kss ≡ false
 outside b [] h = refl
 outside b (ks ∷ kss) h = simp (outside b kss (h .0), none-of b ks (h .1))
 

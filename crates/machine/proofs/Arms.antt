@@ -8,7 +8,7 @@ use mathlib.Core.List.{List, _++_}
 use types.Run.{OneOf}
 use lib.ListN.{length}
 use Rattle.rules.specs.declared.Instruction.{Instruction}
-use Rattle.rules.specs.declared.Instruction.the-variants.{Null, Delete, Flea}
+use Rattle.rules.specs.declared.Instruction.the-variants.{Null, New, Delete, Flea}
 use Rattle.rules.specs.Bytes.{word, maybe}
 use Rattle.rules.specs.Instructions.{opcodeOf, instructionOf, size}
 use Rattle.rules.specs.Tables.{Module}
@@ -24,7 +24,7 @@ use Rattle.state.specs.declared.Registers.{Registers}
 use Rattle.state.specs.declared.Progress.{Progress}
 use Rattle.state.specs.declared.Progress.the-variants.{Stops}
 use Rattle.machine.specs.Ends.{left}
-use Rattle.machine.specs.Matches.{wides, numerics, ofHeap, singles, Leaves, DoesOrLeaves, Performs, Stands, Steps}
+use Rattle.machine.specs.Matches.{wides, numerics, ofHeap, ofHeapOdd, singles, Leaves, DoesOrLeaves, Performs, Stands, Steps}
 
 -- the instruction of key k is j, whatever word is behind it
 abbrev pub Alone : ℕ → Instruction → Type 0
@@ -68,8 +68,13 @@ module _ (b cap n : ℕ) (says-so : left n ≡ true) (r : Registers) (p t : List
 
   pub leaves-one : OneOf ofHeap b → Performs b cap r (Stops n) p t p t
   leaves-one (inl e) = leaves 6 (λ w. Flea w) (λ w. refl) (λ w. refl) e
-  leaves-one (inr (inl e)) = leaves 48 (λ w. Null) (λ w. refl) (λ w. refl) e
-  leaves-one (inr (inr e)) = leaves 50 (λ w. Delete) (λ w. refl) (λ w. refl) e
+  leaves-one (inr (inl e)) = leaves 48 (λ w. Null false) (λ w. refl) (λ w. refl) e
+  leaves-one (inr (inr (inl e))) = leaves 50 (λ w. Delete) (λ w. refl) (λ w. refl) e
+  leaves-one (inr (inr (inr e))) = leaves 52 (λ w. New true w) (λ w. refl) (λ w. refl) e
+
+  pub leaves-odd : OneOf ofHeapOdd b → Performs b cap r (Stops n) p t p t
+  leaves-odd (inl e) = leaves 49 (λ w. New false w) (λ w. refl) (λ w. refl) e
+  leaves-odd (inr e) = leaves 51 (λ w. Null true) (λ w. refl) (λ w. refl) e
 
 module _ (code : List ℕ) (q b : ℕ) (s : Stands code q b) where
   pub stands-known : Known b

@@ -8,7 +8,7 @@ use mathlib.Core.List.{List, [], _∷_, _++_}
 use lib.ListN.{length}
 use lib.Dec.{leb, ltb, eqb}
 use Rattle.rules.specs.Bytes.{maybe}
-use Rattle.rules.specs.Instructions.{Ty, kindOf, size}
+use Rattle.rules.specs.Instructions.{Ty, kindOf, size, isPointer}
 use Rattle.rules.specs.Tables.{Function, Module}
 use Rattle.rules.specs.Stack.{pointerTo, at}
 use Rattle.rules.specs.Operations.{Class, any, number as numbers, whole, refuse, Result, yields, raises, class1, class2, eval1, eval2, apply1, apply2, zeroDivide, unordered, unfit}
@@ -48,9 +48,9 @@ OtherRefusal (some e) = left e ≡ false
 
 refuses : (c : Class) (a b : ℕ) → OtherRefusal (refuse c a b)
 refuses any a b = decide (eqb a b) (λ y. rw y tt) (λ y. rw y refl)
-refuses numbers a b = decide (eqb a 7 || eqb b 7) (λ x. rw x refl) (λ x. rw x (decide (eqb a b) (λ y. rw y tt) (λ y. rw y refl)))
+refuses numbers a b = decide (isPointer a || isPointer b) (λ x. rw x refl) (λ x. rw x (decide (eqb a b) (λ y. rw y tt) (λ y. rw y refl)))
 refuses whole a b =
-    decide (eqb a 7 || eqb b 7) (λ x. rw x refl)
+    decide (isPointer a || isPointer b) (λ x. rw x refl)
     (λ x. rw x (decide (eqb a b) (λ y. rw y (decide (eqb a 6) (λ z. rw z refl) (λ z. rw z tt))) (λ y. rw y refl)))
 
 applies : (o : Option ℕ) → OtherRefusal o → (x : Result) → OtherResult x → OtherResult (maybe o x (λ e. raises e))
@@ -119,8 +119,8 @@ module _ (m : Module) (cap : ℕ) (M : Memory) (f : Frame) (cs : List Frame) whe
       (λ q. other-take1 (f .floor) st _ (λ v r. other-cond (eqb (v .kind) 3) _ (stops 22) tt refl))
   other-exec (call k) h st = other-maybe (m .function k) (stops 28) _ refl (λ F. other-calling k F st)
   other-exec ret h st = other-maybe (own m (f .body)) (stops 30) _ refl (λ F. other-returning (F .result) st)
-  other-exec null h st = false-true h
-  other-exec (new n) h st = false-true h
+  other-exec (null g) h st = false-true h
+  other-exec (new g n) h st = false-true h
   other-exec delete h st = false-true h
   other-exec (flea n) h st = false-true h
 

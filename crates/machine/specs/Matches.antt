@@ -31,16 +31,19 @@ numerics = each (21 ∷ 20 ∷ 18 ∷ 17 ∷ 16 ∷ 15 ∷ 14 ∷ 13 ∷ 12 ∷ 
 
 -- of `single`; the first two arms here are no instruction's keys, the next two those of the instructions that only who has the heap does
 abbrev pub even : List ℕ
-even = 0 ∷ 52 ∷ 54 ∷ 56 ∷ 58 ∷ 60 ∷ 62 ∷ []
+even = 0 ∷ 54 ∷ 56 ∷ 58 ∷ 60 ∷ 62 ∷ []
 
 abbrev pub odd : List ℕ
-odd = 51 ∷ 53 ∷ 55 ∷ 57 ∷ 59 ∷ 61 ∷ 63 ∷ []
+odd = 53 ∷ 55 ∷ 57 ∷ 59 ∷ 61 ∷ 63 ∷ []
 
 abbrev pub ofHeap : List ℕ
-ofHeap = 6 ∷ 48 ∷ 50 ∷ []
+ofHeap = 6 ∷ 48 ∷ 50 ∷ 52 ∷ []
+
+abbrev pub ofHeapOdd : List ℕ
+ofHeapOdd = 49 ∷ 51 ∷ []
 
 abbrev pub singles : List (List ℕ)
-singles = odd ∷ even ∷ (49 ∷ []) ∷ ofHeap ∷ each (47 ∷ 45 ∷ 42 ∷ 41 ∷ 46 ∷ 44 ∷ 43 ∷ 31 ∷ 30 ∷ 29 ∷ 28 ∷ 27 ∷ 26 ∷ 25 ∷ 24 ∷ 23 ∷ 22 ∷ 19 ∷ 2 ∷ [])
+singles = odd ∷ even ∷ ofHeapOdd ∷ ofHeap ∷ each (47 ∷ 45 ∷ 42 ∷ 41 ∷ 46 ∷ 44 ∷ 43 ∷ 31 ∷ 30 ∷ 29 ∷ 28 ∷ 27 ∷ 26 ∷ 25 ∷ 24 ∷ 23 ∷ 22 ∷ 19 ∷ 2 ∷ [])
 
 -- ---- promises
 

@@ -17,7 +17,7 @@ use state::Registers;
 // exit's, so that the table needs no test of ranges.
 const LEFT: u32 = 36;
 
-const LEFT_NEW: u32 = 37;
+const LEFT_ODD: u32 = 37;
 
 // No run ends with these: a key that is no instruction's is never met.
 const NEVER: u32 = 0;
@@ -26,7 +26,7 @@ const NEVER_EVEN: u32 = 1;
 
 const NEVER_ODD: u32 = 2;
 
-// On the top operand, on bits, comparisons, conversions; `flea`, `null`, `new`, `delete` are left.
+// On the top operand, on bits, comparisons, conversions; `flea`, `null`, `new`, `delete`, `gcnull`, `gcnew` are left.
 fn single(r: Registers, b: u8, p: &mut [u8], t: &mut [u8]) -> Progress
     requires { ⌜ Known b × Outside b wides × Outside b numerics ⌝ }
     requires { ⌜ Computable r (now p) (now t) ⌝ }
@@ -52,10 +52,10 @@ fn single(r: Registers, b: u8, p: &mut [u8], t: &mut [u8]) -> Progress
         0x2a => operands::single::dec(r, p, t),
         0x2d => operands::single::tol(false, r, p, t),
         0x2f => operands::single::toi(false, r, p, t),
-        0x06 | 0x30 | 0x32 => Progress::Stops(LEFT),
-        0x31 => Progress::Stops(LEFT_NEW),
-        0x00 | 0x34 | 0x36 | 0x38 | 0x3a | 0x3c | 0x3e => Progress::Stops(NEVER_EVEN),
-        0x33 | 0x35 | 0x37 | 0x39 | 0x3b | 0x3d | 0x3f => Progress::Stops(NEVER_ODD),
+        0x06 | 0x30 | 0x32 | 0x34 => Progress::Stops(LEFT),
+        0x31 | 0x33 => Progress::Stops(LEFT_ODD),
+        0x00 | 0x36 | 0x38 | 0x3a | 0x3c | 0x3e => Progress::Stops(NEVER_EVEN),
+        0x35 | 0x37 | 0x39 | 0x3b | 0x3d | 0x3f => Progress::Stops(NEVER_ODD),
         _ => Progress::Stops(NEVER),
     }
 }

@@ -1,11 +1,13 @@
 -- What `tload` and `tstore` do, a law for each way out.
 use Prim.Native.Nat.{ℕ, suc, _+_, _-_, _^_, _≤_, _<_}
 use native.Mathlib.Omega.{arith}
+use mathlib.Core.Bool.{true, false}
 use mathlib.Core.Path.{_≡_, refl, ap, _∙_}
 use mathlib.Core.List.{List, [], _∷_}
 use borrow.Author.Tests.{le-leb, eq-eqb, ne-eqb}
 use Rattle.rules.specs.declared.Slot.{Slot}
 use Rattle.rules.specs.declared.Instruction.the-variants.{Tload, Tstore}
+use Rattle.rules.specs.Instructions.{isPointer}
 use Rattle.rules.specs.Tables.{Module}
 use Rattle.rules.specs.Stack.{slotAt, slotsOf, put}
 use Rattle.rules.specs.Heap.{Heap, emptyHeap, Spot, onStack}
@@ -40,10 +42,10 @@ module _ (cap : ℕ) (r : Registers) (p t f : List ℕ) (k : Ready cap r p t f) 
     unfolding execIn
     tload-takes g = take1-has p t (r .floor) (r .height) _ has ∙ rw (← top) refl
 
-    pub tload-31 : (w .kind ≡ 7 → ⊥) → DoesOver cap r (Stops 31) p t f p t f (execIn m cap Tload)
+    pub tload-31 : isPointer (w .kind) ≡ false → DoesOver cap r (Stops 31) p t f p t f (execIn m cap Tload)
     tload-31 = named-31 cap r p t f k m Tload w (r .height - 1) loads tload-takes
 
-    pub tload-is : (v : Slot) (p′ t′ : List ℕ) → w .kind ≡ 7 → w .payload < r .height - 1 → v ≡ slotAt p t (w .payload)
+    pub tload-is : (v : Slot) (p′ t′ : List ℕ) → isPointer (w .kind) ≡ true → w .payload < r .height - 1 → v ≡ slotAt p t (w .payload)
         → p′ ≡ payloadsWith p (r .height - 1) v → t′ ≡ typesWith t (r .height - 1) v → v .payload < 2 ^ 64
         → DoesOver cap r (Goes (movedTo r (r .place + 1) (r .height))) p t f p′ t′ f (execIn m cap Tload)
     tload-is v p′ t′ is below held ep et fits =
@@ -70,10 +72,10 @@ module _ (cap : ℕ) (r : Registers) (p t f : List ℕ) (k : Ready cap r p t f) 
     unfolding execIn
     tstore-takes g = take2-has p t (r .floor) (r .height) _ has ∙ rw (← deep) refl
 
-    pub tstore-31 : (w .kind ≡ 7 → ⊥) → DoesOver cap r (Stops 31) p t f p t f (execIn m cap Tstore)
+    pub tstore-31 : isPointer (w .kind) ≡ false → DoesOver cap r (Stops 31) p t f p t f (execIn m cap Tstore)
     tstore-31 = named-31 cap r p t f k m Tstore w (r .height - 2) stores tstore-takes
 
-    module _ (is : w .kind ≡ 7) (below : w .payload < r .height - 2) (v old : Slot) (top : v ≡ slotAt p t (r .height - 1)) (held : old ≡ slotAt p t (w .payload)) where
+    module _ (is : isPointer (w .kind) ≡ true) (below : w .payload < r .height - 2) (v old : Slot) (top : v ≡ slotAt p t (r .height - 1)) (held : old ≡ slotAt p t (w .payload)) where
       names : (g : Heap) → execIn m cap Tstore (withHeap g (stateOf r p t f)) ≡ stores (over g) (onStack (w .payload)) (slotAt p t (w .payload))
       names = named cap r p t f k m Tstore w (r .height - 2) stores tstore-takes is below (omega arith)
 

@@ -6,11 +6,9 @@ use mathlib.Core.Bool.{Bool, true, false, cond, _||_}
 use mathlib.Core.Option.{Option, none, some}
 use mathlib.Core.List.{List, [], _∷_}
 use lib.Dec.{eqb}
-use denote.Enum.Declared.{tagOf}
-use types.Run.{OneOf}
 use borrow.Author.Tests.{le-leb, ne-eqb}
 use Rattle.rules.specs.Bytes.{maybe}
-use Rattle.rules.specs.Instructions.{numKind}
+use Rattle.rules.specs.Instructions.{numKind, isPointer}
 use Rattle.rules.specs.Tables.{Module}
 use Rattle.rules.specs.Machine.{State, Next, goto, resulting, execIn}
 use Rattle.rules.specs.Operations.{Result, yields, raises, refuse, number, whole, wholeOnly, class1, class2, classOf, zeroDivide, converted, unfit, apply1, apply2}
@@ -24,13 +22,9 @@ use Rattle.rules.specs.declared.Operator.{Operator}
 use Rattle.rules.specs.declared.Slot.{Slot}
 use Rattle.rules.specs.declared.Unary.{Unary}
 use Rattle.rules.specs.declared.Unary.the-variants.{Neg, Not, Convert, Count}
-use Rattle.soundness.specs.Started.{all-at}
-use Rattle.soundness.specs.Kinds.{Kind, OfKind, Kinded}
+use Rattle.soundness.specs.Kinds.{Kind, Kinded}
 use Rattle.values.specs.Values.{valueOf, kindOfValue, slotOf, resultOf, Computes, Turns, Converts}
 use Rattle.values.specs.declared.Value.{Value}
-use Rattle.values.specs.declared.Value.the-variants.{Pointer}
-use Rattle.values.proofs.Value.{the-type}
-use Rattle.values.proofs.Cases.{pointer-kind, other-kind, but-pointer}
 use Rattle.values.specs.declared.Computed.{Computed}
 use Rattle.values.specs.declared.Computed.the-variants.{Yields, Raises}
 use Rattle.state.specs.Slots.{payloadsWith, typesWith}
@@ -38,9 +32,9 @@ use Rattle.state.specs.State.{stateOf, movedTo, Ready, Does}
 use Rattle.state.specs.declared.Registers.{Registers}
 use Rattle.state.specs.declared.Progress.{Progress}
 use Rattle.state.specs.declared.Progress.the-variants.{Goes, Stops}
-use Rattle.state.proofs.Stack.{length-slots, slots-top, at-slots, under-slots, take1-has, take2-has}
+use Rattle.state.proofs.Stack.{length-slots, slots-top, under-slots, take1-has, take2-has}
 use Rattle.state.proofs.Outcomes.{stopping, dropping, topping}
-use Rattle.state.proofs.Families.{types-same}
+use Rattle.state.proofs.Families.{kind-at, types-same}
 use Rattle.operands.specs.Operands.{Computable, Executes, Puts, Types, Both, Paired}
 use Rattle.operands.specs.declared.operators.Operands.{Operands}
 use Rattle.operands.specs.declared.operators.Operands.the-variants.{Alike, Refused}
@@ -58,15 +52,12 @@ computable k l kinds =
       kinds = kinds;
     }
 
-pub kind-at : (p t : List ℕ) (h i : ℕ) → Kinded (slotsOf p t h) → i < h → Kind (slotAt p t i .kind)
-kind-at p t h i d l = all-at OfKind (slotsOf p t h) d i (slotAt p t i) (at-slots p t h i l)
-
 -- ---- two types
 
-pub unlike-is : (o : Operator) (a b n : ℕ) → (a ≡ b → ⊥) → cond (eqb a 7 || eqb b 7) (some 32) (some 22) ≡ some n → refuse (classOf o) a b ≡ some n
+pub unlike-is : (o : Operator) (a b n : ℕ) → (a ≡ b → ⊥) → cond (isPointer a || isPointer b) (some 32) (some 22) ≡ some n → refuse (classOf o) a b ≡ some n
 unlike-is o a b n ne e = go (wholeOnly o) ∙ e
   where
-    go : (w : Bool) → refuse (cond w whole number) a b ≡ cond (eqb a 7 || eqb b 7) (some 32) (some 22)
+    go : (w : Bool) → refuse (cond w whole number) a b ≡ cond (isPointer a || isPointer b) (some 32) (some 22)
     go true = rw (ne-eqb a b ne) refl
     go false = rw (ne-eqb a b ne) refl
 
@@ -162,15 +153,7 @@ module _ {r : Registers} {p t : List ℕ} (c : Computable r p t) where
 
   module _ (has : r .floor + 1 ≤ r .height) where
     pub top-kind : Kind (slotAt p t (r .height - 1) .kind)
-    top-kind = kind-at p t (r .height) (r .height - 1) (c .kinds) (omega arith)
-
-    -- the value of the top: a pointer's, or another's
-    pub top-pointer : {v : Value} {n : ℕ} → v ≡ valueOf (slotAt p t (r .height - 1)) → v ≡ Pointer n
-        → (slotAt p t (r .height - 1) .kind ≡ 7) × (n ≡ slotAt p t (r .height - 1) .payload)
-    top-pointer e f = pointer-kind (slotAt p t (r .height - 1)) top-kind e f
-
-    pub top-other : (v : Value) → v ≡ valueOf (slotAt p t (r .height - 1)) → OneOf but-pointer (tagOf the-type v) → slotAt p t (r .height - 1) .kind ≡ 7 → ⊥
-    top-other v e d = other-kind 7 but-pointer tt (slotAt p t (r .height - 1)) v top-kind e d
+    top-kind = kind-at p t (r .height) (r .height - 1) (c .kinds) (omega arith) refl
 
     pub one-put : (o : Unary) (x : Computed) {q : Progress} {p′ t′ : List ℕ} → resultOf x ≡ apply1 o (slotAt p t (r .height - 1))
         → Puts r (r .height - 1) (r .height - 1 + 1) x q p p′ → Types (r .height - 1) x t t′ → Executes (One o) r q p t p′ t′
@@ -204,7 +187,7 @@ module _ {r : Registers} {p t : List ℕ} (c : Computable r p t) where
 
   module _ (has : r .floor + 2 ≤ r .height) where
     pub deep-kind : Kind (slotAt p t (r .height - 2) .kind)
-    deep-kind = kind-at p t (r .height) (r .height - 2) (c .kinds) (omega arith)
+    deep-kind = kind-at p t (r .height) (r .height - 2) (c .kinds) (omega arith) refl
 
     pub two-put : (o : Binary) (x : Computed) {q : Progress} {p′ t′ : List ℕ}
         → resultOf x ≡ apply2 o (slotAt p t (r .height - 2)) (slotAt p t (r .height - 1))

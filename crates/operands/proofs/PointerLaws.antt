@@ -2,7 +2,8 @@
 use Prim.Native.Nat.{ℕ, _+_, _-_, _≤_, _<_}
 use native.Mathlib.Omega.{arith}
 use mathlib.Core.Path.{_≡_, refl, sym, ap, _∙_, subst}
-use mathlib.Core.Bool.{Bool}
+use mathlib.Core.Bool.{Bool, true, false}
+use Rattle.rules.specs.Instructions.{isPointer}
 use mathlib.Core.Logic.{inl, inr}
 use mathlib.Core.List.{List, [], _∷_}
 use lib.Dec.{eqb}
@@ -26,11 +27,11 @@ use Rattle.state.specs.declared.Progress.{Progress}
 use Rattle.state.specs.declared.Progress.the-variants.{Stops}
 use Rattle.state.proofs.Stack.{take1-has, take1-short}
 use Rattle.state.proofs.Outcomes.{stopping, stopping-over, deferring, over-every, putting}
-use Rattle.state.proofs.Families.{memoryOver, named-31, named, types-same}
+use Rattle.state.proofs.Families.{kind-at, memoryOver, named-31, named, types-same}
 use Rattle.operands.specs.Operands.{Computable, ExecutesOrDefers, Puts, Points, Finds}
 use Rattle.operands.specs.declared.pointers.Pointee.{Pointee}
 use Rattle.operands.specs.declared.pointers.Pointee.the-variants.{At, Nowhere}
-use Rattle.operands.proofs.OperandLaws.{kind-at, Typed, counts, one-typed}
+use Rattle.operands.proofs.OperandLaws.{Typed, counts, one-typed}
 
 -- x put to slot i of what is left
 abbrev backOf : Memory → ℕ → List Slot → Frame → List Frame → Result → Next
@@ -47,7 +48,7 @@ back-onto g M i st f cs (raises e) = refl
 -- the same number that edition 1 puts on top
 counted-back : (M : Memory) (u : Bool) (i : ℕ) (v : Slot) (st : List Slot) (f : Frame) (cs : List Frame)
     → bumping M u (onStack i) v st f cs ≡ backOf M i st f cs (apply1 (Count u) v)
-counted-back M u i v st f cs = decide (eqb (v .kind) 7) (λ y. rw y refl) (λ y. rw (y, eqb-same (v .kind)) refl)
+counted-back M u i v st f cs = decide (isPointer (v .kind)) (λ y. rw y refl) (λ y. rw (y, eqb-same (v .kind)) refl)
 
 module _ (cap : ℕ) (r : Registers) (p t f : List ℕ) (k : Ready cap r p t f) (m : Module) (u : Bool) where
   -- what is left, and the frame after it
@@ -79,7 +80,7 @@ module _ {r : Registers} {p t : List ℕ} (u : Bool) where
   unfolding execIn
   bump-21 h m cap f k = inl (stopping-over cap r p t f k 21 (execIn m cap (Bump u)) (λ g. take1-short p t (r .floor) (r .height) _ h))
 
-  pub bump-31 : r .floor + 1 ≤ r .height → (slotAt p t (r .height - 1) .kind ≡ 7 → ⊥) → ExecutesOrDefers (Bump u) r (Stops 31) p t p t
+  pub bump-31 : r .floor + 1 ≤ r .height → isPointer (slotAt p t (r .height - 1) .kind) ≡ false → ExecutesOrDefers (Bump u) r (Stops 31) p t p t
   bump-31 has ne m cap f k =
       inl (named-31 cap r p t f k m (Bump u) (slotAt p t (r .height - 1)) (r .height - 1) (bumps cap r p t f k m u) (bump-takes cap r p t f k m u has) ne)
 
@@ -90,7 +91,7 @@ module _ {r : Registers} {p t : List ℕ} (u : Bool) where
       → ExecutesOrDefers (Bump u) r q p t p′ t
   bump-put c {i} x {q} {p′} at e put m cap f k =
       let v = slotAt p t i in
-      let is : resultOf x ≡ apply1 (Count u) v = e v (kind-at p t (r .height) i (c .kinds) (let b = at .below in omega arith)) (at .held) in
+      let is : resultOf x ≡ apply1 (Count u) v = e v (kind-at p t (r .height) i (c .kinds) (let b = at .below in omega arith) refl) (at .held) in
       let w = slotAt p t (r .height - 1) in
       let below : w .payload < r .height - 1 = subst (λ (n : ℕ). n < r .height - 1) (at .slot) (at .below) in
       let M : Memory = stateOf r p t f .memory in

@@ -1,6 +1,7 @@
 -- What instructions that compute ask, and what their parts do.
 use mathlib.Core.Path.{_≡_}
-use mathlib.Core.Bool.{Bool}
+use mathlib.Core.Bool.{Bool, true}
+use Rattle.rules.specs.Instructions.{isPointer}
 use mathlib.Core.List.{List}
 use Prim.Native.Nat.{ℕ, _+_, _-_, _*_, _^_, _≤_, _<_}
 use lib.ListN.{length}
@@ -67,7 +68,7 @@ Paired r p t (Refused e) = (o : Operator) → Executes (Two (Arith o)) r (Stops 
 -- the pointer on top names slot i, which holds a
 pub record Points (r : Registers) (p t : List ℕ) (i : ℕ) (a : Value) : Type 0 where
   pub has : r .floor + 1 ≤ r .height
-  pub pointer : slotAt p t (r .height - 1) .kind ≡ 7
+  pub pointer : isPointer (slotAt p t (r .height - 1) .kind) ≡ true
   pub slot : i ≡ slotAt p t (r .height - 1) .payload
   pub below : i < r .height - 1
   pub held : a ≡ valueOf (slotAt p t i)

@@ -25,10 +25,10 @@ enum Operands {
 fn unlike(a: u8, b: u8) -> u32
     ensures { λ r. ⌜ ((o : Operator) → (a ≡ b → ⊥) → refuse (classOf o) a b ≡ some r) ⌝ }
 {
-    if a == 7 {
+    if (a == 7) | (a == 8) {
         return POINTER_INVALIDFORPOINTER;
     }
-    if b == 7 {
+    if (b == 7) | (b == 8) {
         return POINTER_INVALIDFORPOINTER;
     }
     STACK_DIFFERENTTYPE

@@ -26,13 +26,14 @@ fn find(r: Registers, p: &[u8], t: &[u8]) -> Pointee
     if h < r.floor + 1 {
         return Pointee::Nowhere(STACK_EMPTY);
     }
-    let Value::Pointer(s) = values::value_of(state::slot_at(p, t, h - 1)) else {
+    let w = state::slot_at(p, t, h - 1);
+    if w.kind < 7 {
         return Pointee::Nowhere(POINTER_NOTPOINTER);
-    };
-    if (h - 1) as u64 <= s {
+    }
+    if (h - 1) as u64 <= w.payload {
         return Pointee::Nowhere(POINTER_UNKNOWNADDRESS);
     }
-    let i = s as usize;
+    let i = w.payload as usize;
     let a = values::value_of(state::slot_at(p, t, i));
     Pointee::At(i, a)
 }

@@ -32,8 +32,8 @@ sizeByBits e b =
     cond (ltb 63 b) 0
     (cond (eqb (bitsOf isWide (earlier e) / 2 ^ b % 2) 1) 5
     (cond (eqb (bitsOf isBare (earlier e) / 2 ^ b % 2) 1) 1
-    (cond (eqb e 4 && (eqb b 6 || eqb b 49)) 5
-    (cond (eqb e 4 && (eqb b 48 || eqb b 50)) 1 0))))
+    (cond (eqb e 4 && (eqb b 6 || eqb b 49 || eqb b 52)) 5
+    (cond (eqb e 4 && (eqb b 48 || eqb b 50 || eqb b 51)) 1 0))))
 
 abbrev sizedIn : ℕ → ℕ → Bool
 sizedIn e b = eqb (sizeByBits e b) (sizeIn (opcodeOf (opcodes e) b))
@@ -67,7 +67,7 @@ abbrev thirdBare : ℕ → Bool
 thirdBare b = eqb b 2 || (leb 7 b && leb b 31) || eqb b 40 || eqb b 43 || eqb b 44 || eqb b 46
 
 abbrev fourthBare : ℕ → Bool
-fourthBare b = thirdBare b || eqb b 48 || eqb b 50
+fourthBare b = thirdBare b || eqb b 48 || eqb b 50 || eqb b 51
 
 like : (x y : Bool) → not (xor x y) ≡ true → x ≡ y
 unfolding xor

@@ -7,8 +7,8 @@ ghost use Rattle.rules.specs.Instructions.{opcodes, opcodeOf};
 ghost use Rattle.rules.specs.Tables.{unknownEdition};
 ghost use Rattle.reader.specs.Cut.{Cut, isBare, allBare, marks};
 
-// Whether an opcode stands alone: 02, 05 to 19, 22 to 25 hex in edition 1; 02, 07 to 1F, 28, 2B, 2C, 2E hex in edition 3; 30
-// and 32 hex too in edition 4.
+// Whether an opcode stands alone: 02, 05 to 19, 22 to 25 hex in edition 1; 02, 07 to 1F, 28, 2B, 2C, 2E hex in edition 3; 30,
+// 32 and 33 hex too in edition 4.
 fn bare(edition: usize, b: u8) -> bool
     requires { ⌜ unknownEdition edition ≡ false ⌝ }
     ensures { λ r. ⌜ r ≡ isBare (opcodeOf (opcodes edition) b) ⌝ }
@@ -18,7 +18,7 @@ fn bare(edition: usize, b: u8) -> bool
     }
     let third = (b == 2) | ((7 <= b) & (b <= 31)) | (b == 40) | (b == 43) | (b == 44) | (b == 46);
     if edition == 4 {
-        return third | (b == 48) | (b == 50);
+        return third | (b == 48) | (b == 50) | (b == 51);
     }
     third
 }

@@ -39,7 +39,7 @@ fn bare_opcodes(edition: usize) -> u64
     BARE
 }
 
-// The bytes of an opcode's instruction; 0 for no opcode. What edition 4 adds to edition 3, 06 and 31, 30 and 32 hex, is looked
+// The bytes of an opcode's instruction; 0 for no opcode. What edition 4 adds to edition 3, 06, 31 and 34, 30, 32 and 33 hex, is looked
 // for last: edition 3 pays no test for it.
 fn opcode_size(edition: usize, b: u8) -> usize
     requires { ⌜ unknownEdition edition ≡ false ⌝ }
@@ -57,10 +57,10 @@ fn opcode_size(edition: usize, b: u8) -> usize
     if (bare >> k) % 2 == 1 {
         return 1;
     }
-    if (edition == 4) & ((b == 6) | (b == 49)) {
+    if (edition == 4) & ((b == 6) | (b == 49) | (b == 52)) {
         return 5;
     }
-    if (edition == 4) & ((b == 48) | (b == 50)) {
+    if (edition == 4) & ((b == 48) | (b == 50) | (b == 51)) {
         return 1;
     }
     0

@@ -1,9 +1,9 @@
 -- The answer of a family of instructions, and what its parts ensure.
 use mathlib.Core.Path.{_≡_}
 use Prim.Native.Nat.{ℕ, suc}
-use mathlib.Core.Bool.{Bool, _&&_, _||_}
+use mathlib.Core.Bool.{Bool, _&&_, _||_, cond}
 use mathlib.Core.List.{List, [], _∷_}
-use lib.Dec.{eqb, leb}
+use lib.Dec.{eqb, leb, ltb}
 use Rattle.rules.specs.declared.Num.{Num}
 use Rattle.rules.specs.declared.Operator.{Operator}
 use Rattle.rules.specs.declared.Unary.{Unary}
@@ -50,13 +50,17 @@ Greatest any g = ⊥
 Greatest number g = g ≡ 6
 Greatest whole g = g ≡ 4
 
--- t is the byte of a pointer to a number
+-- t is the byte of a pointer to a number, managed or not
 abbrev pub cellType : ℕ → Bool
-cellType t = eqb t 131 || eqb t 132 || eqb t 134
+cellType t = eqb t 131 || eqb t 132 || eqb t 134 || eqb t 195 || eqb t 196 || eqb t 198
 
--- `cmp` and `icmp` take operands of the type bytes t and u; every is whether they take any two pointers
+-- t and u are bytes of pointers, both managed or both not: from 192 on they are of managed ones
+abbrev pub oneKind : ℕ → ℕ → Bool
+oneKind t u = cond (ltb t 192) (leb 128 t && (leb 128 u && ltb u 192)) (leb 192 u)
+
+-- `cmp` and `icmp` take operands of the type bytes t and u; every is whether they take any two pointers of one kind
 abbrev pub comparable : Bool → ℕ → ℕ → Bool
-comparable every t u = eqb t u || (every && (leb 128 t && leb 128 u))
+comparable every t u = eqb t u || (every && oneKind t u)
 
 -- ---- by what the instructions of one function differ in
 

@@ -12,15 +12,15 @@ use borrow.Author.Tests.{ne-eqb, eqb-true, eqb-false, le-leb}
 use Rattle.rules.specs.Bytes.{byte}
 use Rattle.rules.specs.declared.Num.{Num}
 use Rattle.rules.specs.declared.Num.the-variants.{Int as int, Long as long, Double as double}
-use Rattle.rules.specs.Instructions.{numKind, Pointee, void, cell, struct, pointeeNumber, pointeeOf, Ty, num, ptr, kindOf, tyOf, typeByte, eqTy}
+use Rattle.rules.specs.Instructions.{numKind, Pointee, void, cell, pointeeNumber, Ty, num, ptr, pointerByte, kindOf, tyOf, typeByte, eqTy}
 use Rattle.rules.specs.Tables.{Body, Module, paramsFrom}
 use Rattle.rules.specs.Stack.{at}
 use Rattle.rules.specs.Typing.{Lists, lists, Flow, to}
 use Rattle.rules.specs.Check.{small}
-use Rattle.soundness.specs.Tests.{decide, eqb-is, ltb-is, ltb-isnt}
+use Rattle.soundness.specs.Tests.{decide, eqb-is, ltb-is, ltb-isnt, ltb-yes}
 use Rattle.soundness.specs.Invariant.{eqTy-is}
 use Rattle.soundness.specs.Exact.{eqTy-same}
-use Rattle.soundness.specs.Readable.{params-length}
+use Rattle.soundness.specs.Readable.{params-length, pointer-back}
 use Rattle.records.specs.Record.{listsOf, IsType, Holds, bounded, Judged}
 use Rattle.records.specs.declared.Transfer.the-variants.{Breaks, Falls}
 
@@ -36,80 +36,63 @@ number-type int = refl
 number-type long = refl
 number-type double = refl
 
-pub pointer-type : (τ : Num) → tyOf (128 + numKind τ) ≡ ptr (cell τ)
-pointer-type int = refl
-pointer-type long = refl
-pointer-type double = refl
+pub pointer-type : (g : Bool) (τ : Num) → tyOf (pointerByte g + numKind τ) ≡ ptr g (cell τ)
+pointer-type false int = refl
+pointer-type false long = refl
+pointer-type false double = refl
+pointer-type true int = refl
+pointer-type true long = refl
+pointer-type true double = refl
 
 pub number-is-type : (τ : Num) → IsType (numKind τ)
 number-is-type τ = ap typeByte (number-type τ)
 
--- the byte of a number's type, and of a pointer's
+-- the byte of a number's type, and of a pointer's, managed (true) or not, with what it points to
 abbrev pub OfNumber : ℕ → Type 0
 OfNumber a = (τ : Num) × (tyOf a ≡ num τ) × (a ≡ numKind τ)
 
 abbrev pub OfPointer : ℕ → Type 0
-OfPointer a = (w : Pointee) × (tyOf a ≡ ptr w) × (a ≡ 128 + pointeeNumber w)
+OfPointer a = (w : Bool × Pointee) × (tyOf a ≡ ptr (w .0) (w .1)) × (a ≡ pointerByte (w .0) + pointeeNumber (w .1))
+
+pub pointer-high : (g : Bool) → 128 ≤ pointerByte g
+pointer-high false = omega arith
+pointer-high true = omega arith
 
 pub split-type : (a : ℕ) → IsType a → OfNumber a ⊎ OfPointer a
 split-type a is = go (tyOf a) refl
   where
     go : (x : Ty) → tyOf a ≡ x → OfNumber a ⊎ OfPointer a
     go (num τ) e = inl (τ, e, sym is ∙ ap typeByte e)
-    go (ptr w) e = inr (w, e, sym is ∙ ap typeByte e)
+    go (ptr g w) e = inr ((g, w), e, sym is ∙ ap typeByte e)
 
 pub number-byte : (a : ℕ) → IsType a → a < 128 → OfNumber a
 number-byte a is low = go (split-type a is)
   where
     go : OfNumber a ⊎ OfPointer a → OfNumber a
     go (inl x) = x
-    go (inr x) = absurd (let k = x .2 in omega arith)
+    go (inr x) = absurd (let k = x .2 in let h = pointer-high (x .0 .0) in omega arith)
 
-pub pointer-byte : (a : ℕ) → IsType a → 128 ≤ a → OfPointer a
+pub pointer-byte : (a : ℕ) → IsType a → 6 < a → OfPointer a
 pointer-byte a is high = go (split-type a is)
   where
     go : OfNumber a ⊎ OfPointer a → OfPointer a
     go (inl x) = absurd (let k = kind-low (x .0) in let e = x .2 in omega arith)
     go (inr x) = x
 
--- what a number is to a pointer's type, and back
-pointee-number : (n : ℕ) → pointeeNumber (pointeeOf n) ≡ n
-pointee-number n = go (eqb n 0) (eqb n 3) (eqb n 4) (eqb n 6) refl refl refl refl
-  where
-    go : (a b c d : Bool) → eqb n 0 ≡ a → eqb n 3 ≡ b → eqb n 4 ≡ c → eqb n 6 ≡ d
-        → pointeeNumber (cond a void (cond b (cell int) (cond c (cell long) (cond d (cell double) (struct n))))) ≡ n
-    go true b c d u v w x = sym (eqb-true n 0 u)
-    go false true c d u v w x = sym (eqb-true n 3 v)
-    go false false true d u v w x = sym (eqb-true n 4 w)
-    go false false false true u v w x = sym (eqb-true n 6 x)
-    go false false false false u v w x = refl
-
--- from 128 on every byte is a pointer's
-pub pointer-is : (n : ℕ) → tyOf (128 + n) ≡ ptr (pointeeOf n)
-pointer-is n =
-    let z : 128 + n - 128 ≡ n = omega arith in
-    rw (ne-eqb (128 + n) 3 (λ e. omega arith), ne-eqb (128 + n) 4 (λ e. omega arith), ne-eqb (128 + n) 6 (λ e. omega arith), z) refl
-
-pub pointer-is-type : (n : ℕ) → IsType (128 + n)
-pointer-is-type n = ap typeByte (pointer-is n) ∙ ap (λ (k : ℕ). 128 + k) (pointee-number n)
-
 -- no other number gives a type but that of `null`
-pub type-back : (a : ℕ) → (tyOf a ≡ ptr void → ⊥) → IsType a
-type-back a other = decide (ltb a 128) (λ l. below (ltb-is a 128 l)) (λ l. let k = ltb-isnt a 128 l in let e : 128 + (a - 128) ≡ a = omega arith in subst IsType e (pointer-is-type (a - 128)))
+pub type-back : (a : ℕ) → (tyOf a ≡ ptr false void → ⊥) → IsType a
+type-back a other = decide (ltb a 128) (λ l. below (ltb-is a 128 l)) (λ l. pointer-back a (ltb-isnt a 128 l))
   where
     below : a < 128 → IsType a
     below l =
         decide (eqb a 3) (λ e. rw (eqb-is a 3 e) refl) (λ u.
         decide (eqb a 4) (λ e. rw (eqb-is a 4 e) refl) (λ v.
         decide (eqb a 6) (λ e. rw (eqb-is a 6 e) refl) (λ w.
-        let z : a - 128 ≡ 0 = omega arith in absurd (other (rw (u, v, w, z) refl)))))
+        let z : a - 128 ≡ 0 = omega arith in absurd (other (rw (u, v, w, ltb-yes a 192 (omega arith), z) refl)))))
 
 -- the type number of a type byte
 pub number-kind : (a : ℕ) → IsType a → a < 128 → kindOf (tyOf a) ≡ a
 number-kind a is low = let x = number-byte a is low in ap kindOf (x .1) ∙ sym (x .2)
-
-pub pointer-kind : (a : ℕ) → IsType a → 128 ≤ a → kindOf (tyOf a) ≡ 7
-pointer-kind a is high = ap kindOf (pointer-byte a is high .1)
 
 -- types are the same where their bytes are
 pub same-type : (a b : ℕ) → IsType a → IsType b → eqTy (tyOf a) (tyOf b) ≡ eqb a b

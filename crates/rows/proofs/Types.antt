@@ -11,14 +11,14 @@ use lib.Seq.{take-suc, getD-set-same, getD-set-other}
 use borrow.Author.Tests.{eq-eqb, ne-eqb, eqb-true, eqb-false, lt-ltb, le-ltb}
 use Rattle.rules.specs.declared.Slot.{Slot}
 use Rattle.rules.specs.Bytes.{byte, word}
-use Rattle.rules.specs.Instructions.{Ty, num, ptr, kindOf, pointeeOf, tyOf}
+use Rattle.rules.specs.Instructions.{Ty, num, ptr, kindOf, tyOf}
 use Rattle.rules.specs.declared.Num.the-variants.{Int as int, Long as long, Double as double}
 use Rattle.rules.specs.Tables.{paramsFrom}
 use Rattle.rules.specs.Stack.{slotAt, slotsOf}
 use Rattle.rules.specs.Answers.{declared, admitted}
 use Rattle.soundness.specs.Tests.{decide, false-true, and-both}
 use Rattle.runs.specs.Runs.{lentOf, suits}
-use Rattle.runs.proofs.Arguments.{suits-int, suits-long, suits-last, declared-next, declared-not, declared-end, admitted-is}
+use Rattle.runs.proofs.Arguments.{pointerBy, suits-int, suits-long, suits-last, declared-next, declared-not, declared-end, admitted-is}
 use Rattle.rules.specs.Mapping.{takesNumbers, typesOf}
 use Rattle.rows.specs.Rows.{isNumber, sized, lowInts}
 
@@ -30,12 +30,15 @@ tyNumber false true z w h = refl
 tyNumber false false true w h = refl
 tyNumber false false false w h = h
 
+no-number : (b : ℕ) → isNumber (pointerBy b) ≡ false
+no-number b = decide (ltb b 192) (λ y. rw y refl) (λ y. rw y refl)
+
 pub number-byte : (b : ℕ) → isNumber (tyOf b) ≡ ((eqb b 3 || eqb b 4) || eqb b 6)
-number-byte b = tyNumber (eqb b 3) (eqb b 4) (eqb b 6) (ptr (pointeeOf (b - 128))) refl
+number-byte b = tyNumber (eqb b 3) (eqb b 4) (eqb b 6) (pointerBy b) (no-number b)
 
 takes-cons : (t : Ty) (ts : List Ty) → takesNumbers (t ∷ ts) ≡ (isNumber t && takesNumbers ts)
 takes-cons (num τ) ts = refl
-takes-cons (ptr w) ts = refl
+takes-cons (ptr g w) ts = refl
 
 -- ---- the type bytes at a of the table s
 
@@ -74,7 +77,7 @@ kind-number false false true w b hx hy hz h g = sym (hz refl)
 kind-number false false false w b hx hy hz h g = false-true (sym h ∙ g)
 
 number-kind : (b : ℕ) → isNumber (tyOf b) ≡ true → kindOf (tyOf b) ≡ b
-number-kind b h = kind-number (eqb b 3) (eqb b 4) (eqb b 6) (ptr (pointeeOf (b - 128))) b (eqb-true b 3) (eqb-true b 4) (eqb-true b 6) refl h
+number-kind b h = kind-number (eqb b 3) (eqb b 4) (eqb b 6) (pointerBy b) b (eqb-true b 3) (eqb-true b 4) (eqb-true b 6) (no-number b) h
 
 module _ (s : List ℕ) (a : ℕ) (b : List ℕ) where
   abbrev Shown : ℕ → Type 0

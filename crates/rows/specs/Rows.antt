@@ -24,7 +24,7 @@ use Rattle.rows.specs.declared.RowEnd.{RowEnd}
 
 abbrev pub isNumber : Ty → Bool
 isNumber (num τ) = true
-isNumber (ptr w) = false
+isNumber (ptr g w) = false
 
 -- the types of n parameters of function k of the file s
 abbrev pub paramTypes : List ℕ → ℕ → ℕ → List Ty

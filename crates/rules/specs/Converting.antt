@@ -48,7 +48,7 @@ profiled fs i = differs (profileAt 4 fs (functionAt 4 i)) 0
 
 -- "a type byte .. that edition 3 lacks", in the signature of function i
 abbrev pub newType : List ℕ → ℕ → Bool
-newType fs i = oddReturn 0 (byte fs (functionAt 4 i + 9)) || some-below 8 (badParam 3 0 fs (functionAt 4 i))
+newType fs i = oddReturn 3 0 (byte fs (functionAt 4 i + 9)) || some-below 8 (badParam 3 0 fs (functionAt 4 i))
 
 -- "or opcode", of an instruction at place p, reached or not
 abbrev pub newOpcode : List ℕ → ℕ → Bool

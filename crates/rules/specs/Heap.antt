@@ -1,8 +1,8 @@
--- 02, A6: the heap. Blocks by serial, addresses, what `new` and `delete` do to the blocks, and the heap as it is lent.
+-- 02, A6 and A9: the heap. Blocks by serial, addresses, what `new`, `delete`, `gcnew` do to the blocks, and the heap as it is lent.
 -- A block holds its cells' payloads itself, so a heap is its blocks: which cells they lie in decides only where the next one
 -- goes, and what the lent memory shows.
 use Prim.Native.Nat.{ℕ, zero, suc, _+_, _*_, _-_, _/_, _%_, _^_, min}
-use mathlib.Core.Bool.{Bool, true, false, _&&_, _||_, cond}
+use mathlib.Core.Bool.{Bool, true, false, not, _&&_, _||_, cond}
 use mathlib.Core.Option.{Option, none, some}
 use mathlib.Core.List.{List, [], _∷_, _++_}
 use lib.ListN.{length, getD, set, drop}
@@ -55,11 +55,12 @@ pointeeIn n (fields fs) = struct n
 
 -- ---- blocks
 
--- from: its first cell; type: its type number; cells: the payloads, field 0's first
+-- from: its first cell; type: its type number; managed: given by `gcnew`; cells: the payloads, field 0's first
 pub record Block : Type 0 where
   pub serial : ℕ
   pub from : ℕ
   pub type : ℕ
+  pub managed : Bool
   pub cells : List ℕ
 
 -- size: the cells that are lent; blocks: the live ones, the highest serial first; next: the serial that the next one will have
@@ -112,7 +113,7 @@ targetOf m h st a =
 
 -- a payload written into a cell of the block of serial s
 abbrev pub withCell : Block → ℕ → ℕ → Block
-withCell b i x = record { serial = b .serial; from = b .from; type = b .type; cells = set (b .cells) i x }
+withCell b i x = record { serial = b .serial; from = b .from; type = b .type; managed = b .managed; cells = set (b .cells) i x }
 
 abbrev pub stored : List Block → ℕ → ℕ → ℕ → List Block
 stored [] s i x = []
@@ -142,10 +143,10 @@ abbrev pub placeFor : Heap → ℕ → Option ℕ
 placeFor h n = cond (ltb (h .next) serialLimit) (lowestRun h n) none
 
 -- the heap after `new` of n cells of type t, and the address that it gives
-abbrev pub heapWith : Heap → ℕ → ℕ → Option ℕ → Heap
-heapWith h t n none = h
-heapWith h t n (some c) =
-    record { size = h .size; blocks = record { serial = h .next; from = c; type = t; cells = zeros n } ∷ h .blocks; next = suc (h .next) }
+abbrev pub heapWith : Heap → ℕ → Bool → ℕ → Option ℕ → Heap
+heapWith h t g n none = h
+heapWith h t g n (some c) =
+    record { size = h .size; blocks = record { serial = h .next; from = c; type = t; managed = g; cells = zeros n } ∷ h .blocks; next = suc (h .next) }
 
 abbrev pub addressGiven : Heap → Option ℕ → ℕ
 addressGiven h none = nullAddress
@@ -154,11 +155,42 @@ addressGiven h (some c) = blockAddress (h .next)
 -- ---- `delete`: "takes only what `new` gave, else 33"
 
 abbrev pub isGiven : Heap → ℕ → Bool
-isGiven h a = eqb (offsetIn a) 0 && maybe (find (h .blocks) (serialIn a)) false (λ b. true)
+isGiven h a = eqb (offsetIn a) 0 && maybe (find (h .blocks) (serialIn a)) false (λ b. not (b .managed))
 
 abbrev pub without : List Block → ℕ → List Block
 without [] s = []
 without (b ∷ bs) s = cond (eqb (b .serial) s) (without bs s) (b ∷ without bs s)
+
+-- ---- `gcnew`: "first frees the dead blocks, then packs the rest, managed or not, toward cell 0 in serial order if no run is long
+-- enough, then does as `new`"
+
+-- "it is dead when no type 8 slot below the height holds its serial"
+abbrev pub held : List Slot → ℕ → Bool
+held [] s = false
+held (v ∷ st) s = (eqb (v .kind) 8 && eqb (serialIn (v .payload)) s) || held st s
+
+abbrev pub swept : List Slot → List Block → List Block
+swept st [] = []
+swept st (b ∷ bs) = cond (not (b .managed) || held st (b .serial)) (b ∷ swept st bs) (swept st bs)
+
+-- the cells of all blocks; each block goes right after those of lower serials
+abbrev pub total : List Block → ℕ
+total [] = 0
+total (b ∷ bs) = length (b .cells) + total bs
+
+abbrev pub moved : Block → ℕ → Block
+moved b c = record { serial = b .serial; from = c; type = b .type; managed = b .managed; cells = b .cells }
+
+abbrev pub packed : List Block → List Block
+packed [] = []
+packed (b ∷ bs) = moved b (total bs) ∷ packed bs
+
+-- before `gcnew` of n cells does as `new`
+abbrev pub roomy : ℕ → Heap → Heap
+roomy n h = maybe (lowestRun h n) (having h (packed (h .blocks))) (λ c. h)
+
+abbrev pub collected : ℕ → List Slot → Heap → Heap
+collected n st h = roomy n (having h (swept st (h .blocks)))
 
 -- ---- the lent heap: "8-byte cells .., with a lent table of 24-byte block entries (serial, first cell, type, 8 bytes each, little
 -- endian); capacity is the smaller count, at most 4,096, the rest untouched"
@@ -170,11 +202,14 @@ pub record LentHeap : Type 0 where
 abbrev pub heapCapacity : LentHeap → ℕ
 heapCapacity y = min (min (length (y .cells) / 8) (length (y .table) / 24)) 4096
 
--- "After a run the table lists the live blocks by serial; other entries and free cells are zero."
+-- "After a run the table lists the live blocks by serial; other entries and free cells are zero." A managed one is listed "with 64
+-- added to its type".
+abbrev pub listedType : Block → ℕ
+listedType b = cond (b .managed) (64 + b .type) (b .type)
 
 unfoldable pub entries : List Block → List ℕ
 entries [] = []
-entries (b ∷ bs) = entries bs ++ (bytes 8 (b .serial) ++ (bytes 8 (b .from) ++ bytes 8 (b .type)))
+entries (b ∷ bs) = entries bs ++ (bytes 8 (b .serial) ++ (bytes 8 (b .from) ++ bytes 8 (listedType b)))
 
 -- the payload in cell c
 abbrev pub cellAt : List Block → ℕ → ℕ

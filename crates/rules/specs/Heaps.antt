@@ -1,7 +1,7 @@
--- A table that is not of the paper: 02's A6, runs of edition 4 on a heap of four cells, each new exception, what has a typing, and files.
+-- A table that is not of the paper: 02's A6 and A9, runs of edition 4 on a heap of four cells, each new exception, what has a typing, and files.
 use mathlib.Core.Path.{_≡_, refl}
 use Prim.Native.Nat.{ℕ, zero, suc, _+_, _-_, _*_, _^_}
-use mathlib.Core.Bool.{true, false}
+use mathlib.Core.Bool.{Bool, true, false}
 use mathlib.Core.List.{List, [], _∷_, _++_}
 use lib.ListN.{length, set, take}
 use Rattle.rules.specs.Bytes.{bytes, zeros}
@@ -12,7 +12,7 @@ use Rattle.rules.specs.Stack.{Slot, slot, Lent}
 use Rattle.rules.specs.Heap.{Block, LentHeap, heapCapacity}
 use Rattle.rules.specs.Machine.{Next, goes, stops, finishes, opened, execIn}
 use Rattle.rules.specs.Answers.{CheckAnswer, Untyped, Accepted, runNumber, Ran, answered}
-use Rattle.rules.specs.Files.{PUSH, POP, LOAD, STORE, LEA, TLOAD, TSTORE, COPY, SWAP, ADD, INC, DEC, CMP, ICMP, TOI, CALL, RET, FLEA, NULL, NEW, DELETE, Fn, function, file, file4, nines, payloadsUp, typesIn, lent, scratch, scratchHeap}
+use Rattle.rules.specs.Files.{PUSH, POP, LOAD, STORE, LEA, TLOAD, TSTORE, COPY, SWAP, ADD, INC, DEC, CMP, ICMP, TOI, CALL, RET, FLEA, NULL, NEW, DELETE, GCNULL, GCNEW, Fn, function, file, file4, nines, payloadsUp, typesIn, lent, scratch, scratchHeap}
 use Rattle.rules.specs.Evaluate.{refusalNow, checkNow, runHeapNow}
 
 -- int 5, long 7, double 1.0, long -1
@@ -23,9 +23,10 @@ constants = (3, 5) ∷ (4, 7) ∷ (6, 0x3ff0000000000000) ∷ (4, 0xffffffffffff
 abbrev shapes : List (List ℕ)
 shapes = (3 ∷ 6 ∷ []) ∷ (4 ∷ []) ∷ (3 ∷ 3 ∷ 3 ∷ []) ∷ []
 
--- 0 () to a pointer to structure 10; 1 (pointer to int), none; 2 (pointer to structure 10) to the same
+-- 0 () to a pointer to structure 10; 1 (pointer to int), none; 2 (pointer to structure 10) to the same; 3 (managed pointer to
+-- int) to the same; 4 () to a managed pointer to structure 10
 abbrev functions : List Fn
-functions = function [] 138 (NEW 10 ++ RET) ∷ function (131 ∷ []) 0 RET ∷ function (138 ∷ []) 138 (LOAD 0 ++ RET) ∷ []
+functions = function [] 138 (NEW 10 ++ RET) ∷ function (131 ∷ []) 0 RET ∷ function (138 ∷ []) 138 (LOAD 0 ++ RET) ∷ function (195 ∷ []) 195 (LOAD 0 ++ RET) ∷ function [] 202 (GCNEW 10 ++ RET) ∷ []
 
 abbrev recipe : List ℕ → List ℕ
 recipe code = file4 constants functions [] code shapes
@@ -105,6 +106,32 @@ rows =
     ∷ row (PUSH 0 ++ (PUSH 0 ++ (PUSH 0 ++ (PUSH 0 ++ (PUSH 0 ++ (PUSH 0 ++ NEW 5)))))) 37 6 ((3, 5) ∷ (3, 5) ∷ (3, 5) ∷ (3, 5) ∷ (3, 5) ∷ (3, 5) ∷ []) [] empty
     ∷ row (PUSH 0 ++ (PUSH 0 ++ (PUSH 0 ++ (PUSH 0 ++ (PUSH 0 ++ (PUSH 0 ++ NULL)))))) 20 6 ((3, 5) ∷ (3, 5) ∷ (3, 5) ∷ (3, 5) ∷ (3, 5) ∷ (3, 5) ∷ []) [] empty
     ∷ row (PUSH 0 ++ (PUSH 0 ++ (PUSH 0 ++ (PUSH 0 ++ (PUSH 0 ++ (PUSH 0 ++ NEW 3)))))) 20 6 ((3, 5) ∷ (3, 5) ∷ (3, 5) ∷ (3, 5) ∷ (3, 5) ∷ (3, 5) ∷ []) [] empty
+    -- managed: listed until freed with 64 added, freed by the next `gcnew` where no slot holds it, also where there is room; not by `new`
+    ∷ row (GCNEW 10 ++ POP) 0 2 [] ((1, 0, 74) ∷ []) empty ∷ row (GCNEW 10 ++ (POP ++ (GCNEW 10 ++ GCNEW 10))) 0 4 ((8, A 2) ∷ (8, A 3) ∷ []) ((2, 0, 74) ∷ (3, 2, 74) ∷ []) empty
+    ∷ row (GCNEW 3 ++ (POP ++ NEW 3)) 0 3 ((7, A 2) ∷ []) ((1, 0, 67) ∷ (2, 1, 3) ∷ []) empty ∷ row (GCNEW 10 ++ (GCNEW 10 ++ (POP ++ NEW 3))) 0 4 ((8, A 1) ∷ (7, N) ∷ []) ((1, 0, 74) ∷ (2, 2, 74) ∷ []) empty
+    ∷ row (GCNEW 3 ++ (COPY ++ (INC ++ (POP ++ GCNEW 4)))) 0 5 ((8, A 2) ∷ []) ((2, 0, 68) ∷ []) empty
+    -- held by a field's pointer, a buried slot, a caller's slot, an argument; by what is left when a function has returned
+    ∷ row (GCNEW 10 ++ (FLEA 1 ++ GCNEW 10)) 0 3 ((8, F 1 1) ∷ (8, A 2) ∷ []) ((1, 0, 74) ∷ (2, 2, 74) ∷ []) empty
+    ∷ row (GCNEW 3 ++ (PUSH 0 ++ (STORE 0 ++ GCNEW 3))) 0 4 ((8, A 1) ∷ (3, 5) ∷ (8, A 2) ∷ []) ((1, 0, 67) ∷ (2, 1, 67) ∷ []) empty
+    ∷ row (GCNEW 10 ++ CALL 4) 0 4 ((8, A 1) ∷ (8, A 2) ∷ []) ((1, 0, 74) ∷ (2, 2, 74) ∷ []) empty ∷ row (CALL 4 ++ (POP ++ CALL 4)) 0 7 ((8, A 2) ∷ []) ((2, 0, 74) ∷ []) empty
+    ∷ row (GCNEW 3 ++ (CALL 3 ++ (COPY ++ (INC ++ TLOAD)))) 0 7 ((3, 1) ∷ []) ((1, 0, 67) ∷ []) (1 ∷ 0 ∷ 0 ∷ 0 ∷ [])
+    -- packed only where no run is long enough: serial 2 moves from cell 1 to cell 0, and what its pointer reads stays
+    ∷ row (GCNEW 3 ++ (POP ++ (NEW 10 ++ (COPY ++ (FLEA 0 ++ (PUSH 0 ++ (TSTORE ++ GCNEW 10))))))) 0 8 ((7, A 2) ∷ (8, A 3) ∷ []) ((2, 0, 10) ∷ (3, 2, 74) ∷ []) (5 ∷ 0 ∷ 0 ∷ 0 ∷ [])
+    ∷ row (GCNEW 3 ++ (POP ++ (NEW 10 ++ (COPY ++ (FLEA 0 ++ (PUSH 0 ++ (TSTORE ++ (GCNEW 10 ++ (POP ++ (FLEA 0 ++ TLOAD)))))))))) 0 11 ((3, 5) ∷ []) ((2, 0, 10) ∷ (3, 2, 74) ∷ []) (5 ∷ 0 ∷ 0 ∷ 0 ∷ [])
+    ∷ row (GCNEW 3 ++ (POP ++ (NEW 10 ++ (COPY ++ (FLEA 0 ++ (PUSH 0 ++ (TSTORE ++ GCNEW 3))))))) 0 8 ((7, A 2) ∷ (8, A 3) ∷ []) ((2, 1, 10) ∷ (3, 0, 67) ∷ []) (0 ∷ 5 ∷ 0 ∷ 0 ∷ [])
+    -- in serial order, so that a block may move up; also where it does not help; freed all the same where null is given
+    ∷ row (NEW 3 ++ (NEW 10 ++ (SWAP ++ (DELETE ++ (NEW 3 ++ (COPY ++ (INC ++ GCNEW 10))))))) 0 8 ((7, A 2) ∷ (7, A 3) ∷ (8, N) ∷ []) ((2, 0, 10) ∷ (3, 2, 3) ∷ []) (0 ∷ 0 ∷ 1 ∷ 0 ∷ [])
+    ∷ row (GCNEW 3 ++ (POP ++ (NEW 10 ++ (NEW 3 ++ GCNEW 10)))) 0 5 ((7, A 2) ∷ (7, A 3) ∷ (8, N) ∷ []) ((2, 0, 10) ∷ (3, 2, 3) ∷ []) empty
+    -- 37, 20: nothing is freed
+    ∷ row (GCNEW 3 ++ (POP ++ GCNEW 5)) 37 2 [] ((1, 0, 67) ∷ []) empty ∷ row (GCNEW 67) 37 0 [] [] empty ∷ row (GCNEW 13) 37 0 [] [] empty ∷ row (NEW 67) 37 0 [] [] empty
+    ∷ row (GCNEW 3 ++ (POP ++ (PUSH 0 ++ (PUSH 0 ++ (PUSH 0 ++ (PUSH 0 ++ (PUSH 0 ++ (PUSH 0 ++ GCNEW 3)))))))) 20 8 ((3, 5) ∷ (3, 5) ∷ (3, 5) ∷ (3, 5) ∷ (3, 5) ∷ (3, 5) ∷ []) ((1, 0, 67) ∷ []) empty
+    ∷ row (PUSH 0 ++ (PUSH 0 ++ (PUSH 0 ++ (PUSH 0 ++ (PUSH 0 ++ (PUSH 0 ++ GCNULL)))))) 20 6 ((3, 5) ∷ (3, 5) ∷ (3, 5) ∷ (3, 5) ∷ (3, 5) ∷ (3, 5) ∷ []) [] empty
+    -- the rest of type 8: 31 of `delete`, of null too; 22 across 7 and 8; 36; 39, 38, 50, 32
+    ∷ row (GCNEW 3 ++ DELETE) 31 1 ((8, A 1) ∷ []) ((1, 0, 67) ∷ []) empty ∷ row (GCNULL ++ DELETE) 31 1 ((8, N) ∷ []) [] empty ∷ row (GCNULL ++ (NULL ++ CMP)) 22 2 ((8, N) ∷ (7, N) ∷ []) [] empty ∷ row (NULL ++ (GCNULL ++ ICMP)) 22 2 ((7, N) ∷ (8, N) ∷ []) [] empty
+    ∷ row (GCNULL ++ (NULL ++ SWAP)) 22 2 ((8, N) ∷ (7, N) ∷ []) [] empty ∷ row (NULL ++ (STORE 0 ++ (GCNULL ++ STORE 0))) 22 3 ((7, N) ∷ (8, N) ∷ []) [] empty ∷ row (NEW 3 ++ CALL 3) 22 1 ((7, A 1) ∷ []) ((1, 0, 3) ∷ []) empty ∷ row (GCNEW 3 ++ CALL 1) 22 1 ((8, A 1) ∷ []) ((1, 0, 67) ∷ []) empty
+    ∷ row (GCNULL ++ INC) 36 1 ((8, N) ∷ []) [] empty ∷ row (GCNULL ++ FLEA 9) 36 1 ((8, N) ∷ []) [] empty ∷ row (GCNULL ++ (GCNEW 3 ++ CMP)) 0 3 ((3, 1) ∷ []) ((1, 0, 67) ∷ []) empty ∷ row (GCNEW 3 ++ (GCNULL ++ ICMP)) 0 3 ((3, 0xffffffff) ∷ []) ((1, 0, 67) ∷ []) empty
+    ∷ row (GCNEW 3 ++ FLEA 0) 39 1 ((8, A 1) ∷ []) ((1, 0, 67) ∷ []) empty ∷ row (GCNEW 10 ++ FLEA 2) 38 1 ((8, A 1) ∷ []) ((1, 0, 74) ∷ []) empty ∷ row (GCNEW 10 ++ TLOAD) 50 1 ((8, A 1) ∷ []) ((1, 0, 74) ∷ []) empty
+    ∷ row (GCNEW 3 ++ TOI) 32 1 ((8, A 1) ∷ []) ((1, 0, 67) ∷ []) empty ∷ row (GCNEW 3 ++ (PUSH 0 ++ ADD)) 32 2 ((8, A 1) ∷ (3, 5) ∷ []) ((1, 0, 67) ∷ []) empty ∷ row (GCNEW 3 ++ (STORE 0 ++ (LEA 0 ++ INC))) 32 3 ((8, A 1) ∷ (7, 0) ∷ []) ((1, 0, 67) ∷ []) empty
     ∷ []
 
 abbrev entryBytes : List (ℕ × ℕ × ℕ) → List ℕ
@@ -145,6 +172,7 @@ typed =
     ∷ (local ++ (LEA 0 ++ (NEW 11 ++ CMP))) ∷ (local ++ (LEA 0 ++ DELETE)) ∷ (NEW 10 ++ (FLEA 0 ++ DELETE)) ∷ (NULL ++ (STORE 0 ++ (NULL ++ STORE 0))) ∷ (NULL ++ (NULL ++ SWAP)) ∷ (NULL ++ (COPY ++ POP))
     ∷ (NEW 10 ++ (STORE 0 ++ (NEW 10 ++ STORE 0))) ∷ (CALL 0 ++ (FLEA 0 ++ CALL 1)) ∷ (NEW 10 ++ (CALL 2 ++ (FLEA 1 ++ TLOAD))) ∷ (NEW 3 ++ CALL 1) ∷ (NEW 10 ++ (FLEA 1 ++ (PUSH 2 ++ TSTORE))) ∷ (NEW 10 ++ (NEW 11 ++ CMP)) ∷ (NEW 6 ++ TLOAD)
     ∷ (NULL ++ (STORE 0 ++ (LOAD 0 ++ DELETE))) ∷ (NEW 10 ++ (NEW 4 ++ ICMP)) ∷ (NEW 4 ++ DELETE) ∷ (NEW 6 ++ DELETE) ∷ (NEW 10 ++ (FLEA 1 ++ INC)) ∷ (NEW 4 ++ DEC)
+    ∷ (GCNEW 10 ++ (FLEA 0 ++ INC)) ∷ (GCNEW 10 ++ (FLEA 0 ++ (CALL 3 ++ TLOAD))) ∷ (GCNULL ++ (GCNEW 3 ++ ICMP)) ∷ (GCNEW 10 ++ (GCNEW 11 ++ CMP)) ∷ (GCNULL ++ (COPY ++ POP)) ∷ (GCNULL ++ (STORE 0 ++ (GCNULL ++ STORE 0))) ∷ (GCNEW 3 ++ (CALL 3 ++ TLOAD)) ∷ (CALL 4 ++ (FLEA 1 ++ (PUSH 2 ++ TSTORE))) ∷ (GCNULL ++ (GCNULL ++ SWAP))
     ∷ []
 
 pub untyped : List (List ℕ)
@@ -153,6 +181,8 @@ untyped =
     ∷ (NEW 13) ∷ (NEW 9) ∷ (NEW 5) ∷ (NEW 3 ++ (NEW 4 ++ SWAP)) ∷ (NULL ++ (NEW 3 ++ SWAP)) ∷ (NEW 10 ++ (NEW 11 ++ SWAP)) ∷ (NULL ++ (STORE 0 ++ (NEW 3 ++ STORE 0))) ∷ (NEW 10 ++ (STORE 0 ++ (NEW 11 ++ STORE 0)))
     ∷ (NULL ++ CALL 1) ∷ (NULL ++ CALL 2) ∷ (NEW 11 ++ CALL 2) ∷ (NEW 4 ++ CALL 1) ∷ (NEW 3 ++ (PUSH 0 ++ CMP)) ∷ (PUSH 0 ++ (NULL ++ ICMP)) ∷ (NEW 3 ++ (PUSH 0 ++ ADD)) ∷ (NEW 3 ++ (NEW 3 ++ ADD)) ∷ (NEW 3 ++ TOI)
     ∷ (PUSH 0 ++ DELETE) ∷ DELETE ∷ (NEW 3 ++ (STORE 0 ++ LEA 0)) ∷ (NEW 10 ++ (FLEA 1 ++ (PUSH 0 ++ TSTORE)))
+    ∷ (GCNEW 3 ++ DELETE) ∷ (GCNULL ++ DELETE) ∷ (NULL ++ (GCNULL ++ CMP)) ∷ (GCNEW 3 ++ (NEW 3 ++ ICMP)) ∷ (GCNULL ++ TLOAD) ∷ (GCNULL ++ FLEA 0) ∷ (GCNEW 3 ++ (NEW 3 ++ SWAP)) ∷ (GCNULL ++ (GCNEW 3 ++ SWAP)) ∷ (NULL ++ (STORE 0 ++ (GCNULL ++ STORE 0)))
+    ∷ (NEW 3 ++ CALL 3) ∷ (GCNEW 3 ++ CALL 1) ∷ (GCNULL ++ CALL 3) ∷ (GCNEW 4 ++ CALL 3) ∷ (GCNEW 10 ++ TLOAD) ∷ (GCNEW 13) ∷ (GCNEW 67) ∷ (GCNEW 3 ++ TOI) ∷ (GCNEW 3 ++ (STORE 0 ++ LEA 0))
     ∷ []
 
 pub answers : List (List ℕ) → List CheckAnswer
@@ -164,9 +194,9 @@ pub every : CheckAnswer → List (List ℕ) → List CheckAnswer
 every a [] = []
 every a (c ∷ cs) = a ∷ every a cs
 
--- the type bytes of a label record: a local `null`, operands pointers to structures 10 and 11 and to an int
+-- the type bytes of a label record: locals `null` and `gcnull`, operands pointers to structures 10 and 11 and to an int, managed or not
 abbrev labelled : List ℕ
-labelled = file4 constants functions ((0xffffffff, 21) ∷ []) (NULL ++ (STORE 0 ++ (NEW 10 ++ (NEW 11 ++ (NEW 3 ++ POP))))) shapes
+labelled = file4 constants functions ((0xffffffff, 37) ∷ []) (NULL ++ (STORE 0 ++ (GCNULL ++ (STORE 1 ++ (NEW 10 ++ (NEW 11 ++ (NEW 3 ++ (GCNEW 10 ++ (GCNEW 3 ++ POP))))))))) shapes
 
 -- functions that return what they are not declared to: null, another structure; and in edition 3 pointers of two types are not compared
 abbrev returning : List ℕ → List ℕ
@@ -177,7 +207,7 @@ comparing = file ((3, 5) ∷ (4, 7) ∷ []) [] [] (PUSH 0 ++ (STORE 0 ++ (PUSH 1
 
 pub typing-table :
     (answers typed ≡ every Accepted typed) × (answers untyped ≡ every (Untyped 0xffffffff) untyped)
-    × (checkNow labelled (nines 64) .room ≡ (1 ∷ 1 ∷ 3 ∷ zeros 13) ++ ((0x80 ∷ zeros 15) ++ (0x8a ∷ 0x8b ∷ 0x83 ∷ zeros 29)))
+    × (checkNow labelled (nines 64) .room ≡ (1 ∷ 2 ∷ 5 ∷ zeros 13) ++ ((0x80 ∷ 0xc0 ∷ zeros 14) ++ (0x8a ∷ 0x8b ∷ 0x83 ∷ 0xca ∷ 0xc3 ∷ zeros 27)))
     × (checkNow (returning (NEW 10)) [] .answer ≡ Accepted) × (checkNow (returning (NEW 11)) [] .answer ≡ Untyped 0) × (checkNow (returning NULL) [] .answer ≡ Untyped 0)
     × (checkNow comparing [] .answer ≡ Untyped 0xffffffff)
 unfolding answers every typed untyped checkNow
@@ -244,7 +274,14 @@ on i st bs n =
 
 -- an int of serial 2, from cell 3 on
 abbrev int2 : List Block
-int2 = record { serial = 2; from = 3; type = 3; cells = 8 ∷ [] } ∷ []
+int2 = record { serial = 2; from = 3; type = 3; managed = false; cells = 8 ∷ [] } ∷ []
+
+abbrev managed2 : List Block
+managed2 = record { serial = 2; from = 3; type = 3; managed = true; cells = 8 ∷ [] } ∷ []
+
+-- two ints, serial 1 in cell a and serial 2 in cell b
+abbrev ints : ℕ → ℕ → List Block
+ints a b = record { serial = 2; from = b; type = 3; managed = false; cells = 8 ∷ [] } ∷ record { serial = 1; from = a; type = 3; managed = false; cells = 7 ∷ [] } ∷ []
 
 -- what is left on the stack, and the next serial
 abbrev shownIn : Next → List Slot × ℕ
@@ -252,9 +289,15 @@ shownIn (goes s) = (s .memory .stack, s .memory .heap .next)
 shownIn (stops e) = ([], e)
 shownIn (finishes M) = ([], 0)
 
+-- the blocks that are left
+abbrev blocksIn : Next → List Block
+blocksIn (goes s) = s .memory .heap .blocks
+blocksIn (stops e) = []
+blocksIn (finishes M) = []
+
 pub states-table :
     -- "serials (to 2^48 - 2)"
-    (shownIn (on (new 3) [] [] (2 ^ 48 - 2)) ≡ (slot 7 (A (2 ^ 48 - 2)) ∷ [], 2 ^ 48 - 1)) × (shownIn (on (new 3) [] [] (2 ^ 48 - 1)) ≡ (slot 7 N ∷ [], 2 ^ 48 - 1))
+    (shownIn (on (new false 3) [] [] (2 ^ 48 - 2)) ≡ (slot 7 (A (2 ^ 48 - 2)) ∷ [], 2 ^ 48 - 1)) × (shownIn (on (new false 3) [] [] (2 ^ 48 - 1)) ≡ (slot 7 N ∷ [], 2 ^ 48 - 1))
     -- a number's block has no field; offset 0 is the number
     × (shownIn (on tload (slot 7 (F 2 0) ∷ []) int2 3) ≡ ([], 33)) × (shownIn (on tload (slot 7 (A 2) ∷ []) int2 3) ≡ (slot 3 8 ∷ [], 3)) × (shownIn (on tload (slot 7 (A 1) ∷ []) int2 3) ≡ ([], 33))
     × (shownIn (on delete (slot 7 (F 2 0) ∷ []) int2 3) ≡ ([], 33))
@@ -263,8 +306,15 @@ pub states-table :
     × (shownIn (on tload (slot 7 65535 ∷ []) [] 1) ≡ ([], 33)) × (shownIn (on tload (slot 7 N ∷ []) [] 1) ≡ ([], 36))
     -- by the whole payload: serial 1 is below serial 65536
     × (shownIn (on (two (cmp false)) (slot 7 (A 65536) ∷ slot 7 (A 1) ∷ []) [] 1) ≡ (slot 3 0xffffffff ∷ [], 1)) × (shownIn (on (two (cmp true)) (slot 7 (A 65536) ∷ slot 7 (A 1) ∷ []) [] 1) ≡ (slot 3 0xffffffff ∷ [], 1))
+    -- where serials have run out `gcnew` frees and packs all the same, then gives null; a slot of type 7 holds no block
+    × (shownIn (on (new true 3) [] managed2 (2 ^ 48 - 1)) ≡ (slot 8 N ∷ [], 2 ^ 48 - 1)) × (blocksIn (on (new true 3) [] managed2 (2 ^ 48 - 1)) ≡ [])
+    × (blocksIn (on (new true 3) (slot 8 (A 2) ∷ []) managed2 (2 ^ 48 - 1)) ≡ managed2) × (blocksIn (on (new true 3) (slot 7 (A 2) ∷ []) managed2 (2 ^ 48 - 1)) ≡ [])
+    × (blocksIn (on (new true 10) [] (ints 1 3) (2 ^ 48 - 1)) ≡ ints 0 1)
+    -- a payload means the same in both types; `delete` of what `new` did not give is 33
+    × (shownIn (on tload (slot 8 (A 2) ∷ []) int2 3) ≡ (slot 3 8 ∷ [], 3)) × (shownIn (on tload (slot 7 (A 2) ∷ []) managed2 3) ≡ (slot 3 8 ∷ [], 3)) × (shownIn (on tload (slot 8 0 ∷ slot 3 5 ∷ []) [] 1) ≡ (slot 3 5 ∷ slot 3 5 ∷ [], 1))
+    × (shownIn (on delete (slot 7 (A 2) ∷ []) managed2 3) ≡ ([], 33)) × (shownIn (on delete (slot 8 (A 2) ∷ []) managed2 3) ≡ ([], 31))
 unfolding on
-states-table = (refl, refl, refl, refl, refl, refl, refl, refl, refl, refl, refl, refl, refl)
+states-table = (refl, refl, refl, refl, refl, refl, refl, refl, refl, refl, refl, refl, refl, refl, refl, refl, refl, refl, refl, refl, refl, refl, refl)
 
 -- ---- refusals of edition 4: the header is 56 bytes, the record of function 0 at 56 + 48, the structures last
 
@@ -277,9 +327,9 @@ short = file4 [] [] [] [] []
 abbrev sixteen : List (List ℕ)
 sixteen = let pair : List (List ℕ) = (3 ∷ 6 ∷ []) ∷ (4 ∷ []) ∷ [] in pair ++ (pair ++ (pair ++ (pair ++ (pair ++ (pair ++ (pair ++ pair))))))
 
--- where the structures are: the header, 4 constants, 3 functions, 5 bytes of the entry, 6 + 1 + 6 of the functions
+-- where the structures are: the header, 4 constants, 5 functions, 5 bytes of the entry, 6 + 1 + 6 + 6 + 6 of the functions
 abbrev at-structures : ℕ
-at-structures = 56 + 48 + 72 + 5 + 13
+at-structures = 56 + 48 + 120 + 5 + 25
 
 pub files : List (List ℕ × ℕ)
 files =
@@ -294,12 +344,15 @@ files =
     -- the second record; 6 before 7
     ∷ (set whole (at-structures + 12) 0, 6) ∷ (set whole (at-structures + 13) 5, 6) ∷ (set (set whole (at-structures + 10) 1) 113 141, 6) ∷ (set whole (at-structures + 8) 3, 6) ∷ (file4 [] [] [] [] ((3 ∷ 4 ∷ 6 ∷ 3 ∷ 4 ∷ 6 ∷ 3 ∷ 4 ∷ []) ∷ []), 0)
     -- 7: return types and parameters; structure 13 is not declared
-    ∷ (set whole 113 139, 0) ∷ (set whole 113 141, 7) ∷ (set whole 113 137, 7) ∷ (set whole 113 131, 7) ∷ (set whole 113 128, 7) ∷ (set whole 113 202, 7) ∷ (set whole 113 6, 0)
-    ∷ (set whole 138 139, 0) ∷ (set whole 138 141, 7) ∷ (set whole 138 137, 7) ∷ (set whole 138 128, 7) ∷ (set whole 138 195, 7) ∷ (set whole 138 134, 0)
-    -- sixteen structures, 99 hex the last
-    ∷ (file4 [] (function (153 ∷ []) 153 (LOAD 0 ++ RET) ∷ []) [] [] sixteen, 0) ∷ (file4 [] (function (154 ∷ []) 0 RET ∷ []) [] [] sixteen, 7)
+    ∷ (set whole 113 139, 0) ∷ (set whole 113 141, 7) ∷ (set whole 113 137, 7) ∷ (set whole 113 131, 7) ∷ (set whole 113 128, 7) ∷ (set whole 113 6, 0)
+    ∷ (set whole 138 139, 0) ∷ (set whole 138 141, 7) ∷ (set whole 138 137, 7) ∷ (set whole 138 128, 7) ∷ (set whole 138 134, 0)
+    -- managed ones; C0 is no type of a signature
+    ∷ (set whole 113 192, 7) ∷ (set whole 113 194, 7) ∷ (set whole 113 195, 0) ∷ (set whole 113 196, 0) ∷ (set whole 113 197, 7) ∷ (set whole 113 198, 0) ∷ (set whole 113 201, 7) ∷ (set whole 113 202, 0) ∷ (set whole 113 203, 0) ∷ (set whole 113 204, 0) ∷ (set whole 113 205, 7)
+    ∷ (set whole 138 192, 7) ∷ (set whole 138 195, 0) ∷ (set whole 138 197, 7) ∷ (set whole 138 198, 0) ∷ (set whole 138 203, 0) ∷ (set whole 138 204, 0) ∷ (set whole 138 205, 7) ∷ (file [] (function (195 ∷ []) 0 RET ∷ []) [] [], 7) ∷ (file [] (function [] 195 RET ∷ []) [] [], 7)
+    -- sixteen structures, 99 and D9 hex the last
+    ∷ (file4 [] (function (153 ∷ []) 153 (LOAD 0 ++ RET) ∷ []) [] [] sixteen, 0) ∷ (file4 [] (function (154 ∷ []) 0 RET ∷ []) [] [] sixteen, 7) ∷ (file4 [] (function (217 ∷ []) 217 (LOAD 0 ++ RET) ∷ []) [] [] sixteen, 0) ∷ (file4 [] (function (218 ∷ []) 0 RET ∷ []) [] [] sixteen, 7)
     -- 8: `top`, 2F, is left out; edition 3 has none of these; an operand is not read from the structures
-    ∷ (file4 [] [] [] (0x2f ∷ []) [], 8) ∷ (file4 [] [] [] (0x33 ∷ []) [], 8) ∷ (file [] [] [] NULL, 8) ∷ (file [] [] [] (FLEA 0), 8) ∷ (file4 [] [] [] (0x31 ∷ []) [], 8) ∷ (file4 [] [] [] (0x31 ∷ 0 ∷ []) shapes, 8)
+    ∷ (file4 [] [] [] (0x2f ∷ []) [], 8) ∷ (file4 [] [] [] (0x35 ∷ []) [], 8) ∷ (file [] [] [] GCNULL, 8) ∷ (file [] [] [] (GCNEW 3), 8) ∷ (file4 [] [] [] (0x34 ∷ []) [], 8) ∷ (file [] [] [] NULL, 8) ∷ (file [] [] [] (FLEA 0), 8) ∷ (file4 [] [] [] (0x31 ∷ []) [], 8) ∷ (file4 [] [] [] (0x31 ∷ 0 ∷ []) shapes, 8)
     ∷ []
 
 pub refusals : List (List ℕ × ℕ) → List ℕ

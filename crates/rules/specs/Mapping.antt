@@ -32,7 +32,7 @@ mapped n i out x y = record { answer = record { number = n; rows = i }; output =
 abbrev pub takesNumbers : List Ty → Bool
 takesNumbers [] = true
 takesNumbers (num τ ∷ ts) = takesNumbers ts
-takesNumbers (ptr w ∷ ts) = false
+takesNumbers (ptr g w ∷ ts) = false
 
 -- the entry has none
 abbrev pub hasResult : Module → Body → Bool

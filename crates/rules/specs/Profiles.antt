@@ -6,7 +6,7 @@ use lib.ListN.{take, set}
 use Rattle.rules.specs.Answers.{Untyped, Accepted, Rejected, runNumber, Ran}
 use Rattle.rules.specs.Writing.{writeNumber, Unwritten, Written, wrote, Wrote}
 use Rattle.rules.specs.Stack.{Lent}
-use Rattle.rules.specs.Files.{PUSH, POP, LOAD, STORE, LEA, CMP, CALL, RET, NULL, NEW, DELETE, FLEA, Fn, function, functionFor, fileIn, file, file4, nines, lent, scratch, scratchHeap}
+use Rattle.rules.specs.Files.{PUSH, POP, LOAD, STORE, LEA, CMP, CALL, RET, NULL, NEW, DELETE, GCNULL, GCNEW, FLEA, Fn, function, functionFor, fileIn, file, file4, nines, lent, scratch, scratchHeap}
 use Rattle.rules.specs.Evaluate.{upNow, downNow, checkNow, runHeapNow}
 
 -- ---- runs
@@ -107,13 +107,14 @@ files =
     -- 1 before 2, also of edition 4 in 48 bytes; other editions are 2, before 3
     ∷ ([], (1, 1)) ∷ (take 47 third, (1, 1)) ∷ (take 55 (coded []), (1, 1)) ∷ (set (file [] [] [] []) 0 1, (2, 2)) ∷ (set third 0 2, (2, 2)) ∷ (set third 0 5, (2, 2)) ∷ (set (set third 0 5) 4 0, (2, 2)) ∷ (set third 0 4, (2, 5)) ∷ (set (fourthFor 0 0) 0 3, (5, 2))
     -- the reader's
-    ∷ (set third 4 0, (3, 2)) ∷ (set third 44 1, (4, 2)) ∷ (set third 12 47, (5, 2)) ∷ (set third 48 5, (6, 2)) ∷ (set third 81 5, (7, 2)) ∷ (set (coded POP) 56 0x33, (2, 8)) ∷ (file [] [] [] NULL, (8, 2)) ∷ (file [] [] ((0, 0) ∷ []) [], (9, 2))
+    ∷ (set third 4 0, (3, 2)) ∷ (set third 44 1, (4, 2)) ∷ (set third 12 47, (5, 2)) ∷ (set third 48 5, (6, 2)) ∷ (set third 81 5, (7, 2)) ∷ (set (coded POP) 56 0x35, (2, 8)) ∷ (file [] [] [] NULL, (8, 2)) ∷ (file [] [] ((0, 0) ∷ []) [], (9, 2))
     ∷ (set (fourthFor 1 0) 4 0, (2, 3)) ∷ (set (fourthFor 1 0) 44 1, (2, 4)) ∷ (set (fourthFor 1 0) 48 17, (2, 4)) ∷ (set (fourthFor 1 0) 52 0, (2, 5)) ∷ (set (fourthFor 1 0) 56 5, (2, 6)) ∷ (set (fourthFor 1 0) 89 5, (2, 7)) ∷ (file4 [] [] ((0, 0) ∷ []) NULL [], (2, 9))
     -- 18: a profile, of any function, each byte of the word; a structure, also one that is not used; what edition 3 lacks
     ∷ (fourthFor 1 0, (2, 18)) ∷ (fourthFor 0 1, (2, 18)) ∷ (fourthFor 0 256, (2, 18)) ∷ (fourthFor 0 0xff000000, (2, 18)) ∷ (file4 [] [] [] [] ((3 ∷ []) ∷ []), (2, 18)) ∷ (typed 138 0, (2, 18)) ∷ (typed 3 138, (2, 18)) ∷ (typed 3 3, (2, 18))
     ∷ (coded NULL, (2, 18)) ∷ (coded (NEW 3), (2, 18)) ∷ (coded DELETE, (2, 18)) ∷ (coded (FLEA 0), (2, 18)) ∷ (file4 [] (function [] 0 (RET ++ NULL) ∷ []) [] [] [], (2, 18)) ∷ (coded (PUSH 0 ++ NULL), (2, 18))
     -- of a third function too
     ∷ (file4 [] (function [] 0 RET ∷ function [] 0 RET ∷ functionFor 1 [] 0 RET ∷ []) [] [] [], (2, 18))
+    ∷ (file4 [] (function (195 ∷ []) 0 RET ∷ []) [] [] [], (2, 18)) ∷ (file4 [] (function [] 198 RET ∷ []) [] [] [], (2, 18)) ∷ (coded GCNULL, (2, 18)) ∷ (coded (GCNEW 3), (2, 18))
     -- but not an operand's byte; nor what has no typing
     ∷ (coded (PUSH 0x30303030), (2, 0)) ∷ (coded (PUSH 0x06060606 ++ POP), (2, 0)) ∷ (file [] [] [] (PUSH 0x31313131 ++ POP), (0, 2))
     ∷ []

@@ -110,8 +110,8 @@ pub opcodes-table : before 3 256 [] ≡ from-to 0x01 5 ++ (from-to 0x07 34 ++ (0
 unfolding refusalNow beginning before
 opcodes-table = refl
 
--- 02, A6: "It adds `null`, `new`, `delete`, `flea`"
-pub fourth-opcodes-table : before 4 256 [] ≡ from-to 0x01 40 ++ (0x2b ∷ 0x2c ∷ 0x2e ∷ 0x30 ∷ 0x31 ∷ 0x32 ∷ [])
+-- 02, A6: "It adds `null`, `new`, `delete`, `flea`"; A9: "Add .. `gcnull` and `gcnew`"
+pub fourth-opcodes-table : before 4 256 [] ≡ from-to 0x01 40 ++ (0x2b ∷ 0x2c ∷ 0x2e ∷ 0x30 ∷ 0x31 ∷ 0x32 ∷ 0x33 ∷ 0x34 ∷ [])
 unfolding refusalNow beginning before
 fourth-opcodes-table = refl
 

@@ -125,9 +125,13 @@ badStructures zs = some-below (structureCount zs) (badStructure zs)
 abbrev pub structureType : ℕ → ℕ → Bool
 structureType z t = leb 138 t && ltb t (138 + z)
 
--- "return type (one byte: 0, 3, 4, 6)"; "functions may return those", pointers to structures (02, A6)
-abbrev pub oddReturn : ℕ → ℕ → Bool
-oddReturn z t = differs t 0 && not (numberType t || structureType z t)
+-- "C3, C4, C6 and CA to D9 (hex) for managed pointers, which functions may take and return", in edition 4 (02, A9)
+abbrev pub managedType : ℕ → ℕ → ℕ → Bool
+managedType e z t = eqb e 4 && (eqb t 195 || eqb t 196 || eqb t 198 || (leb 202 t && ltb t (202 + z)))
+
+-- "return type (one byte: 0, 3, 4, 6)"; "functions may return those", pointers to structures (02, A6); in edition e
+abbrev pub oddReturn : ℕ → ℕ → ℕ → Bool
+oddReturn e z t = differs t 0 && not (numberType t || structureType z t || managedType e z t)
 
 -- "83, 84, 86 hex for pointer to one"; in edition 1 "No pointer types in signatures (7)" (02, A5)
 abbrev pub pointerType : ℕ → ℕ → Bool
@@ -135,7 +139,7 @@ pointerType e t = differs e 1 && (eqb t 131 || eqb t 132 || eqb t 134)
 
 -- "eight parameter type bytes (3, 4, 6, or 83, 84, 86 hex for pointer to one; unused are 0)", in edition e with z structures
 abbrev pub oddParam : ℕ → ℕ → Bool → ℕ → Bool
-oddParam e z used t = (used && not (numberType t || pointerType e t || structureType z t)) || (not used && differs t 0)
+oddParam e z used t = (used && not (numberType t || pointerType e t || structureType z t || managedType e z t)) || (not used && differs t 0)
 
 -- parameter byte j of the record at byte a
 unfoldable pub badParam : ℕ → ℕ → List ℕ → ℕ → ℕ → Bool
@@ -151,7 +155,7 @@ endBefore b (suc i) = endBefore b i + word 4 (b .functions) (functionAt (b .edit
 -- one byte), return type, .., two zero bytes"
 unfoldable pub badRecord : ℕ → ℕ → List ℕ → ℕ → ℕ → Bool
 badRecord e z s a from =
-    differs (word 4 s a) from || eqb (word 4 s (a + 4)) 0 || ltb 8 (byte s (a + 8)) || oddReturn z (byte s (a + 9))
+    differs (word 4 s a) from || eqb (word 4 s (a + 4)) 0 || ltb 8 (byte s (a + 8)) || oddReturn e z (byte s (a + 9))
     || some-below 8 (badParam e z s a) || differs (byte s (a + 18)) 0 || differs (byte s (a + 19)) 0
 
 unfoldable pub badFunction : Bodies → ℕ → Bool

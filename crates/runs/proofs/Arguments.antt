@@ -16,6 +16,7 @@ use Rattle.rules.specs.Instructions.{Ty, num, ptr, pointeeOf, tyOf}
 use Rattle.rules.specs.Tables.{paramsFrom}
 use Rattle.rules.specs.Stack.{slotAt, slotsOf}
 use Rattle.rules.specs.Answers.{declared, admitted}
+use Rattle.soundness.specs.Tests.{decide}
 use Rattle.format.proofs.Tests.{and-left, and-right, and-no}
 use Rattle.memory.proofs.Words.{drop-written, length-written}
 use Rattle.state.specs.Slots.{payloadsWith, typesWith}
@@ -24,7 +25,14 @@ use Rattle.runs.specs.Runs.{lentOf, suits, Copied}
 
 -- ---- one argument
 
+-- what a type byte is that is no number's
+abbrev pub pointerBy : ℕ → Ty
+pointerBy b = cond (ltb b 192) (ptr false (pointeeOf (b - 128))) (ptr true (pointeeOf (b - 192)))
+
 module _ (b : ℕ) (v : Slot) where
+  none-suits : false ≡ suits (pointerBy b) v
+  none-suits = decide (ltb b 192) (λ y. rw y refl) (λ y. rw y refl)
+
   pub suits-int : v .kind ≡ b → b ≡ 3 → ltb (v .payload) 4294967296 ≡ suits (tyOf b) v
   suits-int k e = rw e (rw (eq-eqb (v .kind) 3 (k ∙ e)) refl)
 
@@ -33,31 +41,31 @@ module _ (b : ℕ) (v : Slot) where
 
   -- a double, or a pointer, for which there is no value
   pub suits-last : v .kind ≡ b → (b ≡ 3 → ⊥) → (b ≡ 4 → ⊥) → eqb b 6 ≡ suits (tyOf b) v
-  suits-last k n3 n4 = rw (ne-eqb b 3 n3, ne-eqb b 4 n4) (go (eqb b 6) refl)
+  suits-last k n3 n4 = rw (ne-eqb b 3 n3, ne-eqb b 4 n4) (go (eqb b 6) (pointerBy b) none-suits refl)
     where
-      go : (x : Bool) → eqb b 6 ≡ x → x ≡ suits (cond x (num double) (ptr (pointeeOf (b - 128)))) v
-      go true e = rw (eq-eqb (v .kind) 6 (k ∙ eqb-true b 6 e)) refl
-      go false e = refl
+      go : (x : Bool) (w : Ty) → false ≡ suits w v → eqb b 6 ≡ x → x ≡ suits (cond x (num double) w) v
+      go true w h e = rw (eq-eqb (v .kind) 6 (k ∙ eqb-true b 6 e)) refl
+      go false w h e = h
 
   pub suits-not : (v .kind ≡ b → ⊥) → false ≡ suits (tyOf b) v
-  suits-not k = go (eqb b 3) (eqb b 4) (eqb b 6) refl refl refl
+  suits-not k = go (eqb b 3) (eqb b 4) (eqb b 6) (pointerBy b) none-suits refl refl refl
     where
-      go : (x y z : Bool) → eqb b 3 ≡ x → eqb b 4 ≡ y → eqb b 6 ≡ z
-          → false ≡ suits (cond x (num int) (cond y (num long) (cond z (num double) (ptr (pointeeOf (b - 128)))))) v
-      go true y z ex ey ez = rw (ne-eqb (v .kind) 3 (λ q. k (q ∙ sym (eqb-true b 3 ex)))) refl
-      go false true z ex ey ez = rw (ne-eqb (v .kind) 4 (λ q. k (q ∙ sym (eqb-true b 4 ey)))) refl
-      go false false true ex ey ez = rw (ne-eqb (v .kind) 6 (λ q. k (q ∙ sym (eqb-true b 6 ez)))) refl
-      go false false false ex ey ez = refl
+      go : (x y z : Bool) (w : Ty) → false ≡ suits w v → eqb b 3 ≡ x → eqb b 4 ≡ y → eqb b 6 ≡ z
+          → false ≡ suits (cond x (num int) (cond y (num long) (cond z (num double) w))) v
+      go true y z w h ex ey ez = rw (ne-eqb (v .kind) 3 (λ q. k (q ∙ sym (eqb-true b 3 ex)))) refl
+      go false true z w h ex ey ez = rw (ne-eqb (v .kind) 4 (λ q. k (q ∙ sym (eqb-true b 4 ey)))) refl
+      go false false true w h ex ey ez = rw (ne-eqb (v .kind) 6 (λ q. k (q ∙ sym (eqb-true b 6 ez)))) refl
+      go false false false w h ex ey ez = h
 
 -- ---- all of them
 
 declared-cons : (x : Ty) (ts : List Ty) (v : Slot) (vs : List Slot) → declared (x ∷ ts) (v ∷ vs) ≡ (suits x v && declared ts vs)
 declared-cons (num τ) ts v vs = refl
-declared-cons (ptr τ) ts v vs = refl
+declared-cons (ptr g w) ts v vs = refl
 
 declared-none : (x : Ty) (ts : List Ty) → declared (x ∷ ts) [] ≡ false
 declared-none (num τ) ts = refl
-declared-none (ptr τ) ts = refl
+declared-none (ptr g w) ts = refl
 
 -- the type bytes are at a of the file s; p and t are the arguments
 module _ (s : List ℕ) (a : ℕ) (p t : List ℕ) where

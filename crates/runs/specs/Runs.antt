@@ -114,7 +114,7 @@ isOver n = not (eqb n 20 || left n)
 -- v is a value for a parameter of this type
 abbrev pub suits : Ty → Slot → Bool
 suits (num τ) v = eqb (v .kind) (numKind τ) && fits τ (v .payload)
-suits (ptr τ) v = false
+suits (ptr g w) v = false
 
 -- the n slots of a and b are the first of p and t, now p′ and t′; the others are as they were
 pub record Copied (a b p t : List ℕ) (n : ℕ) (p′ t′ : List ℕ) : Type 0 where

@@ -36,14 +36,14 @@ declared-narrow B (num τ ∷ ts) (v ∷ vs) h =
     fitting int q f = ltb-is (v .payload) (2 ^ 32) f
     fitting long q f = absurd (omega arith)
     fitting double q f = absurd (omega arith)
-declared-narrow B (ptr w ∷ ts) (v ∷ vs) h = false-true h
+declared-narrow B (ptr g w ∷ ts) (v ∷ vs) h = false-true h
 
 declared-length : (ts : List Ty) (vs : List Slot) → declared ts vs ≡ true → length vs ≡ length ts
 declared-length [] [] h = refl
 declared-length [] (v ∷ vs) h = false-true h
 declared-length (t ∷ ts) [] h = false-true h
 declared-length (num τ ∷ ts) (v ∷ vs) h = ap suc (declared-length ts vs (and-both (eqb (v .kind) (numKind τ) && fits τ (v .payload)) (declared ts vs) h .1))
-declared-length (ptr w ∷ ts) (v ∷ vs) h = false-true h
+declared-length (ptr g w ∷ ts) (v ∷ vs) h = false-true h
 
 few-params : (m : Module) → Orderly m → (b : Body) (x : ℕ × List Ty) → startOf m b ≡ some x → length (x .1) ≤ 8
 few-params m O entry x e = let q : length (x .1) ≡ 0 = ap (λ (z : ℕ × List Ty). length (z .1)) (sym (some-inj (0, []) x e)) in omega arith

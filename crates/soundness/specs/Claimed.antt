@@ -19,7 +19,7 @@ use Rattle.soundness.specs.Readable.{Orderly, orderly, cut-from}
 use Rattle.soundness.specs.Cutting.{good-file}
 use Rattle.soundness.specs.Started.{All, all-at, Closed, Fit, has-instruction, moment-fit, left-fit, run-range}
 use Rattle.soundness.specs.Layout.{each-map}
-use Rattle.soundness.specs.Heaps.{CellsOk, HeapOk}
+use Rattle.soundness.specs.Heaps.{CellsOk, HeapOk, packing-keeps}
 use Rattle.soundness.specs.Narrow.{Narrow, narrow-closed}
 use Rattle.soundness.specs.Begun.{start-fit}
 use Rattle.soundness.specs.Whole.{run-readable, started, scan-started, answered-number}
@@ -72,5 +72,6 @@ claims =
       left-narrow = λ s B f args e cap l n k o h. narrow-left s f args e B cap l n k o h;
       heap-laid = λ s f args e cap t h. at-moment s f args e cap t h .heap .places;
       returned = returned;
+      packing-keeps = packing-keeps;
       cut-from = cut-from;
     }

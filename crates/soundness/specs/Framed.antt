@@ -10,7 +10,7 @@ use lib.ListN.{length}
 use lib.Dec.{leb, ltb, eqb}
 use Rattle.soundness.specs.Names.{Slot, Condition, Instruction, push, load, store, lea, one, two, tload, tstore, bump, jmp, branch, call, ret, null, new, delete, flea}
 use Rattle.rules.specs.Bytes.{maybe}
-use Rattle.rules.specs.Instructions.{Ty, kindOf, size}
+use Rattle.rules.specs.Instructions.{Ty, isPointer, kindOf, size}
 use Rattle.rules.specs.Tables.{Function, Module, fn}
 use Rattle.rules.specs.Stack.{slot, pointerTo, at, put}
 use Rattle.rules.specs.Heap.{Heap, nullAddress, serialIn, Spot, onStack, nowhere, this, targetOf}
@@ -33,8 +33,8 @@ heapless (jmp l) = true
 heapless (branch c l) = true
 heapless (call k) = true
 heapless ret = true
-heapless null = false
-heapless (new n) = false
+heapless (null g) = false
+heapless (new g n) = false
 heapless delete = false
 heapless (flea n) = false
 
@@ -127,8 +127,8 @@ module _ (h : Heap) where
     framed-exec (call k) e st f cs = onto-maybe (m .function k) (stops 28) (stops 28) (λ F. calling M k F st f cs) (λ F. calling N k F st f cs) refl (λ F. onto-calling k F st f cs)
     framed-exec ret e st f cs =
         onto-maybe (own m (f .body)) (stops 30) (stops 30) (λ F. returning M (F .result) st f cs) (λ F. returning N (F .result) st f cs) refl (λ F. onto-returning (F .result) st f cs)
-    framed-exec null e st f cs = false-true e
-    framed-exec (new n) e st f cs = false-true e
+    framed-exec (null g) e st f cs = false-true e
+    framed-exec (new g n) e st f cs = false-true e
     framed-exec delete e st f cs = false-true e
     framed-exec (flea n) e st f cs = false-true e
 
@@ -142,7 +142,7 @@ framed m cap i e h s = framed-exec h m cap (s .memory) i e (s .memory .stack) (g
 -- the operand with n others above it, where a frame with this floor has one and it is a pointer, is no address of a block
 abbrev pub StackAddress : ℕ → ℕ → List Slot → Type 0
 StackAddress fl n [] = Unit {0}
-StackAddress fl zero (v ∷ st) = leb fl (length st) ≡ true → eqb (v .kind) 7 ≡ true → serialIn (v .payload) ≡ 0
+StackAddress fl zero (v ∷ st) = leb fl (length st) ≡ true → isPointer (v .kind) ≡ true → serialIn (v .payload) ≡ 0
 StackAddress fl (suc n) (v ∷ st) = StackAddress fl n st
 
 -- the same of the top frame of a state
@@ -162,10 +162,10 @@ module _ (h : Heap) (m : Module) (cap : ℕ) (M : Memory) where
       go none = refl
       go (some w) = q a w
 
-  onto-deref : (p : Slot) (st : List Slot) (k k′ : Spot → Slot → Next) → (eqb (p .kind) 7 ≡ true → serialIn (p .payload) ≡ 0) → ((s : ℕ) (w : Slot) → k′ (onStack s) w ≡ onto h (k (onStack s) w))
+  onto-deref : (p : Slot) (st : List Slot) (k k′ : Spot → Slot → Next) → (isPointer (p .kind) ≡ true → serialIn (p .payload) ≡ 0) → ((s : ℕ) (w : Slot) → k′ (onStack s) w ≡ onto h (k (onStack s) w))
       → deref m N′ p st k′ ≡ onto h (deref m M p st k)
   onto-deref p st k k′ a q =
-      onto-cond h (eqb (p .kind) 7) _ (stops 31) _ (stops 31)
+      onto-cond h (isPointer (p .kind)) _ (stops 31) _ (stops 31)
       (λ e. onto-cond h (eqb (p .payload) nullAddress) (stops 36) (asNumber (targetOf m (M .heap) st (p .payload)) k) (stops 36) (asNumber (targetOf m h st (p .payload)) k′)
       (λ n. refl) (onto-number st (p .payload) k k′ (a e) q)) refl
 
@@ -180,7 +180,7 @@ module _ (h : Heap) (m : Module) (cap : ℕ) (M : Memory) where
   onto-bump u (p ∷ r) f cs a =
       onto-cond h (leb (f .floor) (length r)) _ (stops 21) _ (stops 21)
       (λ e. onto-deref p r (λ x w. bumping M u x w r f cs) (λ x w. bumping N′ u x w r f cs) (a e)
-      (λ s w. onto-cond h (eqb (w .kind) 7) (stops 32) (assign M (onStack s) (slot (w .kind) (bumped u (w .kind) (w .payload))) r f cs) (stops 32)
+      (λ s w. onto-cond h (isPointer (w .kind)) (stops 32) (assign M (onStack s) (slot (w .kind) (bumped u (w .kind) (w .payload))) r f cs) (stops 32)
       (assign N′ (onStack s) (slot (w .kind) (bumped u (w .kind) (w .payload))) r f cs) (λ g. refl) refl)) refl
 
   onto-tstore : (st : List Slot) (f : Frame) (cs : List Frame) → StackAddress (f .floor) 1 st → exec m cap N′ tstore st f cs ≡ onto h (exec m cap M tstore st f cs)

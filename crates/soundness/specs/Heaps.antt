@@ -1,24 +1,24 @@
--- Laws of the heap: what an address is to, and what `new`, `delete` and writes do to blocks and addresses.
+-- Laws of the heap: what an address is to, and what `new`, `delete`, `gcnew` and writes do to blocks and addresses.
 use mathlib.Core.Path.{_≡_, refl, sym, ap, _∙_, subst}
 use mathlib.Core.Logic.{_≢_, _⊎_, inl, inr}
-use Prim.Native.Nat.{ℕ, zero, suc, _+_, _≤_, _<_}
+use Prim.Native.Nat.{ℕ, zero, suc, _+_, _-_, _*_, _/_, _%_, _≤_, _<_}
 use native.Mathlib.Omega.{arith}
-use mathlib.Core.Bool.{true, false}
+use mathlib.Core.Bool.{Bool, true, false, not, cond, _&&_, _||_}
 use mathlib.Core.Option.{Option, none, some}
-use mathlib.Core.List.{List}
-use lib.ListN.{length, getD, set, length-replicate}
+use mathlib.Core.List.{List, [], _∷_, _++_}
+use lib.ListN.{length, getD, set, replicate, length-replicate}
 use lib.Seq.{set-out, getD-set-same, getD-set-other}
-use lib.Dec.{ltb, eqb}
+use lib.Dec.{ltb, leb, eqb}
 use Rattle.soundness.specs.Names.{Slot, Num}
 use Rattle.rules.specs.Bytes.{maybe, zeros}
-use Rattle.rules.specs.Instructions.{Pointee, void, cell, struct, numKind, numOf}
+use Rattle.rules.specs.Instructions.{Pointee, void, cell, struct, numKind, numOf, isPointer}
 use Rattle.rules.specs.Tables.{Module}
 use Rattle.rules.specs.Stack.{slot, at}
-use Rattle.rules.specs.Heap.{serialIn, offsetIn, blockAddress, fieldAddress, nullAddress, Shape, single, fields, shapeOf, cellsIn, pointeeIn, Block, Heap, having, find, Spot, onStack, inHeap, nowhere, this, fieldIn, targetIn, targetOf, withCell, stored, placeFor, heapWith, addressGiven, without, lowestRun, apart, serialLimit}
+use Rattle.rules.specs.Heap.{serialIn, offsetIn, blockAddress, fieldAddress, nullAddress, Shape, single, fields, shapeOf, cellsIn, pointeeIn, Block, Heap, having, find, Spot, onStack, inHeap, Target, nowhere, entire, this, fieldIn, targetIn, targetOf, withCell, stored, placeFor, heapWith, addressGiven, without, held, swept, total, moved, packed, lowestRun, roomy, collected, apart, serialLimit}
 use Rattle.rules.specs.Machine.{Next, stops, asNumber, asStructure}
-use Rattle.rules.specs.Claims.{Each, HeapLaid, cellType}
-use Rattle.soundness.specs.Layout.{each-find, each-stored, each-without, each-map, find-serial, run-is-free, laid-without, laid-stored}
-use Rattle.soundness.specs.Tests.{decide, none-some, some-inj, eqb-is, eqb-isnt, eqb-other, ltb-is, ltb-isnt}
+use Rattle.rules.specs.Claims.{Each, Laid, HeapLaid, cellType}
+use Rattle.soundness.specs.Layout.{each-find, each-stored, each-without, each-swept, each-packed, each-collected, each-map, find-serial, collected-next, run-is-free, laid-without, laid-stored, laid-collected}
+use Rattle.soundness.specs.Tests.{decide, none-some, some-inj, eqb-is, eqb-isnt, eqb-same, eqb-other, ltb-is, ltb-isnt}
 
 -- ---- what an address is to, of a shape
 
@@ -96,15 +96,20 @@ module _ (m : Module) (h : Heap) (a : ℕ) (w : Pointee) where
   pub address-without : (s : ℕ) → Address m h a w → Address m (having h (without (h .blocks) s)) a w
   address-without s = address-blocks (having h (without (h .blocks) s)) (omega arith) (λ l e. each-without (BlockFits m a w) (h .blocks) s e)
 
-  pub address-given : (t n : ℕ) (o : Option ℕ) → Address m h a w → Address m (heapWith h t n o) a w
-  address-given t n none d = d
-  address-given t n (some c) d = address-blocks (heapWith h t n (some c)) (omega arith) (λ l e. ((λ q. absurd (omega arith)), e)) d
+  pub address-collected : (n : ℕ) (st : List Slot) → Address m h a w → Address m (collected n st h) a w
+  address-collected n st =
+      let q : collected n st h .next ≡ h .next = collected-next n st h .0 in
+      address-blocks (collected n st h) (omega arith) (λ l e. each-collected (BlockFits m a w) (λ b c k. k) n st h e)
+
+  pub address-given : (t : ℕ) (g : Bool) (n : ℕ) (o : Option ℕ) → Address m h a w → Address m (heapWith h t g n o) a w
+  address-given t g n none d = d
+  address-given t g n (some c) d = address-blocks (heapWith h t g n (some c)) (omega arith) (λ l e. ((λ q. absurd (omega arith)), e)) d
 
 -- the address that `new` gives
-pub given-address : (m : Module) (h : Heap) (t : ℕ) (z : Shape) (o : Option ℕ) → m .edition ≡ 4 → shapeOf m t ≡ some z → 1 ≤ h .next
-    → Each (λ b. b .serial < h .next) (h .blocks) → Address m (heapWith h t (cellsIn z) o) (addressGiven h o) (pointeeIn t z)
-given-address m h t z none e q l f = (e, inl refl)
-given-address m h t z (some c) e q l f =
+pub given-address : (m : Module) (h : Heap) (t : ℕ) (g : Bool) (z : Shape) (o : Option ℕ) → m .edition ≡ 4 → shapeOf m t ≡ some z → 1 ≤ h .next
+    → Each (λ b. b .serial < h .next) (h .blocks) → Address m (heapWith h t g (cellsIn z) o) (addressGiven h o) (pointeeIn t z)
+given-address m h t g z none e q l f = (e, inl refl)
+given-address m h t g z (some c) e q l f =
     let a : ℕ = blockAddress (h .next) in
     let r : serialIn a ≡ h .next = omega arith in
     let o : offsetIn a ≡ 0 = omega arith in
@@ -225,6 +230,38 @@ field-address m h a k n fs τ e q r l g u E =
     let o : offsetIn c ≡ suc n = omega arith in
     (e, inr (omega arith, omega arith, each-map (BlockFits m a (struct k)) (BlockFits m c (cell τ)) (λ b F p. let x : (b .type ≡ k) × (offsetIn a ≡ 0) = F (p ∙ s) in rw (ap (shapeOf m) (x .0) ∙ q, o) r) (h .blocks) E))
 
+-- ---- "Packing changes no payload and no value read through a pointer" (A9)
+
+find-packed : (bs : List Block) (s : ℕ) → ((find (packed bs) s ≡ none) × (find bs s ≡ none)) ⊎ ((b : Block) × (c : ℕ) × (find bs s ≡ some b) × (find (packed bs) s ≡ some (moved b c)))
+find-packed [] s = inl (refl, refl)
+find-packed (b ∷ bs) s =
+    decide (eqb (b .serial) s) (λ y. inr (b, total bs, rw y refl, rw y refl))
+    (λ y. go y (find-packed bs s))
+  where
+    go : eqb (b .serial) s ≡ false → ((find (packed bs) s ≡ none) × (find bs s ≡ none)) ⊎ ((d : Block) × (c : ℕ) × (find bs s ≡ some d) × (find (packed bs) s ≡ some (moved d c)))
+        → ((find (packed (b ∷ bs)) s ≡ none) × (find (b ∷ bs) s ≡ none)) ⊎ ((d : Block) × (c : ℕ) × (find (b ∷ bs) s ≡ some d) × (find (packed (b ∷ bs)) s ≡ some (moved d c)))
+    go y (inl x) = inl (rw y (x .0), rw y (x .1))
+    go y (inr x) = inr (x .0, x .1, rw y (x .2), rw y (x .3))
+
+-- every address is to the same thing, with the same payload, before and after; the slots are no part of it
+pub packing-keeps : (m : Module) (h : Heap) (st : List Slot) (a : ℕ) → targetOf m (having h (packed (h .blocks))) st a ≡ targetOf m h st a
+unfolding targetOf
+packing-keeps m h st a = decide (eqb (serialIn a) 0) (λ y. rw y refl) (λ y. rw y (go (find-packed (h .blocks) (serialIn a))))
+  where
+    same : (b : Block) (c : ℕ) (z : Option Shape) (o : ℕ) → targetIn (moved b c) z o ≡ targetIn b z o
+    same b c none o = refl
+    same b c (some (single τ)) zero = refl
+    same b c (some (single τ)) (suc i) = refl
+    same b c (some (fields fs)) zero = refl
+    same b c (some (fields fs)) (suc i) = refl
+
+    go : ((find (packed (h .blocks)) (serialIn a) ≡ none) × (find (h .blocks) (serialIn a) ≡ none))
+        ⊎ ((b : Block) × (c : ℕ) × (find (h .blocks) (serialIn a) ≡ some b) × (find (packed (h .blocks)) (serialIn a) ≡ some (moved b c)))
+        → maybe (find (packed (h .blocks)) (serialIn a)) nowhere (λ b. targetIn b (shapeOf m (b .type)) (offsetIn a))
+        ≡ maybe (find (h .blocks) (serialIn a)) nowhere (λ b. targetIn b (shapeOf m (b .type)) (offsetIn a))
+    go (inl x) = rw (x .0, x .1) refl
+    go (inr x) = rw (x .2, x .3) (same (x .0) (x .1) (shapeOf m (x .0 .type)) (offsetIn a))
+
 -- ---- what holds of the heap at every moment: serials are below the next, and every cell has the property P of slots
 
 abbrev pub CellsOk : Module → (Slot → Type 0) → Block → Type 0
@@ -278,10 +315,23 @@ module _ (m : Module) (P : Slot → Type 0) where
         cells = each-without (CellsOk m P) (h .blocks) s (H .cells);
       }
 
-  pub heap-given : ((τ : Num) → P (slot (numKind τ) 0)) → (h : Heap) (t : ℕ) (z : Shape) → shapeOf m t ≡ some z → HeapOk m P h → HeapOk m P (heapWith h t (cellsIn z) (placeFor h (cellsIn z)))
-  heap-given zero-ok h t z q H = decide (ltb (h .next) serialLimit) (λ y. rw y (go (lowestRun h (cellsIn z)) refl (ltb-is (h .next) serialLimit y))) (λ y. rw y H)
+  pub heap-collected : (n : ℕ) (st : List Slot) (h : Heap) → HeapOk m P h → HeapOk m P (collected n st h)
+  heap-collected n st h H =
+      let q : collected n st h .next ≡ h .next = collected-next n st h .0 in
+      record {
+        places = record {
+          from-1 = rw q (H .places .from-1);
+          to-limit = rw q (H .places .to-limit);
+          serials = rw q (each-collected (λ b. b .serial < h .next) (λ b c k. k) n st h (H .places .serials));
+          laid = laid-collected m n st h (H .places .laid);
+        };
+        cells = each-collected (CellsOk m P) (λ b c k. k) n st h (H .cells);
+      }
+
+  pub heap-given : ((τ : Num) → P (slot (numKind τ) 0)) → (h : Heap) (t : ℕ) (g : Bool) (z : Shape) → shapeOf m t ≡ some z → HeapOk m P h → HeapOk m P (heapWith h t g (cellsIn z) (placeFor h (cellsIn z)))
+  heap-given zero-ok h t g z q H = decide (ltb (h .next) serialLimit) (λ y. rw y (go (lowestRun h (cellsIn z)) refl (ltb-is (h .next) serialLimit y))) (λ y. rw y H)
     where
-      go : (o : Option ℕ) → lowestRun h (cellsIn z) ≡ o → h .next < serialLimit → HeapOk m P (heapWith h t (cellsIn z) o)
+      go : (o : Option ℕ) → lowestRun h (cellsIn z) ≡ o → h .next < serialLimit → HeapOk m P (heapWith h t g (cellsIn z) o)
       go none e l = H
       go (some c) e l =
           let n : ℕ = cellsIn z in

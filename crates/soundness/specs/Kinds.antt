@@ -1,16 +1,16 @@
--- Every type number in a run is 3, 4, 6 or 7.
-use mathlib.Core.Path.{_≡_, refl, subst}
+-- Every type number in a run is 3, 4, 6, 7 or 8.
+use mathlib.Core.Path.{_≡_, refl, sym, subst}
 use mathlib.Core.Logic.{_⊎_, inl, inr}
 use Prim.Native.Nat.{ℕ, _≤_}
 use native.Mathlib.Omega.{arith}
-use mathlib.Core.Bool.{true, _&&_}
+use mathlib.Core.Bool.{true, false, _&&_}
 use mathlib.Core.Option.{some}
 use mathlib.Core.List.{List, [], _∷_}
 use lib.ListN.{length}
 use lib.Dec.{eqb, ltb}
 use Rattle.soundness.specs.Names.{Num, int, long, double, Slot, Unary, pop, copy, neg, complement, convert, count, Binary, swap, arith as arithmetic, cmp}
 use Rattle.rules.specs.Bytes.{byte}
-use Rattle.rules.specs.Instructions.{Ty, num, ptr, numKind}
+use Rattle.rules.specs.Instructions.{Ty, num, ptr, numKind, isPointer}
 use Rattle.rules.specs.Tables.{constantCount, constantAt, constantOf, bodyOf, Module, moduleOf}
 use Rattle.rules.specs.ModuleFile.{constantsIn, refusal, read}
 use Rattle.rules.specs.Stack.{Lent}
@@ -27,9 +27,9 @@ use Rattle.soundness.specs.Heaps.{CellsOk, HeapOk}
 use Rattle.soundness.specs.Begun.{start-fits}
 use Rattle.soundness.specs.Whole.{run-readable, started}
 
--- int, long, double, pointer
+-- int, long, double, pointer, managed pointer
 abbrev pub Kind : ℕ → Type 0
-Kind k = (k ≡ 3) ⊎ ((k ≡ 4) ⊎ ((k ≡ 6) ⊎ (k ≡ 7)))
+Kind k = (k ≡ 3) ⊎ ((k ≡ 4) ⊎ ((k ≡ 6) ⊎ ((k ≡ 7) ⊎ (k ≡ 8))))
 
 abbrev pub OfKind : Slot → Type 0
 OfKind v = Kind (v .kind)
@@ -38,11 +38,15 @@ abbrev pub Kinded : List Slot → Type 0
 Kinded st = All OfKind st
 
 -- what is none of the others is a long
-pub long-kind : (k : ℕ) → Kind k → (k ≡ 3 → ⊥) → (k ≡ 6 → ⊥) → (k ≡ 7 → ⊥) → k ≡ 4
+pub long-kind : (k : ℕ) → Kind k → (k ≡ 3 → ⊥) → (k ≡ 6 → ⊥) → (isPointer k ≡ false) → k ≡ 4
 long-kind k (inl q) a b c = absurd (a q)
 long-kind k (inr (inl q)) a b c = q
 long-kind k (inr (inr (inl q))) a b c = absurd (b q)
-long-kind k (inr (inr (inr q))) a b c = absurd (c q)
+long-kind k (inr (inr (inr (inl q)))) a b c = false-true (sym (rw q at c))
+long-kind k (inr (inr (inr (inr q)))) a b c = false-true (sym (rw q at c))
+
+pub pointer-kind : (k : ℕ) → isPointer k ≡ true → Kind k
+pointer-kind k e = decide (eqb k 7) (λ y. inr (inr (inr (inl (eqb-is k 7 y))))) (λ y. inr (inr (inr (inr (eqb-is k 8 (rw y at e))))))
 
 number-kind : (k : ℕ) → NumberByte k → Kind k
 number-kind k (inl q) = inl q
@@ -81,7 +85,7 @@ pub kinds-closed : (s : List ℕ) → refusal s ≡ 0 → Closed (read s) OfKind
 kinds-closed s e =
     record {
       constants = constant-kind s e;
-      pointers = λ x. inr (inr (inr refl));
+      pointers = λ k x e. pointer-kind k e;
       zeros = num-kind;
       ones = λ o v p. applied OfKind (refuse (class1 o) (v .kind) (v .kind)) (refuse-raises (class1 o) (v .kind) (v .kind)) (eval1 o v) (ones o v p);
       twos = λ o v w p q. applied OfKind (refuse (class2 o) (v .kind) (w .kind)) (refuse-raises (class2 o) (v .kind) (w .kind)) (eval2 o v w) (twos o v w p q);
@@ -98,7 +102,7 @@ declared-kinds (num τ ∷ ts) (v ∷ vs) h =
     let a : ((eqb (v .kind) (numKind τ) && fits τ (v .payload)) ≡ true) × (declared ts vs ≡ true) = and-both (eqb (v .kind) (numKind τ) && fits τ (v .payload)) (declared ts vs) h in
     let b : (eqb (v .kind) (numKind τ) ≡ true) × (fits τ (v .payload) ≡ true) = and-both (eqb (v .kind) (numKind τ)) (fits τ (v .payload)) (a .0) in
     (rw (eqb-is (v .kind) (numKind τ) (b .0)) (num-kind τ), declared-kinds ts vs (a .1))
-declared-kinds (ptr w ∷ ts) (v ∷ vs) h = false-true h
+declared-kinds (ptr g w ∷ ts) (v ∷ vs) h = false-true h
 
 pub start-kinds : (s : List ℕ) (f : ℕ) (args : Lent) → runRefusal s f args ≡ 0 → (cap n : ℕ) → length (arguments args) ≤ cap
     → Fit (read s) OfKind cap (startState (read s) (bodyOf f) (arguments args) n)

@@ -17,12 +17,13 @@ use Rattle.soundness.specs.Names.{Num, int, long, double, Slot, Operator
 use Rattle.rules.specs.Bytes.{byte, number, word, maybe}
 use Rattle.rules.specs.Words.{signedOf, patternOf, idivOf, imodOf, shlOf, shrOf, sarOf, notOf, orderOf, cmpOf, icmpOf}
 use Rattle.rules.specs.Doubles.{decodeOf, truncated, cutFits, cutOf}
+use Rattle.rules.specs.Instructions.{isPointer}
 use Rattle.rules.specs.Tables.{constantCount, constantAt, badConstants, differs, oddConstant, badConstant, constantOf, Module, moduleOf}
 use Rattle.rules.specs.ModuleFile.{constants, constantsAt, constantsIn, refusal, read}
 use Rattle.rules.specs.Stack.{slot, pointerTo}
 use Rattle.rules.specs.Operations.{low, onWords, computed, zeroDivide, negated, complemented, converted, compared, unordered, bumped, Class, any, number as numbers, whole, class1, class2, refuse, Result, yields, raises, eval1, eval2, apply1, apply2, unfit}
 use Rattle.rules.specs.Claims.{RunEnd, AreBytes, no-fit}
-use Rattle.soundness.specs.Tests.{decide, none-some, some-inj, eqb-is, ltb-is, or-neither, not-false}
+use Rattle.soundness.specs.Tests.{decide, none-some, some-inj, eqb-is, ltb-is, or-neither, not-false, false-true}
 use Rattle.soundness.specs.Readable.{good-constant, constant-word}
 use Rattle.soundness.specs.Cutting.{constants-good, bytes-cut}
 use Rattle.soundness.specs.Started.{All, Yielded, Closed, exception}
@@ -100,10 +101,10 @@ compared-narrow : (s : Bool) (k x y : ℕ) → compared s k x y < 2 ^ 32
 unfolding compared cmpOf icmpOf
 compared-narrow false k x y =
     decide (eqb k 3) (λ a. rw a (order-narrow _ _))
-    (λ a. decide (eqb k 4) (λ b. rw (a, b) (order-narrow _ _)) (λ b. decide (eqb k 7) (λ c. rw (a, b, c) (order-narrow _ _)) (λ c. rw (a, b, c) (order-narrow _ _))))
+    (λ a. decide (eqb k 4) (λ b. rw (a, b) (order-narrow _ _)) (λ b. decide (isPointer k) (λ c. rw (a, b, c) (order-narrow _ _)) (λ c. rw (a, b, c) (order-narrow _ _))))
 compared-narrow true k x y =
     decide (eqb k 3) (λ a. rw a (order-narrow _ _))
-    (λ a. decide (eqb k 4) (λ b. rw (a, b) (order-narrow _ _)) (λ b. decide (eqb k 7) (λ c. rw (a, b, c) (order-narrow _ _)) (λ c. rw (a, b, c) (order-narrow _ _))))
+    (λ a. decide (eqb k 4) (λ b. rw (a, b) (order-narrow _ _)) (λ b. decide (isPointer k) (λ c. rw (a, b, c) (order-narrow _ _)) (λ c. rw (a, b, c) (order-narrow _ _))))
 
 -- ---- what operations raise
 
@@ -114,13 +115,16 @@ Refusal (some e) = RunEnd e
 pub refuse-raises : (c : Class) (a b : ℕ) → Refusal (refuse c a b)
 refuse-raises any a b = decide (eqb a b) (λ y. rw y tt) (λ y. rw y (exception 22 (omega arith) (omega arith)))
 refuse-raises numbers a b =
-    decide (eqb a 7 || eqb b 7) (λ x. rw x (exception 32 (omega arith) (omega arith)))
+    decide (isPointer a || isPointer b) (λ x. rw x (exception 32 (omega arith) (omega arith)))
     (λ x. rw x (decide (eqb a b) (λ y. rw y tt) (λ y. rw y (exception 22 (omega arith) (omega arith)))))
 refuse-raises whole a b =
-    decide (eqb a 7 || eqb b 7) (λ x. rw x (exception 32 (omega arith) (omega arith)))
+    decide (isPointer a || isPointer b) (λ x. rw x (exception 32 (omega arith) (omega arith)))
     (λ x. rw x (decide (eqb a b)
     (λ y. rw y (decide (eqb a 6) (λ z. rw z (exception 34 (omega arith) (omega arith))) (λ z. rw z tt)))
     (λ y. rw y (exception 22 (omega arith) (omega arith)))))
+
+pointer-wide : {Q : Type 0} (k : ℕ) → isPointer k ≡ true → k ≡ 3 → Q
+pointer-wide k e q = false-true (rw q at e)
 
 pub applied : (P : Slot → Type 0) (o : Option ℕ) → Refusal o → (x : Result) → Yielded P x → Yielded P (maybe o x (λ e. raises e))
 applied P none r x h = h
@@ -193,7 +197,7 @@ module _ (s : List ℕ) (e : refusal s ≡ 0) where
   narrow-closed =
       record {
         constants = constants-narrow;
-        pointers = λ x b q. absurd (omega arith);
+        pointers = λ k x y b q. pointer-wide k y q;
         zeros = λ τ b q. omega arith;
         ones = λ o v p. applied (Narrow (AreBytes s)) (refuse (class1 o) (v .kind) (v .kind)) (refuse-raises (class1 o) (v .kind) (v .kind)) (eval1 o v) (ones (AreBytes s) o v p);
         twos = λ o v w p q. applied (Narrow (AreBytes s)) (refuse (class2 o) (v .kind) (w .kind)) (refuse-raises (class2 o) (v .kind) (w .kind)) (eval2 o v w) (twos (AreBytes s) o v w p q);

@@ -59,12 +59,12 @@ fourth-keyed b h =
     let t : opcodeOf tol b ≡ opcodeOf edition4 b = filled dec 0x2d (bare (one (convert false long))) b refl (ap isAbsent r ∙ h) ∙ r in
     filled tol 0x2f (bare (one (convert false int))) b refl (ap isAbsent t ∙ h) ∙ t
 
--- edition 4 is edition 3 and four more
+-- edition 4 is edition 3 and six more
 pub third-in-fourth : (b : ℕ) → isAbsent (opcodeOf edition3 b) ≡ false → opcodeOf edition4 b ≡ opcodeOf edition3 b
 third-in-fourth b h =
     let more : List Opcode = set edition3 0x06 (wide flea) in
     let q : opcodeOf more b ≡ opcodeOf edition3 b = filled edition3 0x06 (wide flea) b refl h in
-    let r : opcodeOf edition4 b ≡ opcodeOf more b = longer more (absent ∷ bare null ∷ wide new ∷ bare delete ∷ []) b (ap isAbsent q ∙ h) in
+    let r : opcodeOf edition4 b ≡ opcodeOf more b = longer more (absent ∷ bare (null false) ∷ wide (new false) ∷ bare delete ∷ bare (null true) ∷ wide (new true) ∷ []) b (ap isAbsent q ∙ h) in
     r ∙ q
 
 third-keyed : (b : ℕ) → isAbsent (opcodeOf edition3 b) ≡ false → opcodeOf keyTable b ≡ opcodeOf edition3 b

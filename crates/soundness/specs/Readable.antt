@@ -11,8 +11,8 @@ use lib.Seq.{getD-drop}
 use lib.Dec.{ltb, leb, eqb}
 use Rattle.soundness.specs.Names.{Num, Instruction, push, load, store, lea, one, two, tload, tstore, bump, jmp, branch, call, ret, null, new, delete, flea, count, copy, pop, neg, complement, convert, swap, int, long, double, Unary}
 use Rattle.rules.specs.Bytes.{byte, word, number, some-below}
-use Rattle.rules.specs.Instructions.{struct, Ty, ptr, typeByte, tyOf, Opcode, absent, bare, wide, fromZero, fromAdd, edition1, edition3, opcodes, opcodeOf, isAbsent, operandBytes, instructionOf, size}
-use Rattle.rules.specs.Tables.{Bodies, Tables, functionSize, constantCount, functionCount, labelCount, structureCount, constantAt, functionAt, labelAt, structureAt, differs, unknownEdition, structureLimit, oddConstant, badConstant, badConstants, numberType, badField, badStructureRecord, badStructure, badStructures, structureType, oddReturn, pointerType, oddParam, badParam, badRecord, badFunction, badFunctions, endBefore, opcodeAt, dueAfter, due, dueIn, unknownAt, crossed, badCode, owns, badLabel, badLabels, firstOf, contentTests, Body, entry, fn, bodyOf, Function, Module, paramsFrom, resultOf, functionOf, fieldsFrom, structureOf, labelOf, codeOf, bodyStart, bodyEnd, placeIn, moduleOf}
+use Rattle.rules.specs.Instructions.{struct, Ty, ptr, pointeeNumber, pointeeOf, typeByte, tyOf, Opcode, absent, bare, wide, fromZero, fromAdd, edition1, edition3, opcodes, opcodeOf, isAbsent, operandBytes, instructionOf, size}
+use Rattle.rules.specs.Tables.{Bodies, Tables, functionSize, constantCount, functionCount, labelCount, structureCount, constantAt, functionAt, labelAt, structureAt, differs, unknownEdition, structureLimit, oddConstant, badConstant, badConstants, numberType, badField, badStructureRecord, badStructure, badStructures, structureType, managedType, oddReturn, pointerType, oddParam, badParam, badRecord, badFunction, badFunctions, endBefore, opcodeAt, dueAfter, due, dueIn, unknownAt, crossed, badCode, owns, badLabel, badLabels, firstOf, contentTests, Body, entry, fn, bodyOf, Function, Module, paramsFrom, resultOf, functionOf, fieldsFrom, structureOf, labelOf, codeOf, bodyStart, bodyEnd, placeIn, moduleOf}
 use Rattle.rules.specs.Writing.{tooMany, broken, tableRefusal}
 use Rattle.rules.specs.Typing.{startOf, endOf}
 use Rattle.rules.specs.Claims.{dueFrom}
@@ -72,9 +72,13 @@ PointerByte t = (t ≡ 131) ⊎ ((t ≡ 132) ⊎ (t ≡ 134))
 abbrev pub StructureByte : ℕ → ℕ → Type 0
 StructureByte z t = (138 ≤ t) × (t < 138 + z)
 
+-- the bytes of managed pointers, to numbers and to one of z structures
+abbrev pub ManagedByte : ℕ → ℕ → Type 0
+ManagedByte z t = ((t ≡ 195) ⊎ ((t ≡ 196) ⊎ (t ≡ 198))) ⊎ ((202 ≤ t) × (t < 202 + z))
+
 -- the bytes of what functions may return and take, where there are z structures
 abbrev pub ResultByte : ℕ → ℕ → Type 0
-ResultByte z t = NumberByte t ⊎ StructureByte z t
+ResultByte z t = NumberByte t ⊎ (StructureByte z t ⊎ ManagedByte z t)
 
 abbrev pub ParameterByte : ℕ → ℕ → Type 0
 ParameterByte z t = ResultByte z t ⊎ PointerByte t
@@ -95,37 +99,74 @@ structure-type : (z t : ℕ) → structureType z t ≡ true → StructureByte z 
 structure-type z t e =
     let x : (leb 138 t ≡ true) × (ltb t (138 + z) ≡ true) = and-both (leb 138 t) (ltb t (138 + z)) e in (leb-is 138 t (x .0), ltb-is t (138 + z) (x .1))
 
-return-type : (z t : ℕ) → oddReturn z t ≡ false → (t ≡ 0) ⊎ ResultByte z t
-return-type z t e =
+managed-type : (ed z t : ℕ) → managedType ed z t ≡ true → ManagedByte z t
+managed-type ed z t e =
+    let x : ((eqb t 195 || eqb t 196 || eqb t 198) || (leb 202 t && ltb t (202 + z))) ≡ true = and-both (eqb ed 4) ((eqb t 195 || eqb t 196 || eqb t 198) || (leb 202 t && ltb t (202 + z))) e .1 in
+    decide (eqb t 195 || eqb t 196 || eqb t 198) (λ a. inl (one-of t 195 196 198 a))
+    (λ a. let y : (leb 202 t ≡ true) × (ltb t (202 + z) ≡ true) = and-both (leb 202 t) (ltb t (202 + z)) (rw a at x) in inr (leb-is 202 t (y .0), ltb-is t (202 + z) (y .1)))
+
+return-type : (ed z t : ℕ) → oddReturn ed z t ≡ false → (t ≡ 0) ⊎ ResultByte z t
+return-type ed z t e =
     decide (eqb t 0) (λ a. inl (eqb-is t 0 a))
     (λ a. decide (numberType t) (λ b. inr (inl (number-type t b)))
-    (λ b. inr (inr (structure-type z t (not-false (structureType z t) (rw (a, b) at e))))))
+    (λ b. decide (structureType z t) (λ c. inr (inr (inl (structure-type z t c))))
+    (λ c. inr (inr (inr (managed-type ed z t (not-false (managedType ed z t) (rw (a, b, c) at e))))))))
 
 param-type : (ed z : ℕ) (used : Bool) (t : ℕ) → used ≡ true → oddParam ed z used t ≡ false → ParameterByte z t
 param-type ed z used t u e =
     let o : oddParam ed z true t ≡ false = rw u at e in
     decide (numberType t) (λ a. inl (inl (number-type t a)))
     (λ a. decide (pointerType ed t) (λ b. inr (pointer-type ed t b))
-    (λ b. decide (structureType z t) (λ c. inl (inr (structure-type z t c))) (λ c. false-true (sym (rw (a, b, c) at o)))))
+    (λ b. decide (structureType z t) (λ c. inl (inr (inl (structure-type z t c))))
+    (λ c. decide (managedType ed z t) (λ d. inl (inr (inr (managed-type ed z t d)))) (λ d. false-true (sym (rw (a, b, c, d) at o))))))
 
-pub structure-ty : (t : ℕ) → 138 ≤ t → tyOf t ≡ ptr (struct (t - 128))
-structure-ty t l =
+-- from 128 on bytes are those of pointers, from 192 on of managed ones
+pub pointer-ty : (t : ℕ) → 128 ≤ t → t < 192 → tyOf t ≡ ptr false (pointeeOf (t - 128))
+pointer-ty t l u = rw (eqb-other t 3 (omega arith), eqb-other t 4 (omega arith), eqb-other t 6 (omega arith), ltb-yes t 192 u) refl
+
+pub managed-ty : (t : ℕ) → 192 ≤ t → tyOf t ≡ ptr true (pointeeOf (t - 192))
+managed-ty t l = rw (eqb-other t 3 (omega arith), eqb-other t 4 (omega arith), eqb-other t 6 (omega arith), ltb-no t 192 l) refl
+
+pointee-back : (n : ℕ) → pointeeNumber (pointeeOf n) ≡ n
+pointee-back n =
+    decide (eqb n 0) (λ a. rw a (sym (eqb-is n 0 a)))
+    (λ a. decide (eqb n 3) (λ b. rw (a, b) (sym (eqb-is n 3 b)))
+    (λ b. decide (eqb n 4) (λ c. rw (a, b, c) (sym (eqb-is n 4 c)))
+    (λ c. decide (eqb n 6) (λ d. rw (a, b, c, d) (sym (eqb-is n 6 d))) (λ d. rw (a, b, c, d) refl))))
+
+-- the byte of the type that was read from it, of every byte of a pointer
+pub pointer-back : (t : ℕ) → 128 ≤ t → typeByte (tyOf t) ≡ t
+pointer-back t l =
+    decide (ltb t 192)
+    (λ y. let q : pointeeNumber (pointeeOf (t - 128)) ≡ t - 128 = pointee-back (t - 128) in ap typeByte (pointer-ty t l (ltb-is t 192 y)) ∙ omega arith)
+    (λ y. let u : 192 ≤ t = ltb-isnt t 192 y in let q : pointeeNumber (pointeeOf (t - 192)) ≡ t - 192 = pointee-back (t - 192) in ap typeByte (managed-ty t u) ∙ omega arith)
+
+pub structure-ty : (t : ℕ) → 138 ≤ t → t < 192 → tyOf t ≡ ptr false (struct (t - 128))
+structure-ty t l u =
     rw (
       eqb-other t 3 (omega arith),
       eqb-other t 4 (omega arith),
       eqb-other t 6 (omega arith),
+      ltb-yes t 192 u,
       eqb-other (t - 128) 0 (omega arith),
       eqb-other (t - 128) 3 (omega arith),
       eqb-other (t - 128) 4 (omega arith),
       eqb-other (t - 128) 6 (omega arith),
     ) refl
 
+managed-high : (z t : ℕ) → ManagedByte z t → 192 ≤ t
+managed-high z t (inl (inl q)) = omega arith
+managed-high z t (inl (inr (inl q))) = omega arith
+managed-high z t (inl (inr (inr q))) = omega arith
+managed-high z t (inr h) = let l : 202 ≤ t = h .0 in omega arith
+
 -- the byte of the type that was read from it
 pub byte-back : (z t : ℕ) → ParameterByte z t → typeByte (tyOf t) ≡ t
 byte-back z t (inl (inl (inl q))) = rw q refl
 byte-back z t (inl (inl (inr (inl q)))) = rw q refl
 byte-back z t (inl (inl (inr (inr q)))) = rw q refl
-byte-back z t (inl (inr h)) = let l : 138 ≤ t = h .0 in ap typeByte (structure-ty t l) ∙ omega arith
+byte-back z t (inl (inr (inl h))) = let l : 138 ≤ t = h .0 in pointer-back t (omega arith)
+byte-back z t (inl (inr (inr h))) = let l : 192 ≤ t = managed-high z t h in pointer-back t (omega arith)
 byte-back z t (inr (inl q)) = rw q refl
 byte-back z t (inr (inr (inl q))) = rw q refl
 byte-back z t (inr (inr (inr q))) = rw q refl
@@ -135,7 +176,10 @@ pub result-free : (z t : ℕ) → ResultByte z t → Free (tyOf t)
 result-free z t (inl (inl q)) = rw q tt
 result-free z t (inl (inr (inl q))) = rw q tt
 result-free z t (inl (inr (inr q))) = rw q tt
-result-free z t (inr h) = subst Free (sym (structure-ty t (h .0))) tt
+result-free z t (inr (inl h)) =
+    let l : 138 ≤ t = h .0 in
+    decide (ltb t 192) (λ y. subst Free (sym (structure-ty t l (ltb-is t 192 y))) tt) (λ y. subst Free (sym (managed-ty t (ltb-isnt t 192 y))) tt)
+result-free z t (inr (inr h)) = subst Free (sym (managed-ty t (managed-high z t h))) tt
 
 -- the editions that there are
 abbrev pub KnownEdition : ℕ → Type 0
@@ -266,7 +310,7 @@ module _ (B : Bodies) (g : badFunctions B ≡ false) where
   fills = same-numbers (endBefore B (functionCount (B .edition) (B .functions))) (length (B .code)) (good-functions .1)
 
   record-parts : (k : ℕ) → k < functionCount (B .edition) (B .functions)
-      → (differs (word 4 (B .functions) (functionAt (B .edition) k)) (endBefore B k) ≡ false) × (ltb 8 (byte (B .functions) (functionAt (B .edition) k + 8)) ≡ false) × (oddReturn Z (byte (B .functions) (functionAt (B .edition) k + 9)) ≡ false)
+      → (differs (word 4 (B .functions) (functionAt (B .edition) k)) (endBefore B k) ≡ false) × (ltb 8 (byte (B .functions) (functionAt (B .edition) k + 8)) ≡ false) × (oddReturn (B .edition) Z (byte (B .functions) (functionAt (B .edition) k + 9)) ≡ false)
       × (some-below 8 (badParam (B .edition) Z (B .functions) (functionAt (B .edition) k)) ≡ false)
   unfolding badFunction badRecord
   record-parts k h =
@@ -274,7 +318,7 @@ module _ (B : Bodies) (g : badFunctions B ≡ false) where
       let f : badFunction B k ≡ false = none-below (functionCount (B .edition) (B .functions)) (badFunction B) (good-functions .0) k h in
       let x : _ × (some-below 8 (badParam (B .edition) Z (B .functions) a) ≡ false) =
       or-neither _ (some-below 8 (badParam (B .edition) Z (B .functions) a)) (or-neither _ (differs (byte (B .functions) (a + 18)) 0) (or-neither _ (differs (byte (B .functions) (a + 19)) 0) f .0) .0) in
-      let y : _ × (oddReturn Z (byte (B .functions) (a + 9)) ≡ false) = or-neither _ (oddReturn Z (byte (B .functions) (a + 9))) (x .0) in
+      let y : _ × (oddReturn (B .edition) Z (byte (B .functions) (a + 9)) ≡ false) = or-neither _ (oddReturn (B .edition) Z (byte (B .functions) (a + 9))) (x .0) in
       let z : _ × (ltb 8 (byte (B .functions) (a + 8)) ≡ false) = or-neither _ (ltb 8 (byte (B .functions) (a + 8))) (y .0) in
       (or-neither (differs (word 4 (B .functions) a) (endBefore B k)) (eqb (word 4 (B .functions) (a + 4)) 0) (z .0) .0, z .1, y .1, x .1)
 
@@ -286,7 +330,7 @@ module _ (B : Bodies) (g : badFunctions B ≡ false) where
   few-parameters k h = ltb-isnt 8 (byte (B .functions) (functionAt (B .edition) k + 8)) (record-parts k h .1)
 
   pub result-type : (k : ℕ) → k < functionCount (B .edition) (B .functions) → (byte (B .functions) (functionAt (B .edition) k + 9) ≡ 0) ⊎ ResultByte (structureCount (B .structures)) (byte (B .functions) (functionAt (B .edition) k + 9))
-  result-type k h = return-type Z (byte (B .functions) (functionAt (B .edition) k + 9)) (record-parts k h .2)
+  result-type k h = return-type (B .edition) Z (byte (B .functions) (functionAt (B .edition) k + 9)) (record-parts k h .2)
 
   pub parameter-byte : (k j : ℕ) → k < functionCount (B .edition) (B .functions) → j < byte (B .functions) (functionAt (B .edition) k + 8) → ParameterByte (structureCount (B .structures)) (byte (B .functions) (functionAt (B .edition) k + 10 + j))
   unfolding badParam
@@ -418,7 +462,7 @@ rows-at P n (h ∷ t) a (suc b) = rows-at P n t (a .1) b
 
 all-sized : Rows Sized keyTable
 all-sized =
-    (tt, ((λ w. refl), (refl, ((λ w. refl), ((λ w. refl), ((λ w. refl), ((λ w. refl), (refl, (refl, (refl, (refl, (refl, (refl, (refl, (refl, (refl, (refl, (refl, (refl, (refl, (refl, (refl, (refl, (refl, (refl, (refl, (refl, (refl, (refl, (refl, (refl, (refl, ((λ w. refl), ((λ w. refl), ((λ w. refl), ((λ w. refl), ((λ w. refl), ((λ w. refl), ((λ w. refl), ((λ w. refl), (refl, (refl, (refl, (refl, (refl, (refl, (refl, (refl, (refl, ((λ w. refl), (refl, tt)))))))))))))))))))))))))))))))))))))))))))))))))))
+    (tt, ((λ w. refl), (refl, ((λ w. refl), ((λ w. refl), ((λ w. refl), ((λ w. refl), (refl, (refl, (refl, (refl, (refl, (refl, (refl, (refl, (refl, (refl, (refl, (refl, (refl, (refl, (refl, (refl, (refl, (refl, (refl, (refl, (refl, (refl, (refl, (refl, (refl, ((λ w. refl), ((λ w. refl), ((λ w. refl), ((λ w. refl), ((λ w. refl), ((λ w. refl), ((λ w. refl), ((λ w. refl), (refl, (refl, (refl, (refl, (refl, (refl, (refl, (refl, (refl, ((λ w. refl), (refl, (refl, ((λ w. refl), tt)))))))))))))))))))))))))))))))))))))))))))))))))))))
 
 pub sized : (e b : ℕ) → Sized (opcodeOf (opcodes e) b)
 sized e b = go (opcodeOf (opcodes e) b) (λ h. keyed e b h)
@@ -445,8 +489,8 @@ usesHeap (jmp l) = false
 usesHeap (branch c l) = false
 usesHeap (call k) = false
 usesHeap ret = false
-usesHeap null = true
-usesHeap (new n) = true
+usesHeap (null g) = true
+usesHeap (new g n) = true
 usesHeap delete = true
 usesHeap (flea n) = true
 
@@ -473,8 +517,8 @@ asksFit (jmp l) = false
 asksFit (branch c l) = false
 asksFit (call k) = false
 asksFit ret = false
-asksFit null = false
-asksFit (new n) = false
+asksFit (null g) = false
+asksFit (new g n) = false
 asksFit delete = false
 asksFit (flea n) = false
 

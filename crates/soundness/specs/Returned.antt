@@ -10,7 +10,7 @@ use lib.ListN.{length}
 use lib.Dec.{leb, ltb, eqb}
 use Rattle.soundness.specs.Names.{Num, Slot, Unary, pop, copy, neg, complement, convert, count, Binary, swap, arith as arithmetic, cmp, Instruction, push, load, store, lea, one, two, tload, tstore, bump, jmp, branch, call, ret, null, new, delete, flea}
 use Rattle.rules.specs.Bytes.{maybe}
-use Rattle.rules.specs.Instructions.{Ty, kindOf, size}
+use Rattle.rules.specs.Instructions.{Ty, ptrKind, isPointer, kindOf, size}
 use Rattle.rules.specs.Tables.{Body, entry, fn, bodyOf, Function, Module}
 use Rattle.rules.specs.ModuleFile.{read}
 use Rattle.rules.specs.Stack.{slot, pointerTo, at, under, Lent, capacity}
@@ -45,8 +45,8 @@ Gives (raises e) = NonZero e
 
 refuses : (c : Class) (a b : ℕ) → Refuses (refuse c a b)
 refuses any a b = by-cond Refuses (eqb a b) tt tt
-refuses number a b = by-cond Refuses (eqb a 7 || eqb b 7) tt (by-cond Refuses (eqb a b) tt tt)
-refuses whole a b = by-cond Refuses (eqb a 7 || eqb b 7) tt (by-cond Refuses (eqb a b) (by-cond Refuses (eqb a 6) tt tt) tt)
+refuses number a b = by-cond Refuses (isPointer a || isPointer b) tt (by-cond Refuses (eqb a b) tt tt)
+refuses whole a b = by-cond Refuses (isPointer a || isPointer b) tt (by-cond Refuses (eqb a b) (by-cond Refuses (eqb a 6) tt tt) tt)
 
 or-gives : (o : Option ℕ) (x : Result) → Refuses o → Gives x → Gives (maybe o x (λ e. raises e))
 or-gives none x r g = g
@@ -101,7 +101,7 @@ module _ (m : Module) (cap : ℕ) (M : Memory) (k : ℕ) (st : List Slot) where
   ok-take1 fl (v ∷ r) q = by-cond Ok (leb fl (length r)) (q v r) (stop tt)
 
   ok-pointing : {g : ℕ → Next} (p : Slot) → ((a : ℕ) → Ok (g a)) → Ok (pointing p g)
-  ok-pointing p q = by-cond Ok (eqb (p .kind) 7) (by-cond Ok (eqb (p .payload) nullAddress) (stop tt) (q (p .payload))) (stop tt)
+  ok-pointing p q = by-cond Ok (isPointer (p .kind)) (by-cond Ok (eqb (p .payload) nullAddress) (stop tt) (q (p .payload))) (stop tt)
 
   ok-number : {g : Spot → Slot → Next} (x : Target) → ((x : Spot) (w : Slot) → Ok (g x w)) → Ok (asNumber x g)
   ok-number nowhere q = stop tt
@@ -161,7 +161,7 @@ module _ (m : Module) (cap : ℕ) (M : Memory) (k : ℕ) (st : List Slot) where
         ok-result (apply2 o a b) r′ (or-gives (refuse (class2 o) (a .kind) (b .kind)) (eval2 o a b) (refuses (class2 o) (a .kind) (b .kind)) (gives2 o a b))))
     ok-exec tload = ok-take1 (f .floor) st (λ p r. ok-deref p r (λ x w. ok-push M (w ∷ []) r))
     ok-exec tstore = ok-take1 (f .floor) st (λ v r. ok-take1 (f .floor) r (λ p r′. ok-deref p r′ (λ x w. by-cond Ok (eqb (v .kind) (w .kind)) (ok-assign x v r′) (stop tt))))
-    ok-exec (bump u) = ok-take1 (f .floor) st (λ p r. ok-deref p r (λ x w. by-cond Ok (eqb (w .kind) 7) (stop tt) (ok-assign x _ r)))
+    ok-exec (bump u) = ok-take1 (f .floor) st (λ p r. ok-deref p r (λ x w. by-cond Ok (isPointer (w .kind)) (stop tt) (ok-assign x _ r)))
     ok-exec (jmp l) = ok-maybe (owned (f .body) (m .label l)) (stop tt) (λ q. on R)
     ok-exec (branch c l) =
         ok-maybe (owned (f .body) (m .label l)) (stop tt)
@@ -174,12 +174,13 @@ module _ (m : Module) (cap : ℕ) (M : Memory) (k : ℕ) (st : List Slot) where
         found : (o : Option Function) → own m (f .body) ≡ o → Ok (maybe o (stops 30) (λ F. returning M (F .result) st f cs))
         found none e = stop tt
         found (some F) e = ok-returning F e (F .result) refl
-    ok-exec null = ok-push M (slot 7 nullAddress ∷ []) st
-    ok-exec (new t) = ok-maybe (shapeOf m t) (stop tt) (λ z. by-cond Ok (leb (suc (length st)) cap) (on R) (stop tt))
+    ok-exec (null g) = ok-push M (slot (ptrKind g) nullAddress ∷ []) st
+    ok-exec (new false t) = ok-maybe (shapeOf m t) (stop tt) (λ z. by-cond Ok (leb (suc (length st)) cap) (on R) (stop tt))
+    ok-exec (new true t) = ok-maybe (shapeOf m t) (stop tt) (λ z. by-cond Ok (leb (suc (length st)) cap) (on R) (stop tt))
     ok-exec delete =
         ok-take1 (f .floor) st (λ p r. by-cond Ok (eqb (p .kind) 7) (by-cond Ok (eqb (p .payload) nullAddress) (on R) (by-cond Ok (isGiven (M .heap) (p .payload)) (on R) (stop tt))) (stop tt))
     ok-exec (flea n) =
-        ok-take1 (f .floor) st (λ p r. ok-pointing p (λ a. ok-structure (targetOf m (M .heap) r a) (λ s fs. by-cond Ok (ltb n (length fs)) (ok-push M (slot 7 (fieldAddress s n) ∷ []) r) (stop tt))))
+        ok-take1 (f .floor) st (λ p r. ok-pointing p (λ a. ok-structure (targetOf m (M .heap) r a) (λ s fs. by-cond Ok (ltb n (length fs)) (ok-push M (slot (p .kind) (fieldAddress s n) ∷ []) r) (stop tt))))
 
 -- ---- moments and runs
 

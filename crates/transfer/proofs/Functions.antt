@@ -22,7 +22,7 @@ use Rattle.reader.specs.declared.entries.FunctionRecord.{FunctionRecord}
 use Rattle.reader.specs.declared.entries.FoundFunction.the-variants.{Record}
 use Rattle.reader.specs.Answers.{functionFound}
 use Rattle.reader.proofs.Records.{function-count}
-use Rattle.soundness.specs.Readable.{orderly, params-length, parameter-type, ResultByte, result-type, byte-back}
+use Rattle.soundness.specs.Readable.{orderly, params-length, parameter-type, StructureByte, ManagedByte, ResultByte, result-type, byte-back}
 use Rattle.soundness.specs.Cutting.{good-file, functions-good}
 use Rattle.soundness.specs.Tests.{decide, none-some, some-inj}
 use Rattle.records.specs.Record.{listsOf, IsType, Holds, Judged}
@@ -35,6 +35,14 @@ use Rattle.transfer.proofs.Constants.{number-byte, number-kind}
 use Rattle.transfer.proofs.Operands.{no-operand, top-type, top-operand}
 
 -- ---- the function of a record
+
+-- the byte of a pointer that a function returns is not that of `null`
+not-null : (z b : ℕ) → StructureByte z b ⊎ ManagedByte z b → b ≡ 128 → ⊥
+not-null z b (inl y) e = let l = y .0 in omega arith
+not-null z b (inr (inl (inl y))) e = omega arith
+not-null z b (inr (inl (inr (inl y)))) e = omega arith
+not-null z b (inr (inl (inr (inr y)))) e = omega arith
+not-null z b (inr (inr y)) e = let l = y .0 in omega arith
 
 module _ (s : List ℕ) (e : refusal s ≡ 0) (k : ℕ) (g : FunctionRecord) (is : functionFound s k (Record g) ≡ read s .function k) where
   pub function-few : g .params ≤ 8
@@ -78,16 +86,19 @@ module _ (s : List ℕ) (e : refusal s ≡ 0) (k : ℕ) (g : FunctionRecord) (is
           ap (λ (x : Bool). cond x none (some (tyOf (g .result)))) (sym (ne-eqb (g .result) 0 valued))
           ∙ ap (λ (o : Option Function). maybe o none (λ F. F .result)) function-same
 
-      back : tyOf (g .result) ≡ ptr void → (b ≡ 0 → ⊥) → IsType b → b ≡ 128
+      back : tyOf (g .result) ≡ ptr false void → (b ≡ 0 → ⊥) → IsType b → b ≡ 128
       back v ne is =
           let x : tyOf (g .result) ≡ tyOf b = some-inj (tyOf (g .result)) (tyOf b) (same ∙ ap (λ (y : Bool). cond y none (some (tyOf b))) (ne-eqb b 0 ne)) in
           sym is ∙ ap typeByte (sym x ∙ v)
 
-      go : tyOf (g .result) ≡ ptr void → (b ≡ 0) ⊎ ResultByte (structureCount (structuresIn s)) b → ⊥
+      go : tyOf (g .result) ≡ ptr false void → (b ≡ 0) ⊎ ResultByte (structureCount (structuresIn s)) b → ⊥
       go v (inl z) = none-some (sym (same ∙ ap resultOf z))
       go v (inr (inl y)) = let x = number-kind b y in let l = kind-low (x .0) in let q = x .1 in
           let h = back v (λ z. omega arith) (number-byte b (x .0) q) in omega arith
-      go v (inr (inr y)) = let h = back v (λ z. omega arith) (byte-back (structureCount (structuresIn s)) b (inl (inr y))) in omega arith
+      go v (inr (inr y)) =
+          let Z : ℕ = structureCount (structuresIn s) in
+          let is : IsType b = byte-back Z b (inl (inr y)) in
+          not-null Z b y (back v (λ z. none-some (sym (same ∙ ap resultOf z))) is)
 
 -- ---- call
 

@@ -31,13 +31,13 @@ fits code p b k f e j is = f .whole j (ap (λ (n : ℕ). instructionOf (opcodeOf
 
 -- keys that are no instruction's
 abbrev pub evens : List ℕ
-evens = 0 ∷ 52 ∷ 54 ∷ 56 ∷ 58 ∷ 60 ∷ 62 ∷ []
+evens = 0 ∷ 54 ∷ 56 ∷ 58 ∷ 60 ∷ 62 ∷ []
 
 abbrev pub odds : List ℕ
-odds = 51 ∷ 53 ∷ 55 ∷ 57 ∷ 59 ∷ 61 ∷ 63 ∷ []
+odds = 53 ∷ 55 ∷ 57 ∷ 59 ∷ 61 ∷ 63 ∷ []
 
 abbrev pub lasts : List (List ℕ)
-lasts = odds ∷ evens ∷ each (50 ∷ 48 ∷ 47 ∷ 46 ∷ 45 ∷ 44 ∷ 43 ∷ 42 ∷ 41 ∷ 29 ∷ 28 ∷ 27 ∷ 26 ∷ 25 ∷ 24 ∷ 23 ∷ 22 ∷ 21 ∷ 20 ∷ 19 ∷ [])
+lasts = odds ∷ evens ∷ each (51 ∷ 50 ∷ 48 ∷ 47 ∷ 46 ∷ 45 ∷ 44 ∷ 43 ∷ 42 ∷ 41 ∷ 29 ∷ 28 ∷ 27 ∷ 26 ∷ 25 ∷ 24 ∷ 23 ∷ 22 ∷ 21 ∷ 20 ∷ 19 ∷ [])
 
 pub nothing-left : {P : Type 0} (b : ℕ) → Known b → Outside b lasts → Outside b seconds → P
 nothing-left b k h g = none-left 64 (lasts ++ seconds) refl b (known-low b k) (outside-both b lasts seconds h g)

@@ -1,7 +1,7 @@
--- What `new` and `flea` do, way by way, and the structures of a file.
+-- What `new`, `gcnew` and `flea` do, way by way, and the structures of a file.
 use mathlib.Core.Path.{_≡_, refl, sym, ap, _∙_, subst}
 use mathlib.Core.Logic.{_⊎_, inl, inr}
-use Prim.Native.Nat.{ℕ, _+_, _-_, _*_, _≤_, _<_}
+use Prim.Native.Nat.{ℕ, _+_, _-_, _*_, _%_, _≤_, _<_}
 use native.Mathlib.Omega.{arith}
 use mathlib.Core.Bool.{Bool, true, false, _&&_, _||_}
 use mathlib.Core.Option.{Option, none, some}
@@ -13,19 +13,19 @@ use Rattle.rules.specs.Bytes.{byte, word, maybe, within}
 use Rattle.rules.specs.declared.Num.{Num}
 use Rattle.rules.specs.declared.Num.the-variants.{Int as int, Long as long, Double as double}
 use Rattle.rules.specs.declared.Instruction.the-variants.{New, Flea}
-use Rattle.rules.specs.Instructions.{Pointee, void, cell, struct, pointeeNumber, Ty, ptr, numKind, numOf, tyOf}
+use Rattle.rules.specs.Instructions.{Pointee, void, cell, struct, pointeeOf, Ty, ptr, numKind, numOf, pointerByte, tyOf, typeByte}
 use Rattle.rules.specs.Tables.{structureCount, structureAt, structureOf, Body, Module, numberType, fieldOf, fieldsFrom, paramsFrom, moduleOf}
 use Rattle.rules.specs.ModuleFile.{read, refusal, edition, structures, constantsAt, structuresAt, structuresIn}
 use Rattle.rules.specs.Stack.{at}
 use Rattle.rules.specs.Heap.{Shape, single, fields, shapeOf, pointeeIn}
 use Rattle.rules.specs.Typing.{lists, Flow, judge, to, asStruct, asStructPtr, asFields}
 use Rattle.reader.proofs.Records.{byte-cut}
-use Rattle.soundness.specs.Readable.{GoodShape, good-shape, structure-ty}
+use Rattle.soundness.specs.Readable.{GoodShape, good-shape, pointer-ty, managed-ty, pointer-back}
 use Rattle.soundness.specs.Cutting.{packed, structure-count, structures-good}
-use Rattle.soundness.specs.Tests.{decide, false-true, and-both, or-neither, eqb-is, leb-is, leb-yes, leb-no, ltb-is, ltb-no, ltb-yes}
+use Rattle.soundness.specs.Tests.{decide, false-true, and-both, or-neither, eqb-is, leb-is, leb-yes, leb-no, ltb-is, ltb-isnt, ltb-no, ltb-yes}
 use Rattle.records.specs.Record.{listsOf, Holds, Judged}
 use Rattle.records.specs.Families.{Retyped}
-use Rattle.records.specs.Laws.{kind-low, OfNumber, OfPointer, split-type, pointer-type, read-in, read-past, no-operand, top-operand, top-type, breaks, arrives}
+use Rattle.records.specs.Laws.{kind-low, number-byte, pointer-type, read-in, read-past, no-operand, top-operand, top-type, breaks, arrives}
 use Rattle.records.specs.declared.Transfer.{Transfer}
 use Rattle.records.specs.declared.Transfer.the-variants.{Breaks, Falls}
 use Rattle.transfer.specs.Transfers.{Judges, Pushes, made, Numbered, fieldType}
@@ -62,21 +62,35 @@ field-low t m j n is = subst (λ (k : ℕ). k ≤ 6) (sym is) (of (m .structure 
     of none = omega arith
     of (some fs) = one (at fs n)
 
--- ---- new
+-- ---- the bytes of pointers, by what they point to
 
-module _ (m : Module) (z : ℕ) (numbered : Numbered m z) (b : Body) (n q : ℕ) (r : List ℕ) where
+pointer-of : (g : Bool) (n : ℕ) → n < 64 → tyOf (pointerByte g + n) ≡ ptr g (pointeeOf n)
+pointer-of false n l = let e : 128 + n - 128 ≡ n = omega arith in pointer-ty (128 + n) (omega arith) (omega arith) ∙ ap (λ (k : ℕ). ptr false (pointeeOf k)) e
+pointer-of true n l = let e : 192 + n - 192 ≡ n = omega arith in managed-ty (192 + n) (omega arith) ∙ ap (λ (k : ℕ). ptr true (pointeeOf k)) e
+
+structure-of : (n : ℕ) → 10 ≤ n → pointeeOf n ≡ struct n
+structure-of n l = rw (ne-eqb n 0 (λ e. omega arith), ne-eqb n 3 (λ e. omega arith), ne-eqb n 4 (λ e. omega arith), ne-eqb n 6 (λ e. omega arith)) refl
+
+-- back from a byte: what it points to are its low six bits
+byte-parts : (t : ℕ) → 128 ≤ t → t < 256 → (g : Bool) × (t ≡ pointerByte g + t % 64)
+byte-parts t l u =
+    decide (ltb t 192) (λ y. let h = ltb-is t 192 y in (false, omega arith)) (λ y. let h = ltb-isnt t 192 y in (true, omega arith))
+
+-- ---- new and gcnew
+
+module _ (m : Module) (z : ℕ) (numbered : Numbered m z) (b : Body) (g : Bool) (n q : ℕ) (r : List ℕ) where
   abbrev leaves : Ty → Flow
   leaves t = to q (listsOf r .locals) (t ∷ listsOf r .operands)
 
   -- the flow, by the structure of this number
   abbrev of-structure : Option (List Num) → Flow
-  of-structure o = maybe (maybe o none (λ fs. some (fields fs))) none (λ x. leaves (ptr (pointeeIn n x)))
+  of-structure o = maybe (maybe o none (λ fs. some (fields fs))) none (λ x. leaves (ptr g (pointeeIn n x)))
 
-  new-as : numberType n ≡ false → judge m b (New n) q (listsOf r .locals) (listsOf r .operands) ≡ of-structure (m .structure n)
+  new-as : numberType n ≡ false → judge m b (New g n) q (listsOf r .locals) (listsOf r .operands) ≡ of-structure (m .structure n)
   unfolding shapeOf
   new-as f = rw (no-kind n f) refl
 
-  pub new-none : made z n ≡ false → Holds r → Judges m b (New n) q r Breaks r
+  pub new-none : made z n ≡ false → Holds r → Judges m b (New g n) q r Breaks r
   new-none f h =
       let x = or-neither (numberType n) (leb 10 n && ltb n (10 + z)) f in
       breaks m b q _ r h (new-as (x .0) ∙ go (m .structure n) (numbered n ∙ x .1))
@@ -85,23 +99,26 @@ module _ (m : Module) (z : ℕ) (numbered : Numbered m z) (b : Body) (n q : ℕ)
       go none e = refl
       go (some fs) e = false-true (sym e)
 
-  new-is : made z n ≡ true → judge m b (New n) q (listsOf r .locals) (listsOf r .operands) ≡ leaves (tyOf (128 + n))
+  new-is : z ≤ 16 → made z n ≡ true → judge m b (New g n) q (listsOf r .locals) (listsOf r .operands) ≡ leaves (tyOf (pointerByte g + n))
   unfolding shapeOf
-  new-is y =
+  new-is few y =
       decide (numberType n)
-      (λ w. let x = some-kind n w in rw (number-of n (x .0) (x .1)) (ap leaves (sym (ap (λ (k : ℕ). tyOf (128 + k)) (x .1) ∙ pointer-type (x .0)))))
+      (λ w. let x = some-kind n w in rw (number-of n (x .0) (x .1)) (ap leaves (sym (ap (λ (k : ℕ). tyOf (pointerByte g + k)) (x .1) ∙ pointer-type g (x .0)))))
       (λ w.
       let d : (leb 10 n && ltb n (10 + z)) ≡ true = rw w at y in
       let l = leb-is 10 n (and-both (leb 10 n) (ltb n (10 + z)) d .0) in
-      let k : 128 + n - 128 ≡ n = omega arith in
-      new-as w ∙ go (m .structure n) (numbered n ∙ d) ∙ ap leaves (sym (structure-ty (128 + n) (omega arith) ∙ ap (λ (j : ℕ). ptr (struct j)) k)))
+      let u = made-low z n few y in
+      new-as w ∙ go (m .structure n) (numbered n ∙ d) ∙ ap leaves (sym (pointer-of g n (omega arith) ∙ ap (ptr g) (structure-of n l))))
     where
-      go : (o : Option (List Num)) → maybe o false (λ fs. true) ≡ true → of-structure o ≡ leaves (ptr (struct n))
+      go : (o : Option (List Num)) → maybe o false (λ fs. true) ≡ true → of-structure o ≡ leaves (ptr g (struct n))
       go none e = false-true e
       go (some fs) e = refl
 
-  pub new-pushes : made z n ≡ true → (a : Transfer) (r′ : List ℕ) → Pushes (128 + n) q r a r′ → Judges m b (New n) q r a r′
-  new-pushes y a r′ p = subst (λ (x : Flow). Judged m b q x a r′) (sym (new-is y)) (p m b)
+  pub new-pushes : z ≤ 16 → made z n ≡ true → (k : ℕ) → k ≡ pointerByte g → (a : Transfer) (r′ : List ℕ) → Pushes (k + n) q r a r′
+      → Judges m b (New g n) q r a r′
+  new-pushes few y k is a r′ p =
+      let e : tyOf (k + n) ≡ tyOf (pointerByte g + n) = ap (λ (j : ℕ). tyOf (j + n)) is in
+      subst (λ (x : Flow). Judged m b q x a r′) (ap leaves e ∙ sym (new-is few y)) (p m b)
 
 -- ---- the structures of a file
 
@@ -242,46 +259,68 @@ module _ (s : List ℕ) (e : refusal s ≡ 0) where
     flea-empty l = breaks (read s) b q _ r h (rw (no-operand r m count l) refl)
 
     module _ (has : 1 ≤ m) where
-      abbrev points : Num → Flow
-      points τ = to q (listsOf r .locals) (ptr (cell τ) ∷ paramsFrom r 32 (m - 1))
+      abbrev points : Bool → Num → Flow
+      points g τ = to q (listsOf r .locals) (ptr g (cell τ) ∷ paramsFrom r 32 (m - 1))
 
       flea-is : judge (read s) b (Flea n) q (listsOf r .locals) (listsOf r .operands)
-          ≡ asStructPtr (tyOf (byte r (31 + m))) (λ j. in-shape n points (shapeOf (read s) j))
+          ≡ asStructPtr (tyOf (byte r (31 + m))) (λ g j. in-shape n (points g) (shapeOf (read s) j))
       flea-is = rw (top-operand r m count has) refl
 
-      pub flea-low : byte r (31 + m) < 138 → Judges (read s) b (Flea n) q r Breaks r
-      flea-low l = breaks (read s) b q _ r h (flea-is ∙ go (split-type (byte r (31 + m)) (top-type r m count h has)))
-        where
-          to-pointee : (w : Pointee) → byte r (31 + m) ≡ 128 + pointeeNumber w → asStruct w (λ j. in-shape n points (shapeOf (read s) j)) ≡ none
-          to-pointee void z = refl
-          to-pointee (cell τ) z = refl
-          to-pointee (struct j) z = low-none n points j (omega arith)
+      pub flea-number : byte r (31 + m) < 128 → Judges (read s) b (Flea n) q r Breaks r
+      flea-number l = let x = number-byte (byte r (31 + m)) (top-type r m count h has) l in breaks (read s) b q _ r h (flea-is ∙ rw (x .1) refl)
 
-          go : OfNumber (byte r (31 + m)) ⊎ OfPointer (byte r (31 + m)) → asStructPtr (tyOf (byte r (31 + m))) (λ j. in-shape n points (shapeOf (read s) j)) ≡ none
-          go (inl x) = rw (x .1) refl
-          go (inr x) = rw (x .1) (to-pointee (x .0) (x .2))
+      -- a pointer to what has the type number k
+      module _ (high : 128 ≤ byte r (31 + m)) (fits : byte r (31 + m) < 256) (k : ℕ) (low-bits : k ≡ byte r (31 + m) % 64) where
+        abbrev managed : Bool
+        managed = byte-parts (byte r (31 + m)) high fits .0
 
-      -- the structure i, counted from 0
-      module _ (high : 138 ≤ byte r (31 + m)) (i : ℕ) (at-i : i ≡ byte r (31 + m) - 138) where
-        flea-in : judge (read s) b (Flea n) q (listsOf r .locals) (listsOf r .operands) ≡ in-structure n points (read s .structure (10 + i))
-        flea-in =
-            let j : byte r (31 + m) - 128 ≡ 10 + i = omega arith in
-            flea-is ∙ rw (structure-ty (byte r (31 + m)) high, j) (high-is n points (10 + i) (omega arith))
+        flea-base : byte r (31 + m) - byte r (31 + m) % 64 ≡ pointerByte managed
+        flea-base = let e : byte r (31 + m) ≡ pointerByte managed + byte r (31 + m) % 64 = byte-parts (byte r (31 + m)) high fits .1 in omega arith
 
-        pub flea-none : fieldType (read s) (10 + i) n ≡ 0 → Judges (read s) b (Flea n) q r Breaks r
-        flea-none z = breaks (read s) b q _ r h (flea-in ∙ go (by-structure n points (read s .structure (10 + i))))
+        flea-type : tyOf (byte r (31 + m)) ≡ ptr managed (pointeeOf k)
+        flea-type =
+            let e : byte r (31 + m) ≡ pointerByte managed + k = byte-parts (byte r (31 + m)) high fits .1 ∙ ap (λ (j : ℕ). pointerByte managed + j) (sym low-bits) in
+            ap tyOf e ∙ pointer-of managed k (omega arith)
+
+        flea-to : judge (read s) b (Flea n) q (listsOf r .locals) (listsOf r .operands)
+            ≡ asStruct (pointeeOf k) (λ j. in-shape n (points managed) (shapeOf (read s) j))
+        flea-to = flea-is ∙ rw flea-type refl
+
+        pub flea-low : k < 10 → Judges (read s) b (Flea n) q r Breaks r
+        flea-low l = breaks (read s) b q _ r h (flea-to ∙ go (pointeeOf k) refl)
           where
-            go : Absent n points (read s .structure (10 + i)) ⊎ Present n points (read s .structure (10 + i)) → in-structure n points (read s .structure (10 + i)) ≡ none
-            go (inl x) = x .1
-            go (inr x) = let k = kind-low (x .0) in let y = x .1 in absurd (omega arith)
+            go : (w : Pointee) → pointeeOf k ≡ w → asStruct w (λ j. in-shape n (points managed) (shapeOf (read s) j)) ≡ none
+            go void z = refl
+            go (cell τ) z = refl
+            go (struct j) z =
+                let e : byte r (31 + m) ≡ pointerByte managed + j = sym (pointer-back (byte r (31 + m)) high) ∙ ap typeByte (flea-type ∙ ap (ptr managed) z) in
+                let f = flea-base in low-none n (points managed) j (omega arith)
 
-        pub flea-falls : (t : ℕ) → t ≡ fieldType (read s) (10 + i) n → (t ≡ 0 → ⊥) → (r′ : List ℕ) → Retyped r (128 + t) r′
-            → Judges (read s) b (Flea n) q r (Falls q) r′
-        flea-falls t is ne r′ p = go (by-structure n points (read s .structure (10 + i)))
-          where
-            go : Absent n points (read s .structure (10 + i)) ⊎ Present n points (read s .structure (10 + i)) → Judges (read s) b (Flea n) q r (Falls q) r′
-            go (inl x) = absurd (ne (is ∙ x .0))
-            go (inr x) =
-                let z : tyOf (128 + t) ≡ ptr (cell (x .0)) = ap (λ (k : ℕ). tyOf (128 + k)) (is ∙ x .1) ∙ pointer-type (x .0) in
-                arrives (read s) b q _ r′ (p .holds) _
-                (p .shows (m - 1) (omega arith) ∙ ap (λ (y : Ty). lists (listsOf r .locals) (y ∷ paramsFrom r 32 (m - 1))) z) (flea-in ∙ x .2)
+        -- the structure i, counted from 0
+        module _ (some-structure : 10 ≤ k) (i : ℕ) (at-i : i ≡ k - 10) where
+          abbrev structure : Option (List Num)
+          structure = read s .structure (10 + i)
+
+          flea-in : judge (read s) b (Flea n) q (listsOf r .locals) (listsOf r .operands) ≡ in-structure n (points managed) structure
+          flea-in =
+              let j : k ≡ 10 + i = omega arith in
+              flea-to ∙ rw (structure-of k some-structure, j) (high-is n (points managed) (10 + i) (omega arith))
+
+          pub flea-none : fieldType (read s) (10 + i) n ≡ 0 → Judges (read s) b (Flea n) q r Breaks r
+          flea-none z = breaks (read s) b q _ r h (flea-in ∙ go (by-structure n (points managed) structure))
+            where
+              go : Absent n (points managed) structure ⊎ Present n (points managed) structure → in-structure n (points managed) structure ≡ none
+              go (inl x) = x .1
+              go (inr x) = let k = kind-low (x .0) in let y = x .1 in absurd (omega arith)
+
+          pub flea-falls : (t : ℕ) → t ≡ fieldType (read s) (10 + i) n → (t ≡ 0 → ⊥) → (r′ : List ℕ) → Retyped r (byte r (31 + m) - byte r (31 + m) % 64 + t) r′
+              → Judges (read s) b (Flea n) q r (Falls q) r′
+          flea-falls t is ne r′ p = go (by-structure n (points managed) structure)
+            where
+              go : Absent n (points managed) structure ⊎ Present n (points managed) structure → Judges (read s) b (Flea n) q r (Falls q) r′
+              go (inl x) = absurd (ne (is ∙ x .0))
+              go (inr x) =
+                  let e : byte r (31 + m) - byte r (31 + m) % 64 + t ≡ pointerByte managed + numKind (x .0) = let f = flea-base in let y : t ≡ numKind (x .0) = is ∙ x .1 in omega arith in
+                  let z : tyOf (byte r (31 + m) - byte r (31 + m) % 64 + t) ≡ ptr managed (cell (x .0)) = ap tyOf e ∙ pointer-type managed (x .0) in
+                  arrives (read s) b q _ r′ (p .holds) _
+                  (p .shows (m - 1) (omega arith) ∙ ap (λ (y : Ty). lists (listsOf r .locals) (y ∷ paramsFrom r 32 (m - 1))) z) (flea-in ∙ x .2)

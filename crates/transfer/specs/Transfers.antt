@@ -41,7 +41,7 @@ pub record Stripped (ps : List Ty) (r : List ℕ) (ok : Bool) (r′ : List ℕ) 
 
 -- ---- structures
 
--- `new` takes the type number k, where z structures are declared
+-- `new` and `gcnew` take the type number k, where z structures are declared
 abbrev pub made : ℕ → ℕ → Bool
 made z k = numberType k || (leb 10 k && ltb k (10 + z))
 
@@ -57,7 +57,7 @@ fieldType m k n = maybe (m .structure k) 0 (λ fs. maybe (at fs n) 0 numKind)
 
 -- the keys of the first two matches, the last first
 abbrev pub firsts : List (List ℕ)
-firsts = each (49 ∷ 40 ∷ 39 ∷ 38 ∷ 37 ∷ 36 ∷ 35 ∷ 34 ∷ 33 ∷ 32 ∷ 31 ∷ 30 ∷ 6 ∷ 5 ∷ 4 ∷ 3 ∷ 1 ∷ [])
+firsts = each (52 ∷ 49 ∷ 40 ∷ 39 ∷ 38 ∷ 37 ∷ 36 ∷ 35 ∷ 34 ∷ 33 ∷ 32 ∷ 31 ∷ 30 ∷ 6 ∷ 5 ∷ 4 ∷ 3 ∷ 1 ∷ [])
 
 abbrev pub seconds : List (List ℕ)
 seconds = each (18 ∷ 17 ∷ 16 ∷ 15 ∷ 14 ∷ 13 ∷ 12 ∷ 11 ∷ 10 ∷ 9 ∷ 8 ∷ 7 ∷ 2 ∷ []) ++ firsts

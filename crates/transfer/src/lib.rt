@@ -1,11 +1,13 @@
 // One instruction judged by types alone, on the lists of a record: the checker's transfer function.
 ghost use mathlib.Core.Path.{_≡_};
+ghost use mathlib.Core.Bool.{Bool};
 ghost use mathlib.Core.List.{List};
 ghost use Prim.Native.Nat.{ℕ, _+_, _^_, _<_, _≤_};
 ghost use lib.Dec.{eqb};
 ghost use Rattle.rules.specs.declared.Condition.{Condition};
 ghost use Rattle.rules.specs.declared.Instruction.the-variants.{Push, Jmp, Branch, Call, Ret, New, Flea};
 ghost use Rattle.rules.specs.Bytes.{byte, word};
+ghost use Rattle.rules.specs.Instructions.{pointerByte};
 ghost use Rattle.rules.specs.Tables.{Body, Module, bodyOf, functionAt, paramsFrom};
 ghost use Rattle.rules.specs.ModuleFile.{edition, structures, read, refusal, functionsIn};
 ghost use Rattle.rules.specs.Machine.{owned};
@@ -20,7 +22,7 @@ use reader::entries::FoundLabel;
 use records::Transfer;
 
 fn wide(x: u8) -> usize
-    ensures { λ r. ⌜ r ≡ x ⌝ }
+    ensures { λ r. ⌜ (r ≡ x) × (r < 256) ⌝ }
 {
     x as usize
 }
@@ -208,17 +210,17 @@ fn makes(structures: usize, k: usize) -> bool
     (k == 3) | (k == 4) | (k == 6) | ((10 <= k) & (k < 10 + structures))
 }
 
-// `new`, of the type number n.
-fn new(structures: usize, n: u32, q: usize, st: &mut [u8]) -> Transfer
-    requires { ⌜ Holds (now st) × (structures ≤ 16) ⌝ }
-    ensures { λ a. ⌜ ((m : Module) (b : Body) → Numbered m structures → Judges m b (New n) q (now (st .entry)) a (now (st .exit))) ⌝ }
+// `new` and `gcnew`, of the type number n. The type byte of `null` or `gcnull` says which of the two.
+fn new(null: u8, structures: usize, n: u32, q: usize, st: &mut [u8]) -> Transfer
+    requires { ⌜ Holds (now st) × (structures ≤ 16) × (128 ≤ null) × (null ≤ 192) ⌝ }
+    ensures { λ a. ⌜ ((g : Bool) → null ≡ pointerByte g → (m : Module) (b : Body) → Numbered m structures → Judges m b (New g n) q (now (st .entry)) a (now (st .exit))) ⌝ }
 {
     let k = n as usize;
     let there = makes(structures, k);
     if !there {
         return Transfer::Breaks;
     }
-    push_type(128 + (k as u8), q, st)
+    push_type(null + (k as u8), q, st)
 }
 
 // The type of field n of structure i, counted from 0; 0 where there is none.
@@ -237,7 +239,8 @@ fn field(file: &[u8], i: usize, n: usize) -> u8
     file[at + 1 + n]
 }
 
-// `flea`. A pointer to structure i, counted from 0, has the type byte 138 + i.
+// `flea`. A pointer to structure i, counted from 0, has the type byte 138 + i, a managed one 202 + i: what it points to are its low
+// six bits, the rest stays.
 fn flea(file: &[u8], n: u32, q: usize, st: &mut [u8]) -> Transfer
     requires { ⌜ refusal (now file) ≡ 0 ⌝ }
     requires { ⌜ Holds (now st) ⌝ }
@@ -248,14 +251,18 @@ fn flea(file: &[u8], n: u32, q: usize, st: &mut [u8]) -> Transfer
         return Transfer::Breaks;
     }
     let t = st[31 + h];
-    if t < 138 {
+    if t < 128 {
         return Transfer::Breaks;
     }
-    let to = field(file, wide(t - 138), n as usize);
+    let k = wide(t) % 64;
+    if k < 10 {
+        return Transfer::Breaks;
+    }
+    let to = field(file, k - 10, n as usize);
     if to == 0 {
         return Transfer::Breaks;
     }
-    records::retype(st, 128 + to);
+    records::retype(st, t - t % 64 + to);
     Transfer::Falls(q)
 }
 
@@ -290,8 +297,9 @@ fn other(b: u8, p: usize, st: &mut [u8]) -> Transfer
         0x2f => records::operands::convert(3, p + 1, st),
         0x30 => push_type(128, p + 1, st),
         0x32 => records::pointers::delete(p + 1, st),
-        0x00 | 0x34 | 0x36 | 0x38 | 0x3a | 0x3c | 0x3e => Transfer::Breaks,
-        0x33 | 0x35 | 0x37 | 0x39 | 0x3b | 0x3d | 0x3f => Transfer::Stops,
+        0x33 => push_type(192, p + 1, st),
+        0x00 | 0x36 | 0x38 | 0x3a | 0x3c | 0x3e => Transfer::Breaks,
+        0x35 | 0x37 | 0x39 | 0x3b | 0x3d | 0x3f => Transfer::Stops,
         _ => Transfer::Jumps(0),
     }
 }
@@ -351,7 +359,8 @@ pub fn transfer(
         0x26 => branch(file, c, owner, keys::operand(code, p), p + 5, st),
         0x27 => call(file, c, keys::operand(code, p), p + 5, st),
         0x28 => ret(file, c, owner, st),
-        0x31 => new(declared(file), keys::operand(code, p), p + 5, st),
+        0x31 => new(128, declared(file), keys::operand(code, p), p + 5, st),
+        0x34 => new(192, declared(file), keys::operand(code, p), p + 5, st),
         _ => single(b, p, st),
     }
 }

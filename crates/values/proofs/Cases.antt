@@ -1,16 +1,17 @@
 -- The value of a slot and its type number: each says the other. Assumes nothing.
 use mathlib.Core.Path.{_≡_, refl, sym, ap, _∙_, subst}
-use mathlib.Core.Bool.{not, cond}
+use mathlib.Core.Bool.{Bool, true, false, not, cond}
 use mathlib.Core.Logic.{⊎-elim}
 use mathlib.Core.List.{List, [], _∷_}
-use Prim.Native.Nat.{ℕ}
+use Prim.Native.Nat.{ℕ, _≤_, _<_}
 use lib.Dec.{T, eqb}
 use lib.Ieee.{Float}
 use denote.Enum.Declared.{tagOf}
 use mir.Val.{hasKey}
 use types.Run.{OneOf, miss}
-use borrow.Author.Tests.{ne-eqb}
+use borrow.Author.Tests.{le-leb, lt-leb, ne-eqb}
 use Rattle.rules.specs.Doubles.{decodeOf}
+use Rattle.rules.specs.Instructions.{ptrKind, isPointer}
 use Rattle.rules.specs.Operations.{low, apply2, Result}
 use Rattle.rules.specs.declared.Binary.{Binary}
 use Rattle.rules.specs.declared.Slot.{Slot}
@@ -35,18 +36,24 @@ module _ (v : Slot) where
   unfolding valueOf
   double-value e = rw e
 
-  pub pointer-value : v .kind ≡ 7 → valueOf v ≡ Pointer (v .payload)
+  pub pointer-value : (g : Bool) → v .kind ≡ ptrKind g → valueOf v ≡ Pointer g (v .payload)
   unfolding valueOf
-  pointer-value e = rw e
+  pointer-value false e = rw e
+  pointer-value true e = rw e
 
-  pub other-value : (v .kind ≡ 3 → ⊥) → (v .kind ≡ 6 → ⊥) → (v .kind ≡ 7 → ⊥) → valueOf v ≡ Long (v .payload)
+  -- by the code's tests
+  pub high-value : (v .kind ≡ 3 → ⊥) → (v .kind ≡ 6 → ⊥) → 7 ≤ v .kind → valueOf v ≡ Pointer (eqb (v .kind) 8) (v .payload)
   unfolding valueOf
-  other-value i d p = rw (ne-eqb (v .kind) 3 i, ne-eqb (v .kind) 6 d, ne-eqb (v .kind) 7 p)
+  high-value i d h = rw (ne-eqb (v .kind) 3 i, ne-eqb (v .kind) 6 d, le-leb 7 (v .kind) h)
+
+  pub low-value : (v .kind ≡ 3 → ⊥) → (v .kind ≡ 6 → ⊥) → v .kind < 7 → valueOf v ≡ Long (v .payload)
+  unfolding valueOf
+  low-value i d h = rw (ne-eqb (v .kind) 3 i, ne-eqb (v .kind) 6 d, lt-leb 7 (v .kind) h)
 
   -- the type number by the value
   pub value-kind : Kind (v .kind) → kindOfValue (valueOf v) ≡ v .kind
   value-kind =
-      ⊎-elim (λ e. rw (int-value e, e)) (⊎-elim (λ e. rw (long-value e, e)) (⊎-elim (λ e. rw (double-value e, e)) (λ e. rw (pointer-value e, e))))
+      ⊎-elim (λ e. rw (int-value e, e)) (⊎-elim (λ e. rw (long-value e, e)) (⊎-elim (λ e. rw (double-value e, e)) (⊎-elim (λ e. rw (pointer-value false e, e)) (λ e. rw (pointer-value true e, e)))))
 
 -- ---- the type number and the payload, by the value
 
@@ -63,8 +70,16 @@ module _ (v : Slot) (k : Kind (v .kind)) {x : Value} (e : x ≡ valueOf v) where
   pub double-kind : {y : Float} → x ≡ Double y → (v .kind ≡ 6) × (y ≡ decodeOf (v .payload))
   double-kind f = (kind-is f, cc (double-value v (kind-is f)))
 
-  pub pointer-kind : {n : ℕ} → x ≡ Pointer n → (v .kind ≡ 7) × (n ≡ v .payload)
-  pointer-kind f = (kind-is f, cc (pointer-value v (kind-is f)))
+  pub pointer-kind : {g : Bool} {n : ℕ} → x ≡ Pointer g n → (v .kind ≡ ptrKind g) × (n ≡ v .payload)
+  pointer-kind {g} f = (kind-is f, cc (pointer-value v g (kind-is f)))
+
+  -- it is a pointer's
+  pub pointer-told : {g : Bool} {n : ℕ} → x ≡ Pointer g n → isPointer (v .kind) ≡ true
+  pointer-told {g} f = ap isPointer (kind-is f) ∙ told g
+    where
+      told : (g : Bool) → isPointer (ptrKind g) ≡ true
+      told false = refl
+      told true = refl
 
 -- ---- two operands by their values
 
@@ -97,7 +112,8 @@ tag-is : (b : Value) → tagOf the-type b ≡ tagFor (kindOfValue b)
 tag-is (Int n) = refl
 tag-is (Long n) = refl
 tag-is (Double x) = refl
-tag-is (Pointer n) = refl
+tag-is (Pointer false n) = refl
+tag-is (Pointer true n) = refl
 
 pub apart : (k : ℕ) (ks : List ℕ) (b : Value) → T (not (hasKey ks (tagFor k))) → OneOf ks (tagOf the-type b) → k ≡ kindOfValue b → ⊥
 apart k ks b n t e = miss ks (tagFor k) n (subst (OneOf ks) (tag-is b ∙ ap tagFor (sym e)) t)
@@ -117,5 +133,9 @@ module _ {a : Value} (b : Value) where
   pub double-apart : {x : Float} → a ≡ Double x → OneOf but-double (tagOf the-type b) → kindOfValue a ≡ kindOfValue b → ⊥
   double-apart f t e = apart 6 but-double b tt t (sym (ap kindOfValue f) ∙ e)
 
-  pub pointer-apart : {x : ℕ} → a ≡ Pointer x → OneOf but-pointer (tagOf the-type b) → kindOfValue a ≡ kindOfValue b → ⊥
-  pointer-apart f t e = apart 7 but-pointer b tt t (sym (ap kindOfValue f) ∙ e)
+  pub pointer-apart : {g : Bool} {x : ℕ} → a ≡ Pointer g x → OneOf but-pointer (tagOf the-type b) → kindOfValue a ≡ kindOfValue b → ⊥
+  pointer-apart {g} f t e = go g (sym (ap kindOfValue f) ∙ e)
+    where
+      go : (g : Bool) → ptrKind g ≡ kindOfValue b → ⊥
+      go false q = apart 7 but-pointer b tt t q
+      go true q = apart 8 but-pointer b tt t q

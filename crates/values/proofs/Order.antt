@@ -1,15 +1,18 @@
 -- What `cmp` and `icmp` give for two operands, by their values. Assumes nothing.
-use mathlib.Core.Path.{_≡_, refl, sym, _∙_}
-use mathlib.Core.Bool.{Bool, true, false, cond, _||_}
+use mathlib.Core.Path.{_≡_, refl, sym, ap, _∙_}
+use native.Mathlib.Omega.{arith}
+use mathlib.Core.Bool.{Bool, true, false, Bool·beq, not, cond, _||_}
 use Prim.Native.Nat.{ℕ}
 use lib.Ieee as Ieee
 use lib.Ieee.{Float}
 use borrow.Author.Tests.{eq-eqb, ne-eqb}
 use Rattle.rules.specs.Doubles.{decodeOf, dcmpOf}
+use Rattle.rules.specs.Instructions.{ptrKind}
 use Rattle.rules.specs.Operations.{apply2, compared, unordered, low, Result, raises}
 use Rattle.rules.specs.Words.{cmpOf, icmpOf, orderOf}
 use Rattle.rules.specs.declared.Binary.the-variants.{Cmp}
 use Rattle.rules.specs.declared.Slot.{Slot}
+use Rattle.soundness.specs.Tests.{false-true}
 use Rattle.values.specs.Values.{kindOfValue, gives}
 use Rattle.values.specs.declared.Value.{Value}
 use Rattle.values.specs.declared.Value.the-variants.{Int, Long, Double, Pointer}
@@ -32,10 +35,12 @@ unfolding compared
 compared-doubles true x y = refl
 compared-doubles false x y = refl
 
-compared-pointers : (g : Bool) (x y : ℕ) → compared g 7 x y ≡ cmpOf x y
+compared-pointers : (g m : Bool) (x y : ℕ) → compared g (ptrKind m) x y ≡ cmpOf x y
 unfolding compared
-compared-pointers true x y = refl
-compared-pointers false x y = refl
+compared-pointers true true x y = refl
+compared-pointers true false x y = refl
+compared-pointers false true x y = refl
+compared-pointers false false x y = refl
 
 -- ---- order, signed where g holds
 
@@ -56,9 +61,10 @@ longs-ordered : (x y : ℕ) → unordered 4 x y ≡ false
 unfolding unordered
 longs-ordered x y = refl
 
-pointers-ordered : (x y : ℕ) → unordered 7 x y ≡ false
+pointers-ordered : (m : Bool) (x y : ℕ) → unordered (ptrKind m) x y ≡ false
 unfolding unordered
-pointers-ordered x y = refl
+pointers-ordered true x y = refl
+pointers-ordered false x y = refl
 
 doubles-unordered : (x y : ℕ) → unordered 6 x y ≡ (Ieee.isNan (decodeOf x) || Ieee.isNan (decodeOf y))
 unfolding unordered
@@ -99,8 +105,24 @@ module _ (g : Bool) {a b : Value} {w : Result} where
       let q : unordered 6 (s .payload) (u .payload) ≡ true = doubles-unordered (s .payload) (u .payload) ∙ rw (i .1, j .1) at o in
       cmp-stray g w s u 6 (i .0) (j .0) q e
 
-  pub cmp-pointers : {x y : ℕ} → a ≡ Pointer x → b ≡ Pointer y → w ≡ gives 3 (cmpOf x y) → ComputesTo (Cmp g) a b w
-  cmp-pointers f h e s u k l ea eb =
+  -- one of them is managed
+  pub cmp-across : {m n : Bool} {x y : ℕ} → a ≡ Pointer m x → b ≡ Pointer n y → not (Bool·beq m n) ≡ true → w ≡ raises 22 → ComputesTo (Cmp g) a b w
+  cmp-across {m} {n} f h d e = cmp-unlike (λ q. differ m n d (sym (ap kindOfValue f) ∙ q ∙ ap kindOfValue h)) e
+    where
+      differ : (m n : Bool) → not (Bool·beq m n) ≡ true → ptrKind m ≡ ptrKind n → ⊥
+      differ false false d q = false-true d
+      differ false true d q = omega arith
+      differ true false d q = omega arith
+      differ true true d q = false-true d
+
+  pub cmp-pointers : {m n : Bool} {x y : ℕ} → a ≡ Pointer m x → b ≡ Pointer n y → not (Bool·beq m n) ≡ false → w ≡ gives 3 (cmpOf x y) → ComputesTo (Cmp g) a b w
+  cmp-pointers {m} {n} f h q e s u k l ea eb =
       let i = pointer-kind s k ea f in
       let j = pointer-kind u l eb h in
-      cmp-like g w s u 7 _ (i .0) (j .0) (pointers-ordered (s .payload) (u .payload)) e (rw (i .1, j .1) (compared-pointers g (s .payload) (u .payload)))
+      cmp-like g w s u (ptrKind m) _ (i .0) (j .0 ∙ same m n q) (pointers-ordered m (s .payload) (u .payload)) e (rw (i .1, j .1) (compared-pointers g m (s .payload) (u .payload)))
+    where
+      same : (m n : Bool) → not (Bool·beq m n) ≡ false → ptrKind n ≡ ptrKind m
+      same false false q = refl
+      same false true q = false-true (sym q)
+      same true false q = false-true (sym q)
+      same true true q = refl

@@ -1,11 +1,11 @@
 -- Values, and what operations give for them, in the rules' terms.
 use mathlib.Core.Path.{_≡_}
-use mathlib.Core.Bool.{Bool, cond}
+use mathlib.Core.Bool.{Bool, true, false, cond}
 use mathlib.Core.List.{[], _∷_}
 use Prim.Native.Nat.{ℕ}
-use lib.Dec.{eqb}
+use lib.Dec.{eqb, leb}
 use Rattle.rules.specs.Doubles.{decodeOf, encodeOf}
-use Rattle.rules.specs.Instructions.{numKind}
+use Rattle.rules.specs.Instructions.{numKind, ptrKind}
 use Rattle.rules.specs.Operations.{low, apply1, apply2, Result, yields, raises}
 use Rattle.rules.specs.Stack.{slot}
 use Rattle.rules.specs.declared.Binary.{Binary}
@@ -24,20 +24,20 @@ unfoldable pub valueOf : Slot → Value
 valueOf v =
     cond (eqb (v .kind) 3) (Int (low (v .payload)))
     (cond (eqb (v .kind) 6) (Double (decodeOf (v .payload)))
-    (cond (eqb (v .kind) 7) (Pointer (v .payload)) (Long (v .payload))))
+    (cond (leb 7 (v .kind)) (Pointer (eqb (v .kind) 8) (v .payload)) (Long (v .payload))))
 
 -- the type number and the payload of a value, and its slot
 abbrev pub kindOfValue : Value → ℕ
 kindOfValue (Int n) = 3
 kindOfValue (Long n) = 4
 kindOfValue (Double x) = 6
-kindOfValue (Pointer p) = 7
+kindOfValue (Pointer g p) = ptrKind g
 
 abbrev pub payloadOf : Value → ℕ
 payloadOf (Int n) = n
 payloadOf (Long n) = n
 payloadOf (Double x) = encodeOf x
-payloadOf (Pointer p) = p
+payloadOf (Pointer g p) = p
 
 abbrev pub slotOf : Value → Slot
 slotOf v = slot (kindOfValue v) (payloadOf v)

@@ -34,10 +34,13 @@ pub fn cmp_values(a: Value, b: Value) -> Computed
             }
             Computed::Yields(Value::Int(doubles::compare(x, y)))
         }
-        Value::Pointer(x) => {
-            let Value::Pointer(y) = b else {
+        Value::Pointer(g, x) => {
+            let Value::Pointer(h, y) = b else {
                 return Computed::Raises(STACK_DIFFERENTTYPE);
             };
+            if g != h {
+                return Computed::Raises(STACK_DIFFERENTTYPE);
+            }
             Computed::Yields(Value::Int(words::cmp64(x, y)))
         }
     }
@@ -70,10 +73,13 @@ pub fn icmp_values(a: Value, b: Value) -> Computed
             }
             Computed::Yields(Value::Int(doubles::compare(x, y)))
         }
-        Value::Pointer(x) => {
-            let Value::Pointer(y) = b else {
+        Value::Pointer(g, x) => {
+            let Value::Pointer(h, y) = b else {
                 return Computed::Raises(STACK_DIFFERENTTYPE);
             };
+            if g != h {
+                return Computed::Raises(STACK_DIFFERENTTYPE);
+            }
             Computed::Yields(Value::Int(words::cmp64(x, y)))
         }
     }

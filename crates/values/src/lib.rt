@@ -16,12 +16,12 @@ pub(crate) const DOUBLE_UNORDERED: u32 = 35;
 
 pub(crate) const CONVERT_OUTOFRANGE: u32 = 44;
 
-// An int, a long, a double with its number, or a pointer with its slot.
+// An int, a long, a double with its number, or a pointer with its address; true: a managed one.
 pub enum Value {
     Int(u32),
     Long(u64),
     Double(f64),
-    Pointer(u64),
+    Pointer(bool, u64),
 }
 
 // The value that replaces the operands, or the exception that they raise.
@@ -30,7 +30,8 @@ pub enum Computed {
     Raises(u32),
 }
 
-// The value of a slot. The types are 3, 4, 6 and 7; any other number is taken as a long's.
+// The value of a slot. The types are 3, 4, 6, 7 and 8; of other numbers those from 7 on are taken as a pointer's, the rest as a
+// long's, so that pointers are told from numbers by one test.
 pub fn value_of(s: Slot) -> Value
     ensures { λ r. ⌜ r ≡ valueOf s ⌝ }
 {
@@ -40,8 +41,8 @@ pub fn value_of(s: Slot) -> Value
     if s.kind == 6 {
         return Value::Double(doubles::decode(s.payload));
     }
-    if s.kind == 7 {
-        return Value::Pointer(s.payload);
+    if 7 <= s.kind {
+        return Value::Pointer(s.kind == 8, s.payload);
     }
     Value::Long(s.payload)
 }
@@ -53,7 +54,7 @@ pub fn payload_of(v: Value) -> u64
         Value::Int(n) => n as u64,
         Value::Long(n) => n,
         Value::Double(x) => doubles::encode(x),
-        Value::Pointer(n) => n,
+        Value::Pointer(_, n) => n,
     }
 }
 
@@ -64,7 +65,7 @@ fn kind_of(v: Value) -> u8
         Value::Int(_) => 3,
         Value::Long(_) => 4,
         Value::Double(_) => 6,
-        Value::Pointer(_) => 7,
+        Value::Pointer(managed, _) => { if managed { 8 } else { 7 } }
     }
 }
 

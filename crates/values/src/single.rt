@@ -17,7 +17,7 @@ pub fn neg_value(a: Value) -> Computed
         Value::Int(x) => Computed::Yields(Value::Int(words::neg32(x))),
         Value::Long(x) => Computed::Yields(Value::Long(words::neg64(x))),
         Value::Double(x) => Computed::Yields(Value::Double(-x)),
-        Value::Pointer(_) => Computed::Raises(POINTER_INVALIDFORPOINTER),
+        Value::Pointer(_, _) => Computed::Raises(POINTER_INVALIDFORPOINTER),
     }
 }
 
@@ -29,7 +29,7 @@ pub fn not_value(a: Value) -> Computed
         Value::Int(x) => Computed::Yields(Value::Int(words::not32(x))),
         Value::Long(x) => Computed::Yields(Value::Long(words::not64(x))),
         Value::Double(_) => Computed::Raises(DOUBLE_INVALIDFORDOUBLE),
-        Value::Pointer(_) => Computed::Raises(POINTER_INVALIDFORPOINTER),
+        Value::Pointer(_, _) => Computed::Raises(POINTER_INVALIDFORPOINTER),
     }
 }
 
@@ -47,7 +47,7 @@ pub fn toi_value(raises: bool, a: Value) -> Computed
             }
             Computed::Yields(Value::Int(words::low(t.pattern)))
         }
-        Value::Pointer(_) => Computed::Raises(POINTER_INVALIDFORPOINTER),
+        Value::Pointer(_, _) => Computed::Raises(POINTER_INVALIDFORPOINTER),
     }
 }
 
@@ -65,7 +65,7 @@ pub fn tol_value(raises: bool, a: Value) -> Computed
             }
             Computed::Yields(Value::Long(t.pattern))
         }
-        Value::Pointer(_) => Computed::Raises(POINTER_INVALIDFORPOINTER),
+        Value::Pointer(_, _) => Computed::Raises(POINTER_INVALIDFORPOINTER),
     }
 }
 
@@ -77,7 +77,7 @@ pub fn tod_value(a: Value) -> Computed
         Value::Int(x) => Computed::Yields(Value::Double(doubles::tod_int(x))),
         Value::Long(x) => Computed::Yields(Value::Double(doubles::tod_long(x))),
         Value::Double(x) => Computed::Yields(Value::Double(x)),
-        Value::Pointer(_) => Computed::Raises(POINTER_INVALIDFORPOINTER),
+        Value::Pointer(_, _) => Computed::Raises(POINTER_INVALIDFORPOINTER),
     }
 }
 
@@ -89,7 +89,7 @@ pub fn inc_value(a: Value) -> Computed
         Value::Int(x) => Computed::Yields(Value::Int(words::add32(x, 1))),
         Value::Long(x) => Computed::Yields(Value::Long(words::add64(x, 1))),
         Value::Double(x) => Computed::Yields(Value::Double(x + 1.0)),
-        Value::Pointer(_) => Computed::Raises(POINTER_INVALIDFORPOINTER),
+        Value::Pointer(_, _) => Computed::Raises(POINTER_INVALIDFORPOINTER),
     }
 }
 
@@ -101,6 +101,6 @@ pub fn dec_value(a: Value) -> Computed
         Value::Int(x) => Computed::Yields(Value::Int(words::sub32(x, 1))),
         Value::Long(x) => Computed::Yields(Value::Long(words::sub64(x, 1))),
         Value::Double(x) => Computed::Yields(Value::Double(x - 1.0)),
-        Value::Pointer(_) => Computed::Raises(POINTER_INVALIDFORPOINTER),
+        Value::Pointer(_, _) => Computed::Raises(POINTER_INVALIDFORPOINTER),
     }
 }

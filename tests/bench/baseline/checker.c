@@ -21,8 +21,14 @@ static inline int is_same(const uint8_t *record, const State *s) {
     return _mm_movemask_epi8(x) == 0xFFFF;
 }
 
-// 83, 84 or 86: neither null nor a structure's.
-static inline int points_to_number(uint8_t type) { return type > POINTER_TO && type <= (POINTER_TO | DOUBLE); }
+// 83, 84 or 86, C3, C4 or C6: neither null nor a structure's.
+static inline int points_to_number(uint8_t type) {
+    uint32_t target = type & TARGET;
+    return type >= POINTER_TO && target - 1 < DOUBLE;
+}
+
+// Are both pointers, managed or not?
+static inline int can_be_compared(uint8_t a, uint8_t b) { return a >= POINTER_TO && b >= POINTER_TO && (a ^ b) < 0x40; }
 
 #define FAIL return 0
 #define SAVE (s.bytes[LOCAL_COUNT] = (uint8_t)locals, s.bytes[OPERAND_COUNT] = (uint8_t)operands)
@@ -172,7 +178,7 @@ static int type_body(const Module *m, uint8_t *room, uint32_t body, uint32_t sta
             if (operands < 2)
                 FAIL;
             if (operand[operands - 1] != operand[operands - 2] &&
-                (m->edition != 4 || operand[operands - 1] < POINTER_TO || operand[operands - 2] < POINTER_TO))
+                (m->edition != 4 || !can_be_compared(operand[operands - 1], operand[operands - 2])))
                 FAIL;
             operand[--operands] = 0;
             operand[operands - 1] = INT;
@@ -236,34 +242,36 @@ static int type_body(const Module *m, uint8_t *room, uint32_t body, uint32_t sta
             operand[operands - 1] = op == TOI ? INT : op == TOL ? LONG : DOUBLE;
             place++;
             continue;
-        case NULL_POINTER:
+        case NULL_POINTER: case GCNULL:
             if (operands >= MOST_OPERANDS)
                 FAIL;
-            operand[operands++] = POINTER_TO;
+            operand[operands++] = op == GCNULL ? MANAGED_TO : POINTER_TO;
             place++;
             continue;
-        case NEW:
+        case NEW: case GCNEW:
             n = OPERAND;
             if (operands >= MOST_OPERANDS || !type_width(m, n))
                 FAIL;
-            operand[operands++] = (uint8_t)(POINTER_TO | n);
+            operand[operands++] = (uint8_t)((op == GCNEW ? MANAGED_TO : POINTER_TO) | n);
             place += 5;
             continue;
         case DELETE:
-            if (!operands || operand[operands - 1] < POINTER_TO)
+            if (!operands || operand[operands - 1] < POINTER_TO || operand[operands - 1] >= MANAGED_TO)
                 FAIL;
             operand[--operands] = 0;
             place++;
             continue;
         case FLEA: {
             n = OPERAND;
-            if (!operands || operand[operands - 1] < POINTER_TO + LIMPETSKEIN_FIRST_STRUCTURE)
+            if (!operands || (type = operand[operands - 1]) < POINTER_TO)
                 FAIL;
-            const uint8_t *fields =
-                m->structures + STRUCTURE * (operand[operands - 1] - POINTER_TO - LIMPETSKEIN_FIRST_STRUCTURE);
+            uint32_t target = type & TARGET;
+            if (target < LIMPETSKEIN_FIRST_STRUCTURE)
+                FAIL;
+            const uint8_t *fields = m->structures + STRUCTURE * (target - LIMPETSKEIN_FIRST_STRUCTURE);
             if (n >= fields[0])
                 FAIL;
-            operand[operands - 1] = fields[1 + n] | POINTER_TO;
+            operand[operands - 1] = (uint8_t)(fields[1 + n] | (type - target));
             place += 5;
             continue;
         }

@@ -101,7 +101,7 @@ static inline int is_for_another(const uint8_t *function, uint32_t profile) {
         } else if (likely(top_type == DOUBLE)) {                \
             doubles;                                            \
         } else {                                                \
-            if (unlikely(top_type == POINTER))                  \
+            if (unlikely(top_type >= POINTER))                  \
                 RAISE(POINTER_INVALIDFORPOINTER);               \
             uint64_t b = read64(TOP), a = read64(SECOND), v;    \
             longs;                                              \
@@ -154,7 +154,7 @@ static inline int is_for_another(const uint8_t *function, uint32_t profile) {
 #define COUNT(name, op)                                   \
     name: {                                               \
         NEED_ONE;                                         \
-        if (unlikely(TOP_TYPE != POINTER))                \
+        if (unlikely(TOP_TYPE < POINTER))                 \
             RAISE(POINTER_NOTPOINTER);                    \
         uint64_t slot = read64(TOP);                      \
         uint8_t *cell = PAYLOAD(slot);                    \
@@ -243,8 +243,8 @@ uint32_t baseline_run(const uint8_t *module, size_t module_len, uint32_t functio
         [SHR] = &&shr, [SAR] = &&sar, [CMP] = &&cmp, [ICMP] = &&icmp, [JMP] = &&jmp, [JE] = &&je, [JNE] = &&jne,
         [JA] = &&ja, [JAE] = &&jae, [JB] = &&jb, [JBE] = &&jbe, [CALL] = &&call, [RET] = &&ret, [TOI] = &&toi,
         [TOL] = &&tol, [TOD] = &&tod, [FLEA] = &&flea, [NULL_POINTER] = &&null_pointer, [NEW] = &&new,
-        [DELETE] = &&delete, [INC_TOP] = &&inc_top, [DEC_TOP] = &&dec_top, [0] = &&no_opcode, [0x2D] = &&no_opcode,
-        [0x2F] = &&no_opcode, [0x33 ... 63] = &&no_opcode};
+        [DELETE] = &&delete, [GCNULL] = &&gcnull, [GCNEW] = &&gcnew, [INC_TOP] = &&inc_top, [DEC_TOP] = &&dec_top,
+        [0] = &&no_opcode, [0x2D] = &&no_opcode, [0x2F] = &&no_opcode, [0x35 ... 63] = &&no_opcode};
 
     Frame frames[MOST_FRAMES];
     Heap blocks;
@@ -294,7 +294,7 @@ uint32_t baseline_run(const uint8_t *module, size_t module_len, uint32_t functio
         if (unlikely(m.edition == 4 && is_for_another(f, profile)))
             return LIMPETSKEIN_OTHER_PROFILE;
         if (unlikely(n > capacity)) {
-            heap_start(&blocks, &m, heap, heap_len, table, table_len);
+            heap_start(&blocks, &m, heap, heap_len, table, table_len, payloads, types);
             answer = LIMPETSKEIN_STACK_OVERFLOW;
             goto out;
         }
@@ -309,7 +309,7 @@ uint32_t baseline_run(const uint8_t *module, size_t module_len, uint32_t functio
         pc = code + read32(f);
         end = pc + read32(f + 4);
     }
-    heap_start(&blocks, &m, heap, heap_len, table, table_len);
+    heap_start(&blocks, &m, heap, heap_len, table, table_len, payloads, types);
     frame->body = function;
     frame->bottom = 0;
     // payload and type of the first free slot; types of the frame's first operand and of the slot past the capacity
@@ -381,7 +381,7 @@ lea: {
 }
 tload: {
     NEED_ONE;
-    if (unlikely(TOP_TYPE != POINTER))
+    if (unlikely(TOP_TYPE < POINTER))
         RAISE(POINTER_NOTPOINTER);
     uint64_t slot = read64(TOP);
     if (unlikely(slot >= (size_t)(tp - types) - 1)) {
@@ -400,7 +400,7 @@ tload: {
 }
 tstore: {
     NEED_TWO;
-    if (unlikely(SECOND_TYPE != POINTER))
+    if (unlikely(SECOND_TYPE < POINTER))
         RAISE(POINTER_NOTPOINTER);
     uint64_t slot = read64(SECOND);
     if (unlikely(slot >= (size_t)(tp - types) - 2)) {
@@ -460,7 +460,7 @@ swap: {
            NO_DOUBLES)
 
 mixed_types:
-    answer = TOP_TYPE == POINTER || SECOND_TYPE == POINTER ? LIMPETSKEIN_POINTER_INVALIDFORPOINTER
+    answer = TOP_TYPE >= POINTER || SECOND_TYPE >= POINTER ? LIMPETSKEIN_POINTER_INVALIDFORPOINTER
                                                            : LIMPETSKEIN_STACK_DIFFERENTTYPE;
     goto raised;
 
@@ -486,7 +486,7 @@ not: {
     else if (type == LONG)
         write64(TOP, ~read64(TOP));
     else {
-        answer = type == POINTER ? LIMPETSKEIN_POINTER_INVALIDFORPOINTER : LIMPETSKEIN_DOUBLE_INVALIDFORDOUBLE;
+        answer = type >= POINTER ? LIMPETSKEIN_POINTER_INVALIDFORPOINTER : LIMPETSKEIN_DOUBLE_INVALIDFORDOUBLE;
         goto raised;
     }
     pc++;
@@ -522,10 +522,8 @@ call: {
         goto stack_empty;
     size_t bottom = (size_t)(tp - types) - parameters;
     uint32_t bad = 0;
-    for (uint32_t i = 0; i < parameters; i++) {
-        uint8_t type = f[PARAMETER_TYPES + i];
-        bad |= (uint32_t)((type >= POINTER_TO ? POINTER : type) ^ types[bottom + i]);
-    }
+    for (uint32_t i = 0; i < parameters; i++)
+        bad |= slot_type(f[PARAMETER_TYPES + i]) ^ types[bottom + i];
     if (unlikely(bad))
         RAISE(STACK_DIFFERENTTYPE);
     if (unlikely(frame == frames + MOST_FRAMES - 1))
@@ -554,7 +552,7 @@ ret: {
         RAISE(FUNCTION_TOPOFCALLSTACK);
     if (returns) {
         NEED_ONE;
-        uint8_t kind = returns >= POINTER_TO ? POINTER : returns;
+        uint8_t kind = (uint8_t)slot_type(returns);
         if (unlikely(TOP_TYPE != kind))
             RAISE(STACK_DIFFERENTTYPE);
         write64(PAYLOAD(bottom), read64(TOP));
@@ -583,7 +581,7 @@ toi: {
         CUT(fits_int, double_to_int, 1u << 31);
     else if (type == LONG)
         write64(TOP, read32(TOP));
-    else if (type == POINTER)
+    else if (type >= POINTER)
         RAISE(POINTER_INVALIDFORPOINTER);
     TOP_TYPE = INT;
     pc++;
@@ -594,7 +592,7 @@ tol: {
     uint8_t type = TOP_TYPE;
     if (type == DOUBLE)
         CUT(fits_long, double_to_long, 1ull << 63);
-    else if (type == POINTER)
+    else if (type >= POINTER)
         RAISE(POINTER_INVALIDFORPOINTER);
     TOP_TYPE = LONG;
     pc++;
@@ -607,7 +605,7 @@ tod: {
         write_double(TOP, (double)read32(TOP));
     else if (type == LONG)
         write_double(TOP, (double)read64(TOP));
-    else if (type == POINTER)
+    else if (type >= POINTER)
         RAISE(POINTER_INVALIDFORPOINTER);
     TOP_TYPE = DOUBLE;
     pc++;
@@ -643,10 +641,28 @@ delete: {
     pc++;
     NEXT;
 }
+gcnull:
+    NEED_SLOT;
+    write64(sp, LIMPETSKEIN_NULL);
+    *tp = MANAGED;
+    GROW;
+    pc++;
+    NEXT;
+gcnew: {
+    uint32_t type = OPERAND, width = type_width(&m, type);
+    if (unlikely(!width))
+        RAISE(TYPE_OUTOFRANGE);
+    NEED_SLOT;
+    write64(sp, heap_gcnew(&blocks, type, width, tp));
+    *tp = MANAGED;
+    GROW;
+    pc += 5;
+    NEXT;
+}
 flea: {
     uint32_t field = OPERAND;
     NEED_ONE;
-    if (unlikely(TOP_TYPE != POINTER))
+    if (unlikely(TOP_TYPE < POINTER))
         RAISE(POINTER_NOTPOINTER);
     Address address = heap_field(&blocks, read64(TOP), (size_t)(tp - types) - 1, field);
     if (unlikely(answer = address.answer))

@@ -23,10 +23,15 @@ enum { HEADER = 48, HEADER_4 = 56, CONSTANT = 12, FUNCTION = 20, FUNCTION_4 = 24
 // In a function's record, after its place and its length in the code. Edition 4 has a profile.
 enum { PARAMETERS = 8, RETURNS = 9, PARAMETER_TYPES = 10, PROFILE = 20 };
 
-enum { INT = LIMPETSKEIN_INT, LONG = LIMPETSKEIN_LONG, DOUBLE = LIMPETSKEIN_DOUBLE, POINTER = LIMPETSKEIN_POINTER };
+// Numbers, then pointers: those of edition 4 that are managed have a type of their own.
+enum { INT = LIMPETSKEIN_INT, LONG = LIMPETSKEIN_LONG, DOUBLE = LIMPETSKEIN_DOUBLE, POINTER = LIMPETSKEIN_POINTER,
+       MANAGED };
 
-// A typing's pointer to a type is that type with this bit; the others name the type.
-enum { POINTER_TO = 0x80, TARGET = 0x7F };
+// A typing's pointer to a type is that type with the first bit, a managed one with both; the others name the type.
+enum { POINTER_TO = 0x80, MANAGED_TO = 0xC0, TARGET = 0x3F };
+
+// The type in a slot of a value of this type of a signature: 80 to BF are 7, C0 to FF are 8.
+static inline uint32_t slot_type(uint32_t type) { return type < POINTER_TO ? type : 5 + (type >> 6); }
 
 #define ENTRY LIMPETSKEIN_ENTRY
 
@@ -34,7 +39,7 @@ enum {
     PUSH = 0x01, POP, LOAD, STORE, LEA, FLEA,
     TLOAD = 0x07, TSTORE, COPY, SWAP, ADD, SUB, MUL, IMUL, DIV, IDIV, MOD, IMOD, NEG, INC, DEC, AND, OR, XOR, NOT,
     SHL, SAL, SHR, SAR, CMP, ICMP, JMP, JE, JNE, JA, JAE, JB, JBE, CALL, RET,
-    TOI = 0x2B, TOL = 0x2C, TOD = 0x2E, NULL_POINTER = 0x30, NEW, DELETE
+    TOI = 0x2B, TOL = 0x2C, TOD = 0x2E, NULL_POINTER = 0x30, NEW, DELETE, GCNULL, GCNEW
 };
 
 // What inc and dec of edition 1 become: numbers that no file has.

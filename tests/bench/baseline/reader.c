@@ -15,8 +15,8 @@ enum { SHORT_CODE = 1024 };
 #define OPCODES 0x000059FFFFFFFFBEull
 
 // The same of edition 4.
-#define NEW_WIDE_OPCODES (WIDE_OPCODES | 1ull << FLEA | 1ull << NEW)
-#define NEW_OPCODES (OPCODES | NEW_WIDE_OPCODES | 1ull << NULL_POINTER | 1ull << DELETE)
+#define NEW_WIDE_OPCODES (WIDE_OPCODES | 1ull << FLEA | 1ull << NEW | 1ull << GCNEW)
+#define NEW_OPCODES (OPCODES | NEW_WIDE_OPCODES | 1ull << NULL_POINTER | 1ull << DELETE | 1ull << GCNULL)
 
 // Types of constants, as bits. A function may also return nothing, 0.
 #define NUMBER_TYPES (1u << INT | 1u << LONG | 1u << DOUBLE)
@@ -297,17 +297,20 @@ static uint32_t is_good_structure(const uint8_t *at) {
 }
 
 static uint32_t is_structure_pointer(const Module *m, uint32_t type) {
-    return type - POINTER_TO - LIMPETSKEIN_FIRST_STRUCTURE < m->structure_count;
+    return type >= POINTER_TO && (type & TARGET) - LIMPETSKEIN_FIRST_STRUCTURE < m->structure_count;
 }
 
 static uint32_t is_number(uint32_t type) { return type <= DOUBLE && NUMBER_TYPES >> type & 1; }
 
+// A pointer to a number is returned if it is managed: any other may be to a slot that is gone.
 static uint32_t is_good_signature(const Module *m, const uint8_t *at) {
     uint32_t count = at[PARAMETERS], returns = at[RETURNS];
-    uint32_t bad = (count > 8) | !(returns == 0 || is_number(returns) || is_structure_pointer(m, returns));
+    uint32_t is_good = returns == 0 || is_number(returns) || is_structure_pointer(m, returns);
+    is_good |= returns >= MANAGED_TO && is_number(returns & TARGET);
+    uint32_t bad = (count > 8) | !is_good;
     for (uint32_t i = 0; i < 8; i++) {
         uint32_t type = at[PARAMETER_TYPES + i];
-        uint32_t is_good = is_number(type) || is_structure_pointer(m, type);
+        is_good = is_number(type) || is_structure_pointer(m, type);
         is_good |= type >= POINTER_TO && is_number(type & TARGET);
         bad |= i < count ? !is_good : type != 0;
     }
@@ -333,7 +336,7 @@ __attribute__((noinline)) uint32_t test_new_sections(const Module *m) {
     }
     if (unlikely(end != m->code_length))
         return LIMPETSKEIN_BAD_FUNCTION;
-    return walk_code(m, starts, NEW_OPCODES, NEW_WIDE_OPCODES, DELETE);
+    return walk_code(m, starts, NEW_OPCODES, NEW_WIDE_OPCODES, GCNEW);
 }
 
 // ---- opening
@@ -380,14 +383,15 @@ static INLINE uint32_t has_profile(const Module *m) {
     return profiles;
 }
 
-// Without structures the records are tested as in edition 3, and so is the code, unless it has an opcode of edition 4.
+// Without structures the records are tested as in edition 3, and so is the code, unless they have a type or an opcode
+// of edition 4.
 uint32_t open_for_edition_3(const uint8_t *file, size_t length, Module *m, uint64_t *starts) {
     uint32_t refusal = find_sections(file, length, 4, m);
     if (unlikely(refusal))
         return refusal;
     if (likely(!(m->structure_count | has_profile(m)))) {
         refusal = test_records_and_code(m, starts);
-        if (likely(refusal != LIMPETSKEIN_BAD_CODE))
+        if (likely(refusal != LIMPETSKEIN_BAD_CODE && refusal != LIMPETSKEIN_BAD_FUNCTION))
             return refusal;
     }
     refusal = test_new_sections(m);

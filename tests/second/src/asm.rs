@@ -5,16 +5,16 @@
 //! * `edition 1`, `edition 4`: the module is of this edition (first, else it is of edition 3);
 //! * `structure int, double`: the next structure, numbered from 10, with these fields;
 //! * `int 7`, `long -1`, `double 1.5`, `double #7FF0000000000001`: the next constant;
-//! * `entry:`, `function int (int, *long, *10):` (return type `void`, `int`, `long`, `double`, or
-//!   a pointer as `*10`): what follows is this body; `function int () profile 5:` was made for
-//!   profile 5;
+//! * `entry:`, `function int (int, *long, *10, gc*10):` (return type `void`, `int`, `long`,
+//!   `double`, a pointer as `*10`, or a managed one as `gc*10`): what follows is this body;
+//!   `function int () profile 5:` was made for profile 5;
 //! * `@0`: label 0 is here (at the next instruction);
 //! * `push 0`, `add`, ...: instructions, operands in decimal.
 
 use crate::opcode::{Edition, Op};
 use crate::program::{Constant, Instr, Mark, Program, Routine};
 use crate::reader::ENTRY;
-use crate::types::{DOUBLE, INT, LONG, POINTER_TO};
+use crate::types::{DOUBLE, INT, LONG, MANAGED_TO, POINTER_TO};
 
 /// Assembles a module. The text is part of this repository: a mistake in it stops the program.
 pub fn program(text: &str) -> Program {
@@ -108,14 +108,17 @@ fn number_type(word: &str) -> Option<u8> {
     }
 }
 
-/// A type as in a signature: `int`, `*long`, `*10`.
+/// A type as in a signature: `int`, `*long`, `*10`, `gc*int`.
 fn type_byte(word: &str) -> u8 {
-    match word.strip_prefix('*') {
-        Some(target) => {
-            let structure = || target.parse().expect("type");
-            POINTER_TO | number_type(target).unwrap_or_else(structure)
-        }
-        None => number_type(word).expect("type"),
+    let Some((kind, target)) = word.split_once('*') else {
+        return number_type(word).expect("type");
+    };
+    let structure = || target.parse().expect("type");
+    let target = number_type(target).unwrap_or_else(structure);
+    match kind {
+        "" => POINTER_TO | target,
+        "gc" => MANAGED_TO | target,
+        _ => panic!("type {word}"),
     }
 }
 

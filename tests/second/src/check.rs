@@ -3,7 +3,7 @@
 use crate::judge::Lists;
 use crate::reader::{read, Module};
 use crate::rules::{Fault, Rules};
-use crate::types::run_time;
+use crate::types::{is_managed, run_time, target, POINTER_TO};
 use crate::worklist::{typing, Reason, Typing};
 
 /// Bytes of one label record.
@@ -100,9 +100,12 @@ fn write_lists(rules: Rules, lists: &Lists, record: &mut [u8]) {
     for (at, &ty) in (32..64).zip(&lists.operands) {
         record[at] = ty;
     }
-    if rules.wrong(Fault::PointersShownAsSeven) {
-        for byte in &mut record[16..] {
+    for byte in &mut record[16..] {
+        if rules.wrong(Fault::PointersShownAsSeven) {
             *byte = run_time(*byte);
+        }
+        if rules.wrong(Fault::ManagedShownPlain) && is_managed(*byte) {
+            *byte = POINTER_TO | target(*byte);
         }
     }
 }

@@ -2,13 +2,41 @@
 //!
 //! "At every moment from that call to its return ... each slot below the called frame has the
 //! type and payload that it had at the call. The only exceptions are the slots named by that
-//! call's own pointer arguments." Only pointers with serial 0 name slots. And what the heap is at
-//! every moment: blocks inside it and apart, serials rising and below the next.
+//! call's own pointer arguments." Only pointers with serial 0 name slots, and no managed one has
+//! it. And what the heap is at every moment: blocks inside it and apart, serials rising and below
+//! the next. A managed pointer is null, or leads to a managed block that lives: through it no run
+//! ends in 33. `gcnew` frees the dead blocks and no others, and "changes no payload and no value
+//! read through a pointer".
 
-use crate::heap::{address, Address, Heap};
+use crate::heap::{address, Address, Block, Heap, Holders};
 use crate::machine::{Machine, Slot, Watch};
 use crate::opcode::{Edition, Op};
-use crate::types::{INT, POINTER};
+use crate::types::{INT, MANAGED, POINTER};
+
+/// A block that `gcnew` finds, with its values.
+struct Found {
+    serial: u64,
+    ty: u8,
+    managed: bool,
+    values: Vec<u64>,
+}
+
+impl Found {
+    fn new(heap: &Heap, block: &Block) -> Found {
+        Found {
+            serial: block.serial,
+            ty: block.ty,
+            managed: block.managed,
+            values: heap.cells[block.range()].to_vec(),
+        }
+    }
+
+    /// Is this the same block, with the same values?
+    fn is(&self, heap: &Heap, block: &Block) -> bool {
+        let kind = (self.ty, self.managed) == (block.ty, block.managed);
+        kind && heap.cells[block.range()] == self.values
+    }
+}
 
 /// What lay below a called frame at the call.
 struct Below {
@@ -21,6 +49,8 @@ pub struct Claims {
     /// The stack right before the current instruction.
     before: Vec<Slot>,
     calls: Vec<Below>,
+    /// The blocks right before it, where it is `gcnew`.
+    found: Option<Vec<Found>>,
     /// The serial that the heap gives next.
     next: u64,
     /// How many slots broke the claim, and how many moments that about the heap.
@@ -29,13 +59,19 @@ pub struct Claims {
 
 impl Watch for Claims {
     fn before(&mut self, machine: &Machine<'_>, op: Op) {
-        if op == Op::Call {
+        if matches!(op, Op::Call | Op::GcNew) {
             self.before.clone_from(&machine.stack);
         }
+        let heap = &machine.heap;
+        let found = heap.blocks.iter().filter(|_| op == Op::GcNew);
+        let found: Vec<Found> = found.map(|block| Found::new(heap, block)).collect();
+        self.found = (op == Op::GcNew).then_some(found);
     }
 
     fn after(&mut self, machine: &Machine<'_>, op: Op, raised: Option<u32>) {
         if raised.is_some() {
+            let lost = raised == Some(33) && follows_managed(machine, op);
+            self.broken += u64::from(lost);
             return;
         }
         if op == Op::Call {
@@ -56,8 +92,54 @@ impl Watch for Claims {
         if op.is_of_the_heap() {
             self.broken += u64::from(!is_a_heap(&machine.heap) || machine.heap.next < self.next);
             self.next = machine.heap.next;
+            let astray = machine.stack.iter().filter(|slot| !leads(machine, slot));
+            self.broken += astray.count() as u64;
+        }
+        if let Some(found) = self.found.take() {
+            let same = machine.stack.starts_with(&self.before);
+            let broken = !same || !is_collected(&found, &self.before, &machine.heap);
+            self.broken += u64::from(broken);
         }
     }
+}
+
+/// Is the pointer that an instruction works through managed?
+fn follows_managed(machine: &Machine<'_>, op: Op) -> bool {
+    let above = usize::from(op == Op::Tstore);
+    let pointer = machine.stack.iter().nth_back(above);
+    pointer.is_some_and(|slot| slot.ty == MANAGED)
+}
+
+/// A managed pointer is null, or to a managed block or a field of it; no other pointer is.
+fn leads(machine: &Machine<'_>, slot: &Slot) -> bool {
+    let managed = slot.ty == MANAGED;
+    match address(slot.payload) {
+        Address::Null => true,
+        Address::Slot(_) => !managed,
+        Address::Block { serial, part } => {
+            let block = machine.heap.block(serial);
+            let same = block.is_some_and(|block| block.managed);
+            match slot.ty {
+                MANAGED => same && machine.heap.part(serial, part).is_some(),
+                POINTER => !same,
+                _ => true,
+            }
+        }
+    }
+}
+
+/// Each block that `gcnew` found on this stack lives with its values, or is managed and no type 8
+/// slot holds its serial: then it is gone.
+fn is_collected(found: &[Found], stack: &[Slot], after: &Heap) -> bool {
+    let managed = stack.iter().filter(|slot| slot.ty == MANAGED);
+    let holders: Holders = managed.map(|slot| slot.payload >> 16).collect();
+    found.iter().all(|block| {
+        let now = after.block(block.serial);
+        if block.managed && !holders.hold(block.serial) {
+            return now.is_none();
+        }
+        now.is_some_and(|now| block.is(after, now))
+    })
 }
 
 /// The slot that an argument names, if it is a pointer to one.

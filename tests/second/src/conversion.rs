@@ -5,7 +5,7 @@ use crate::check::{check, Checked, RECORD};
 use crate::opcode::{Edition, Op};
 use crate::reader::{read, refuse, Module, FUNCTION, LONG_FUNCTION, MAX_LABELS};
 use crate::rules::{Fault, Rules};
-use crate::types::{is_number, pointee};
+use crate::types::{is_managed, is_number, pointee};
 use crate::words::word;
 use crate::writer::Tables;
 
@@ -93,8 +93,16 @@ fn goes_down(rules: Rules, module: Module<'_>) -> bool {
     // "a structure", used or not
     let structures = module.structures > 0 && !rules.wrong(Fault::StructuresDropped);
     let mut types = functions().flat_map(|f| [f.parameters, vec![f.returns]].concat());
-    let foreign = types.any(|ty| ty != 0 && !is_number(ty) && pointee(ty).is_none());
+    let foreign = types.any(|ty| !has_type(rules, ty));
     !profiles && !structures && !foreign && !has_foreign_opcode(rules, module)
+}
+
+/// Has edition 3 this type byte? No structure's and no managed pointer's.
+fn has_type(rules: Rules, ty: u8) -> bool {
+    if is_managed(ty) {
+        return pointee(ty).is_some() && rules.wrong(Fault::ManagedTypesKept);
+    }
+    ty == 0 || is_number(ty) || pointee(ty).is_some()
 }
 
 /// "or opcode that edition 3 lacks": at every instruction start, reached or not; bytes of
@@ -106,7 +114,7 @@ fn has_foreign_opcode(rules: Rules, module: Module<'_>) -> bool {
     if rules.wrong(Fault::OperandsLookedAt) {
         let code = module.sections()[3].iter();
         let mut ops = code.filter_map(|&byte| Op::from_byte(rules, Edition::Four, byte));
-        return ops.any(is_foreign);
+        return ops.any(|op| is_foreign(rules, op));
     }
     module.bodies().any(|body| {
         let starts = module.starts(rules, body).0.into_iter();
@@ -115,14 +123,15 @@ fn has_foreign_opcode(rules: Rules, module: Module<'_>) -> bool {
             .map(|at| at.op);
         if rules.wrong(Fault::DeadOpcodesKept) {
             let live = ops.take_while(|op| ![Op::Jmp, Op::Ret].contains(op));
-            return live.into_iter().any(is_foreign);
+            return live.into_iter().any(|op| is_foreign(rules, op));
         }
-        ops.any(is_foreign)
+        ops.any(|op| is_foreign(rules, op))
     })
 }
 
-fn is_foreign(op: Op) -> bool {
-    op.byte(Edition::Three).is_none()
+fn is_foreign(rules: Rules, op: Op) -> bool {
+    let kept = op.is_managed() && rules.wrong(Fault::ManagedOpcodesKept);
+    op.byte(Edition::Three).is_none() && !kept
 }
 
 /// 16: "output too short"

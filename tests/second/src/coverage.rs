@@ -12,13 +12,14 @@ use crate::gen::rows::MapCase;
 use crate::gen::tables::WriteCase;
 use crate::heap::{address, Address, Part};
 use crate::machine::{Machine, Slot, Watch};
+use crate::managed_edges::{self, Before};
 use crate::opcode::{Edition, Op};
-use crate::possible::IN_A_CELL;
+use crate::possible::{BY_MANAGED, IN_A_CELL};
 use crate::profile_edges::{self, is_an_outcome};
 use crate::row_edges;
 use crate::rules::Rules;
 use crate::subject::{checked_number, Second, Subject};
-use crate::types::{DOUBLE, POINTER, STRUCTURE};
+use crate::types::{is_address, DOUBLE, MANAGED, STRUCTURE};
 use crate::worklist::Reason;
 use std::collections::BTreeMap;
 
@@ -50,6 +51,7 @@ pub struct Coverage {
     pub converted: Counts<(Edition, Op, u64)>,
     pub reasons: Counts<(Edition, Reason)>,
     pub heap_edges: Counts<&'static str>,
+    pub managed_edges: Counts<&'static str>,
     pub profile_edges: Counts<&'static str>,
     pub conversion_edges: Counts<&'static str>,
     /// Conversions that don't come back, or whose module does otherwise.
@@ -66,6 +68,8 @@ pub struct Coverage {
     next: usize,
     /// The double that it converts.
     double: Option<u64>,
+    /// The heap before it, where it is `gcnew`.
+    given: Option<Before>,
     /// Exceptions in the current run.
     raises: u64,
 }
@@ -172,6 +176,9 @@ impl Coverage {
             for edge in edges::lent(edition, run, misfit) {
                 count(&mut self.heap_edges, edge);
             }
+            for edge in managed_edges::of_run(&memory, edges::capacity(run)) {
+                count(&mut self.managed_edges, edge);
+            }
         }
         if accepted {
             let mut claims = Claims::default();
@@ -232,17 +239,18 @@ fn accepted_with_room(case: &Case) -> bool {
     crate::check::check(Rules::PLAIN, &case.module, &mut room) == Checked::Accepted
 }
 
-/// The type of what a pointer leads to, and whether it is in a cell.
+/// The type of what a pointer leads to, whether it is in a cell, and whether the pointer is managed.
 fn target(machine: &Machine<'_>, pointer: Option<Slot>) -> u8 {
-    let Some(pointer) = pointer.filter(|slot| slot.ty == POINTER) else {
+    let Some(pointer) = pointer.filter(|slot| is_address(slot.ty)) else {
         return 0;
     };
+    let by = if pointer.ty == MANAGED { BY_MANAGED } else { 0 };
     match address(pointer.payload) {
         Address::Null => 0,
         Address::Slot(slot) => machine.stack.get(slot as usize).map_or(0, |slot| slot.ty),
         Address::Block { serial, part } => match machine.heap.part(serial, part) {
-            Some(Part::Number { ty, .. }) => IN_A_CELL | ty,
-            Some(Part::Structure) => STRUCTURE,
+            Some(Part::Number { ty, .. }) => IN_A_CELL | by | ty,
+            Some(Part::Structure) => by | STRUCTURE,
             None => 0,
         },
     }
@@ -258,7 +266,7 @@ fn variant(machine: &Machine<'_>, op: Op) -> u8 {
         Op::Tstore => {
             let ty = top.map_or(0, |slot| slot.ty);
             let under = machine.stack.iter().rev().nth(1).copied();
-            ty | target(machine, under) & IN_A_CELL
+            ty | target(machine, under) & (IN_A_CELL | BY_MANAGED)
         }
         Op::Lea => {
             let at = machine.module.instruction(Rules::PLAIN, machine.place);
@@ -270,7 +278,7 @@ fn variant(machine: &Machine<'_>, op: Op) -> u8 {
             .module
             .function(machine.frame().body)
             .map_or(0, |f| crate::types::run_time(f.returns)),
-        Op::Jmp | Op::Call | Op::Null => 0,
+        Op::Jmp | Op::Call | Op::Null | Op::GcNull => 0,
         _ => top.map_or(0, |slot| slot.ty),
     }
 }
@@ -283,6 +291,8 @@ impl Watch for Coverage {
         let top = machine.stack.last().filter(|slot| slot.ty == DOUBLE);
         let converts = matches!(op, Op::Toi | Op::Tol);
         self.double = top.filter(|_| converts).map(|slot| slot.payload);
+        let gives = at.filter(|_| op == Op::GcNew);
+        self.given = gives.map(|at| Before::new(machine, at.operand));
     }
 
     fn after(&mut self, machine: &Machine<'_>, op: Op, raised: Option<u32>) {
@@ -292,18 +302,38 @@ impl Watch for Coverage {
         }
         if let Some(number) = raised {
             self.raises += 1;
+            if let Some(edge) = managed_edges::raised(machine, op, number) {
+                count(&mut self.managed_edges, edge);
+            }
             return count(&mut self.raised, (edition, op, number));
         }
         let top = machine.stack.last().copied();
         let variant = match op {
             Op::Push | Op::Load => top.map_or(0, |slot| slot.ty),
-            Op::New | Op::Flea => target(machine, top) & !IN_A_CELL,
+            Op::Flea => target(machine, top) & !IN_A_CELL,
+            Op::New | Op::GcNew => target(machine, top) & !(IN_A_CELL | BY_MANAGED),
             op if op.is_conditional() => u8::from(machine.place != self.next),
             _ => self.variant,
         };
+        self.of_heap(machine, op);
+        count(&mut self.executed, (edition, op, variant));
+    }
+}
+
+impl Coverage {
+    /// By what an instruction of the heap did.
+    fn of_heap(&mut self, machine: &Machine<'_>, op: Op) {
         if op == Op::New {
             for edge in edges::given(machine) {
                 count(&mut self.heap_edges, edge);
+            }
+            if let Some(edge) = managed_edges::of_new(machine) {
+                count(&mut self.managed_edges, edge);
+            }
+        }
+        if let Some(before) = self.given.take() {
+            for edge in before.of_gcnew(machine) {
+                count(&mut self.managed_edges, edge);
             }
         }
         if op.is_of_the_heap() {
@@ -311,6 +341,5 @@ impl Watch for Coverage {
                 count(&mut self.heap_edges, edge);
             }
         }
-        count(&mut self.executed, (edition, op, variant));
     }
 }

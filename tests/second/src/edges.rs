@@ -5,6 +5,12 @@ use crate::heap::{Heap, CELL, ENTRY, MOST_CELLS, NULL};
 use crate::machine::Machine;
 use crate::opcode::Edition;
 
+/// How many cells and entries are a run's.
+pub fn capacity(run: &RunCall) -> usize {
+    let (cells, entries) = (run.heap.len() / CELL, run.blocks.len() / ENTRY);
+    cells.min(entries).min(MOST_CELLS)
+}
+
 /// By what was lent to a run that ended; `misfit`: the arguments didn't fit.
 pub fn lent(edition: Edition, run: &RunCall, misfit: bool) -> Vec<&'static str> {
     let (cells, entries) = (run.heap.len() / CELL, run.blocks.len() / ENTRY);

@@ -1,10 +1,15 @@
 //! The heap, document 02's A6: "a lent heap of 8-byte cells, holding payloads as slots do, with a
 //! lent table of 24-byte block entries (serial, first cell, type, 8 bytes each, little endian)".
+//! `managed` has what A9 adds.
+
+mod managed;
 
 use crate::reader::Module;
 use crate::rules::{Fault, Rules};
 use crate::types::{is_number, STRUCTURE};
 use crate::words::payload;
+pub use managed::{Holders, LISTED_MANAGED};
+use std::ops::Range;
 
 /// Bytes of a cell, and of a block entry.
 pub const CELL: usize = 8;
@@ -72,6 +77,15 @@ pub struct Block {
     pub ty: u8,
     /// The type of each of its cells.
     pub cells: Vec<u8>,
+    /// Was it given by `gcnew`?
+    pub managed: bool,
+}
+
+impl Block {
+    /// Its cells in the heap.
+    pub fn range(&self) -> Range<usize> {
+        self.first..self.first + self.cells.len()
+    }
 }
 
 /// What a pointer to a part of a live block names.
@@ -113,9 +127,11 @@ impl Heap {
     fn keep(&mut self, module: Module<'_>, lent: &LentHeap<'_>) {
         for entry in lent.blocks.chunks_exact(ENTRY).take(self.capacity) {
             let [serial, first, number] = [0, 8, 16].map(|at| payload(entry, at));
-            let Ok(ty) = u8::try_from(number) else {
+            let Ok(listed) = u8::try_from(number) else {
                 return;
             };
+            let managed = listed >= LISTED_MANAGED;
+            let ty = listed - if managed { LISTED_MANAGED } else { 0 };
             let cells = match module.fields(u32::from(ty)) {
                 _ if is_number(ty) => vec![ty],
                 fields => fields.unwrap_or_default().to_vec(),
@@ -136,6 +152,7 @@ impl Heap {
                 first,
                 ty,
                 cells,
+                managed,
             });
         }
     }
@@ -156,6 +173,10 @@ impl Heap {
     /// "`new` takes the lowest run of free cells that fits and clears it; it gives null exactly
     /// when there is none or serials (to 2^48 - 2) have run out."
     pub fn give(&mut self, ty: u8, cells: Vec<u8>) -> u64 {
+        self.give_as(ty, cells, false)
+    }
+
+    fn give_as(&mut self, ty: u8, cells: Vec<u8>, managed: bool) -> u64 {
         let run = self.run(cells.len());
         let Some(first) = run.filter(|_| self.next <= LAST_SERIAL) else {
             self.next += u64::from(self.rules.wrong(Fault::NullTakesSerial));
@@ -171,6 +192,7 @@ impl Heap {
             first,
             ty,
             cells,
+            managed,
         };
         let at = self.blocks.partition_point(|other| other.serial < serial);
         self.blocks.insert(at, block);
@@ -229,8 +251,8 @@ impl Heap {
                 .filter(fits)
                 .min_by_key(|&first| extent(&self.free, first));
         }
-        let end = |block: &Block| block.first + block.cells.len();
-        let past = self.blocks.iter().map(end).max().unwrap_or(0);
+        let past = self.blocks.iter().map(|block| block.range().end);
+        let past = past.max().unwrap_or(0);
         firsts.find(|first| *first >= past)
     }
 
@@ -245,7 +267,7 @@ impl Heap {
         let at = self.blocks.partition_point(|block| block.serial < serial);
         if self.block(serial).is_some() {
             let block = self.blocks.remove(at);
-            self.free[block.first..block.first + block.cells.len()].fill(true);
+            self.free[block.range()].fill(true);
             self.too_long = self.capacity + 1;
         }
     }
@@ -298,9 +320,9 @@ pub fn write_back(rules: Rules, heap: &Heap, lent: LentHeap<'_>) {
     }
     let mut table = Vec::new();
     for block in listed(rules, heap) {
-        let own = block.first..block.first + block.cells.len();
-        cells[own.clone()].copy_from_slice(&heap.cells[own]);
-        table.extend([block.serial, block.first as u64, u64::from(block.ty)]);
+        cells[block.range()].copy_from_slice(&heap.cells[block.range()]);
+        let ty = u64::from(managed::listed(rules, block));
+        table.extend([block.serial, block.first as u64, ty]);
     }
     table.resize(ENTRY / 8 * heap.capacity, 0);
     if rules.wrong(Fault::HeapPastCapacityCleared) {

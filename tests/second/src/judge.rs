@@ -4,13 +4,16 @@
 //! live, raises at most 20 or 24, "same type" meaning the same of six, for call arguments
 //! too". "Demand 3's ends and the typing rule gain" 35, document 02's A2, "in edition 4, 33 and
 //! 36", A6, and 44, A8. "In a typing `null` has its own type (byte 80) for moves, `cmp`, `icmp` and
-//! `delete` only; those three take any pointers."
+//! `delete` only; those three take any pointers." A9: "C0 for `gcnull` (used as 80 is, save for
+//! `delete`)"; "`delete` of type 8 is 31. A typing passes neither that nor a comparison across types
+//! 7 and 8."
 
 use crate::opcode::{Edition, Op};
 use crate::reader::{Instruction, Module, ENTRY};
 use crate::rules::{Fault, Rules};
 use crate::types::{
-    is_number, is_pointer, pointee, run_time, structure, DOUBLE, INT, LONG, NULL, POINTER_TO,
+    is_managed, is_null, is_number, is_pointer, kind, pointee, run_time, structure, DOUBLE, GCNULL,
+    INT, LONG, MANAGED_TO, NULL, POINTER_TO,
 };
 
 /// "a list of local types and of operand types", deepest first.
@@ -47,7 +50,7 @@ impl Judge<'_> {
             }
             Op::Inc | Op::Dec if self.on_top() => self.by_one(&mut lists)?,
             Op::Tload | Op::Tstore | Op::Inc | Op::Dec => self.through(at.op, &mut lists)?,
-            Op::Null | Op::New | Op::Delete | Op::Flea => self.heap(at, &mut lists)?,
+            op if op.is_of_the_heap() => self.heap(at, &mut lists)?,
             Op::Neg | Op::Not | Op::Toi | Op::Tol | Op::Tod => self.unary(at.op, &mut lists)?,
             Op::Jmp | Op::Call | Op::Ret => next = self.flow(at, &mut lists)?,
             op if op.is_conditional() => next = self.branch(at, &mut lists)?,
@@ -77,18 +80,22 @@ impl Judge<'_> {
         if self.rules.wrong(Fault::PointersAlike) {
             return raise(run_time(a) != run_time(b), 22);
         }
-        let null = is_pointer(a) && is_pointer(b) && (a == NULL || b == NULL);
-        raise(a != b && !(null && self.rules.wrong(Fault::NullFits)), 22)
+        let fits = |null: u8| kind(a) == null && kind(b) == null && [a, b].contains(&null);
+        let null = fits(NULL) && self.rules.wrong(Fault::NullFits);
+        let gcnull = fits(GCNULL) && self.rules.wrong(Fault::GcnullFits);
+        raise(a != b && !null && !gcnull, 22)
     }
 
-    /// `cmp` and `icmp` of edition 4: "those three take any pointers"
+    /// `cmp` and `icmp` of edition 4: "those three take any pointers", but not one of type 7 and one
+    /// of type 8.
     fn comparable(&self, a: u8, b: u8) -> Result<(), u32> {
         let any = if self.module.edition.has_heap() {
             !self.rules.wrong(Fault::PointersComparedApart)
         } else {
             self.rules.wrong(Fault::AnyPointersInThree)
         };
-        if any && is_pointer(a) && is_pointer(b) {
+        let alike = kind(a) == kind(b) || self.rules.wrong(Fault::ComparedAcrossTyped);
+        if any && is_pointer(a) && is_pointer(b) && alike {
             return Ok(());
         }
         self.same(a, b)
@@ -217,7 +224,7 @@ impl Judge<'_> {
         let function = self.module.signature(self.rules, n).ok_or(28u32)?;
         let arguments = take(lists, function.parameters.len())?;
         for (&argument, &parameter) in arguments.iter().zip(&function.parameters) {
-            let null = argument == NULL && is_pointer(parameter);
+            let null = argument == NULL && kind(parameter) == NULL;
             if !(null && self.rules.wrong(Fault::NullArgumentTyped)) {
                 self.same(argument, parameter)?;
             }
@@ -243,8 +250,11 @@ impl Judge<'_> {
     /// `null`, then 50 for a whole structure.
     fn number_at(&self, ty: u8) -> Result<u8, u32> {
         raise(!is_pointer(ty), 31)?;
-        raise(ty == NULL && !self.rules.wrong(Fault::NullThroughTyped), 36)?;
-        if ty == NULL {
+        raise(
+            is_null(ty) && !self.rules.wrong(Fault::NullThroughTyped),
+            36,
+        )?;
+        if is_null(ty) {
             return Ok(INT);
         }
         let whole = self.rules.wrong(Fault::WholeTyped) && structure(ty).is_some();
@@ -267,19 +277,16 @@ impl Judge<'_> {
         Ok(())
     }
 
-    /// `null`, `new`, `delete`, `flea`.
+    /// `null`, `new`, `delete`, `flea`, `gcnull`, `gcnew`.
     fn heap(&self, at: Instruction, lists: &mut Lists) -> Result<(), u32> {
         match at.op {
             Op::Null => lists.operands.push(NULL),
-            Op::New => {
-                // "37 type number"; "`new` also takes 3, 4 and 6"
-                let number = u8::try_from(at.operand).is_ok_and(is_number);
-                raise(!number && self.module.fields(at.operand).is_none(), 37)?;
-                lists.operands.push(POINTER_TO | at.operand as u8);
-            }
+            Op::GcNull => lists.operands.push(GCNULL),
+            Op::New => lists.operands.push(POINTER_TO | self.block(at.operand)?),
+            Op::GcNew => lists.operands.push(MANAGED_TO | self.block(at.operand)?),
             Op::Delete => {
                 let top = take(lists, 1)?[0];
-                raise(!is_pointer(top), 31)?;
+                raise(!self.can_be_deleted(top), 31)?;
                 let apart =
                     pointee(top).is_some() && self.rules.wrong(Fault::DeleteOfNumberUntyped);
                 raise(apart, 33)?;
@@ -292,14 +299,31 @@ impl Judge<'_> {
         Ok(())
     }
 
-    /// The type of the pointer that `flea` leaves: 31, 36, 39, 38.
+    /// The type number that `new` or `gcnew` takes: "37 type number"; "`new` also takes 3, 4 and 6"
+    fn block(&self, ty: u32) -> Result<u8, u32> {
+        let number = u8::try_from(ty).is_ok_and(is_number);
+        raise(!number && self.module.fields(ty).is_none(), 37)?;
+        Ok(ty as u8)
+    }
+
+    /// "`delete` of type 8 is 31."
+    fn can_be_deleted(&self, ty: u8) -> bool {
+        let gcnull = ty == GCNULL && self.rules.wrong(Fault::GcnullDeleteTyped);
+        let managed = is_managed(ty) && !self.rules.wrong(Fault::ManagedDeleteTyped);
+        is_pointer(ty) && (!managed || gcnull)
+    }
+
+    /// The type of the pointer that `flea` leaves: 31, 36, 39, 38. "`flea` keeps type 8."
     fn field(&self, ty: u8, field: u32) -> Result<u8, u32> {
         raise(!is_pointer(ty), 31)?;
-        raise(ty == NULL, 36)?;
+        raise(is_null(ty), 36)?;
         let number = structure(ty).ok_or(39u32)?;
         let fields = self.module.fields(u32::from(number)).ok_or(39u32)?;
         let target = fields.get(field as usize).ok_or(38u32)?;
-        Ok(POINTER_TO | target)
+        if self.rules.wrong(Fault::FleaGivesPointerTyped) {
+            return Ok(POINTER_TO | target);
+        }
+        Ok(kind(ty) | target)
     }
 }
 

@@ -10,8 +10,8 @@
 //! * `opcode`: the editions and their opcode numbers; all else is shared.
 //! * `rules`: the deliberately wrong variants that test the tests.
 //! * The tools: `program` and `asm` write modules, `gen` makes cases, `memory`, `subject` and
-//!   `compare` run two programs side by side, `coverage` (with `edges`, `profile_edges` and
-//!   `row_edges`) counts what the cases reach,
+//!   `compare` run two programs side by side, `coverage` (with `edges`, `managed_edges`,
+//!   `profile_edges` and `row_edges`) counts what the cases reach,
 //!   `stated` has checks, runs, writes, formula lines, conversions and rows with their answers
 //!   written out.
 
@@ -35,6 +35,7 @@ pub mod hex;
 pub mod integer;
 pub mod judge;
 pub mod machine;
+pub mod managed_edges;
 pub mod map;
 pub mod memory;
 pub mod opcode;

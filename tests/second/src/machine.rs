@@ -6,8 +6,8 @@ use crate::reader::{Module, ENTRY};
 use crate::rules::{Fault, Rules};
 use crate::step::{step, Flow};
 
-/// "A value is an int, a long, a double with its number, or a pointer with its slot." Kept as
-/// type number and raw payload, so "A double only moved keeps its bits".
+/// "A value is an int, a long, a double with its number, or a pointer with its slot.", or a managed
+/// pointer. Kept as type number and raw payload, so "A double only moved keeps its bits".
 #[derive(Clone, Copy, Debug, PartialEq, Eq)]
 pub struct Slot {
     pub ty: u8,

@@ -11,8 +11,8 @@ use crate::heap::LentHeap;
 use crate::profile;
 use crate::reader::{read, refuse, Module, ENTRY};
 use crate::rules::{Fault, Rules};
-use crate::run::{run, Call, LentStack, Ran};
-use crate::types::{is_number, is_pointer};
+use crate::run::{can_come, run, Call, LentStack, Ran};
+use crate::types::is_pointer;
 
 /// Bytes of a row's output, and of each of its arguments.
 pub const EIGHT: usize = 8;
@@ -87,7 +87,7 @@ fn admit(
     let needed = parameters.len().checked_mul(out_len - out_len % EIGHT);
     let lengths = needed == Some(call.arg_payloads.len()) || rules.wrong(Fault::LengthsUncompared);
     // "some parameter is a pointer (any pointer type)"
-    let numbers = parameters.iter().all(|&ty| is_number(ty)) || rules.wrong(Fault::PointerMapped);
+    let numbers = parameters.iter().all(|&ty| can_come(rules, ty));
     // "the function has no result (return type byte 0 ...)"
     let pointer = is_pointer(function.returns) && rules.wrong(Fault::PointerResultRefused);
     let result = (function.returns != 0 || rules.wrong(Fault::NoResultMapped)) && !pointer;

@@ -1,6 +1,7 @@
 //! Editions and their opcodes. Edition 3: "opcodes 01 to 05, 07 to 28, 2B, 2C, 2E (hex), 42 in
 //! all". Edition 1: "source document 003's 0.1.0 numbers, 01 to 25 (hex)", 37 in all. Edition 4
-//! "adds `null`, `new`, `delete`, `flea`" with 003's 0.3.0 numbers, 46 in all.
+//! "adds `null`, `new`, `delete`, `flea`", and "Add to edition 4 `gcnull` and `gcnew`", with 003's
+//! 0.3.0 numbers, 48 in all.
 
 use crate::rules::{Fault, Rules};
 
@@ -41,7 +42,7 @@ impl Edition {
         self != Edition::One
     }
 
-    /// Edition 4 has structures, `null`, `new`, `delete` and `flea`.
+    /// Edition 4 has structures, `null`, `new`, `delete`, `flea`, `gcnull` and `gcnew`.
     pub fn has_heap(self) -> bool {
         self == Edition::Four
     }
@@ -113,10 +114,12 @@ pub enum Op {
     Null = 0x30,
     New = 0x31,
     Delete = 0x32,
+    GcNull = 0x33,
+    GcNew = 0x34,
 }
 
 /// Every opcode with its mnemonic.
-pub const ALL: [(Op, &str); 46] = [
+pub const ALL: [(Op, &str); 48] = [
     (Op::Push, "push"),
     (Op::Pop, "pop"),
     (Op::Load, "load"),
@@ -163,6 +166,8 @@ pub const ALL: [(Op, &str); 46] = [
     (Op::Null, "null"),
     (Op::New, "new"),
     (Op::Delete, "delete"),
+    (Op::GcNull, "gcnull"),
+    (Op::GcNew, "gcnew"),
 ];
 
 /// 003's numbers of version 0.1.0, from 01 on. It gives `top` the number 26 (hex), though that
@@ -218,12 +223,17 @@ impl Op {
             0x01..=0x28 => byte - 0x01,
             0x2B | 0x2C => byte - 0x2B + 40,
             0x2E => 42,
-            0x30..=0x32 => byte - 0x30 + 43,
+            0x30..=0x34 => byte - 0x30 + 43,
             _ => return None,
         };
         let op = ALL[index as usize].0;
         let lacking = op.is_of_the_heap() && !edition.has_heap();
-        (!lacking || rules.wrong(Fault::HeapOpcodesInThree)).then_some(op)
+        let taken = if op.is_managed() {
+            rules.wrong(Fault::ManagedOpcodesInThree)
+        } else {
+            rules.wrong(Fault::HeapOpcodesInThree)
+        };
+        (!lacking || taken).then_some(op)
     }
 
     fn from_old_byte(rules: Rules, byte: u8) -> Option<Op> {
@@ -244,9 +254,19 @@ impl Op {
         }
     }
 
-    /// Edition 4 "adds `null`, `new`, `delete`, `flea`".
+    /// Edition 4 "adds `null`, `new`, `delete`, `flea`", and then `gcnull` and `gcnew`.
     pub fn is_of_the_heap(self) -> bool {
-        matches!(self, Op::Null | Op::New | Op::Delete | Op::Flea)
+        matches!(self, Op::Null | Op::New | Op::Delete | Op::Flea) || self.is_managed()
+    }
+
+    /// "Add to edition 4 `gcnull` and `gcnew`".
+    pub fn is_managed(self) -> bool {
+        matches!(self, Op::GcNull | Op::GcNew)
+    }
+
+    /// Does the operand name a type?
+    pub fn has_type(self) -> bool {
+        matches!(self, Op::New | Op::GcNew)
     }
 
     /// The opcode of a mnemonic.
@@ -263,10 +283,11 @@ impl Op {
     /// 003: some instructions need a 4-byte operand. "`ret` has no operand, whatever 003's
     /// table says."
     pub fn has_operand(self) -> bool {
-        matches!(
+        let numbered = matches!(
             self,
-            Op::Push | Op::Load | Op::Store | Op::Lea | Op::Flea | Op::New | Op::Call
-        ) || self.has_label()
+            Op::Push | Op::Load | Op::Store | Op::Lea | Op::Flea | Op::Call
+        );
+        numbered || self.has_type() || self.has_label()
     }
 
     /// Does the operand name a label?

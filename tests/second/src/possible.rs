@@ -3,7 +3,7 @@
 
 use crate::gen::constants::range_edges;
 use crate::opcode::{Edition, Op};
-use crate::types::{DOUBLE, INT, LONG, NUMBERS, POINTER, STRUCTURE};
+use crate::types::{DOUBLE, INT, LONG, MANAGED, NUMBERS, POINTER, STRUCTURE};
 use crate::worklist::Reason;
 
 const SUMS: [Op; 6] = [Op::Add, Op::Sub, Op::Mul, Op::Imul, Op::Div, Op::Idiv];
@@ -56,8 +56,8 @@ fn new_exceptions(op: Op) -> &'static [u32] {
         Op::Call => &[28, 21, 22, 20],
         Op::Ret => &[30, 21, 22],
         Op::Flea => &[21, 31, 36, 33, 39, 38],
-        Op::Null => &[20],
-        Op::New => &[37, 20],
+        Op::Null | Op::GcNull => &[20],
+        Op::New | Op::GcNew => &[37, 20],
         Op::Delete => &[21, 31, 33],
     }
 }
@@ -90,9 +90,12 @@ pub fn reasons(edition: Edition) -> Vec<Reason> {
 /// Added to the type in a variant of `tload`, `tstore`, `inc`, `dec` through a heap pointer.
 pub const IN_A_CELL: u8 = 0x40;
 
+/// Added too where the pointer is managed, and in a variant of `flea`.
+pub const BY_MANAGED: u8 = 0x20;
+
 /// The variants in which an instruction can be executed: for most the type that it works on;
 /// for a conditional branch 1 if taken and 0 if not; for `ret` the return type; for `flea` the
-/// field's type; for `new` and `delete` the block's type (any structure as 10), 0 for null.
+/// field's type; for `new`, `gcnew` and `delete` the block's type (any structure as 10), 0 for null.
 pub fn executions(edition: Edition, op: Op) -> Vec<u8> {
     let types = new_executions(op).iter().copied();
     let pointers = edition.has_pointers();
@@ -101,9 +104,14 @@ pub fn executions(edition: Edition, op: Op) -> Vec<u8> {
         match op {
             Op::Tload | Op::Tstore | Op::Inc | Op::Dec => {
                 all.extend(NUMBERS.map(|ty| IN_A_CELL | ty));
+                all.extend(NUMBERS.map(|ty| IN_A_CELL | BY_MANAGED | ty));
             }
+            Op::Flea => all.extend(NUMBERS.map(|ty| BY_MANAGED | ty)),
             Op::Ret => all.push(POINTER),
             _ => {}
+        }
+        if all.contains(&POINTER) {
+            all.push(MANAGED);
         }
     }
     all
@@ -114,8 +122,8 @@ fn new_executions(op: Op) -> &'static [u8] {
         Op::Push | Op::Neg | Op::Toi | Op::Tol | Op::Tod | Op::Inc | Op::Dec | Op::Flea => {
             &[INT, LONG, DOUBLE]
         }
-        Op::Jmp | Op::Call | Op::Null => &[0],
-        Op::New | Op::Delete => &[0, INT, LONG, DOUBLE, STRUCTURE],
+        Op::Jmp | Op::Call | Op::Null | Op::GcNull => &[0],
+        Op::New | Op::GcNew | Op::Delete => &[0, INT, LONG, DOUBLE, STRUCTURE],
         Op::Ret => &[0, INT, LONG, DOUBLE],
         op if op.is_conditional() => &[0, 1],
         op if SUMS.contains(&op) => &[INT, LONG, DOUBLE],
@@ -161,9 +169,9 @@ pub const PROFILE_EDGES: [&str; 8] = [
     "a call of another profile's function",
 ];
 
-/// What conversions must reach, by name, as in `profile_edges`. A type byte that edition 3 lacks
-/// points to a structure, so that it is never the only loss.
-pub const CONVERSION_EDGES: [&str; 15] = [
+/// What conversions must reach, by name, as in `profile_edges`. A type byte that edition 3 lacks is
+/// the only loss where it is a managed pointer to a number.
+pub const CONVERSION_EDGES: [&str; 17] = [
     "up, a header of edition 4 under 56 bytes",
     "another edition, and more is wrong",
     "the exact length",
@@ -175,8 +183,10 @@ pub const CONVERSION_EDGES: [&str; 15] = [
     "no typing",
     "18 by a profile",
     "18 by a structure",
+    "18 by a type byte",
     "18 by an opcode",
     "18 by an opcode after jmp or ret",
+    "18 by gcnull or gcnew",
     "18 and no output",
     "an operand like an opcode",
 ];
@@ -229,7 +239,10 @@ pub const ROW_EDGES: [&str; 24] = [
 
 /// What pointers add in editions 3 and 4, and what blocks and profiles add in edition 4.
 pub const POINTER_ROW_EDGES: [&str; 1] = ["13 by a pointer"];
-pub const HEAP_ROW_EDGES: [&str; 7] = [
+pub const HEAP_ROW_EDGES: [&str; 10] = [
+    "13 by a managed pointer",
+    "a managed pointer returned",
+    "managed blocks left",
     "a pointer returned",
     "a pointer returned by several rows",
     "blocks left",
@@ -299,6 +312,46 @@ pub const HEAP_EDGES: [&str; 16] = [
     "a hole given",
     "a hole passed over",
     "table not by cell",
+];
+
+/// What runs and managed blocks must reach, by name, as in `managed_edges`.
+pub const MANAGED_EDGES: [&str; 36] = [
+    "no cells",
+    "nothing dead",
+    "one freed",
+    "several freed",
+    "freed though a run was long enough",
+    "a run by freeing",
+    "freed, and null given",
+    "packed, and given",
+    "packed, and null given",
+    "packed, and too few cells",
+    "packed, and nothing moved",
+    "a managed block moved",
+    "another block moved",
+    "a block moved up",
+    "payloads moved",
+    "serials not in order of place",
+    "held by an operand alone",
+    "held by a local alone",
+    "held by a buried slot alone",
+    "held by a caller's slot alone",
+    "held by a field's pointer alone",
+    "held by two slots",
+    "a number like a dead block's pointer",
+    "new gives null beside dead blocks",
+    "20 beside dead blocks",
+    "37 on a full stack",
+    "31 by a managed block",
+    "31 by gcnull",
+    "compared across",
+    "stored across",
+    "swapped across",
+    "called across",
+    "returned across",
+    "managed blocks listed",
+    "dead blocks listed",
+    "both kinds listed",
 ];
 
 /// The answers that a run can give.

@@ -9,6 +9,7 @@ use crate::opcode::{Edition, Op};
 use crate::profile::calls;
 use crate::reader::{read, Module, ENTRY, MAX_LABELS};
 use crate::rules::Rules;
+use crate::types::is_managed;
 
 const PLAIN: Rules = Rules::PLAIN;
 
@@ -108,40 +109,47 @@ fn of_losses(case: &ConvertCase, module: Module<'_>, answer: u32) -> Edges {
     if case.to == Edition::Four || module.edition != Edition::Four {
         return Edges::new();
     }
-    let mut functions = (0..module.functions).filter_map(|n| module.function(n));
-    let profile = functions.any(|f| f.profile != 0);
+    let functions = || (0..module.functions).filter_map(|n| module.function(n));
+    let profile = functions().any(|f| f.profile != 0);
     let structure = module.structures > 0;
-    let (live, dead) = foreign(module);
+    let ty = functions().any(|f| f.parameters.iter().any(|&ty| is_managed(ty)))
+        || functions().any(|f| is_managed(f.returns));
+    let (live, dead) = foreign(module, Op::is_of_the_heap);
     let opcode = live || dead;
+    let managed = foreign(module, Op::is_managed) != (false, false);
+    let others = foreign(module, |op| op.is_of_the_heap() && !op.is_managed());
     let lost = answer == 18;
+    let alone = |clause: bool| {
+        let held = [profile, structure, ty, opcode].into_iter();
+        lost && clause && held.filter(|&clause| clause).count() == 1
+    };
     let code = module.sections()[3];
     let like = code
         .iter()
-        .any(|byte| [0x06, 0x30, 0x31, 0x32].contains(byte));
+        .any(|byte| *byte == 0x06 || (0x30..=0x34).contains(byte));
     vec![
-        ("18 by a profile", lost && profile && !structure && !opcode),
+        ("18 by a profile", alone(profile)),
+        ("18 by a structure", alone(structure)),
+        ("18 by a type byte", alone(ty)),
+        ("18 by an opcode", alone(opcode)),
+        ("18 by an opcode after jmp or ret", alone(dead) && !live),
         (
-            "18 by a structure",
-            lost && structure && !profile && !opcode,
-        ),
-        ("18 by an opcode", lost && opcode && !profile && !structure),
-        (
-            "18 by an opcode after jmp or ret",
-            lost && dead && !live && !profile && !structure,
+            "18 by gcnull or gcnew",
+            alone(managed) && others == (false, false),
         ),
         ("18 and no output", lost && case.out.is_empty()),
         ("an operand like an opcode", answer == 0 && like),
     ]
 }
 
-/// Has edition 4's opcodes before the first `jmp` or `ret` of a body; after it.
-fn foreign(module: Module<'_>) -> (bool, bool) {
+/// Has such opcodes before the first `jmp` or `ret` of a body; after it.
+fn foreign(module: Module<'_>, such: fn(Op) -> bool) -> (bool, bool) {
     let (mut live, mut dead) = (false, false);
     for body in module.bodies() {
         let mut after = false;
         for place in module.starts(PLAIN, body).0 {
             let op = module.instruction(PLAIN, place).map(|at| at.op);
-            let found = op.is_some_and(Op::is_of_the_heap);
+            let found = op.is_some_and(such);
             live |= found && !after;
             dead |= found && after;
             after |= matches!(op, Some(Op::Jmp | Op::Ret));

@@ -2,7 +2,7 @@
 
 use crate::opcode::{Edition, Op};
 use crate::reader::{function_size, header, CONSTANT, ENTRY, LABEL, STRUCTURE_RECORD};
-use crate::types::{is_number, structure};
+use crate::types::{is_managed, is_number, structure};
 
 #[derive(Clone, Copy, Debug, PartialEq, Eq)]
 pub struct Constant {
@@ -97,7 +97,7 @@ impl Program {
         let mut types = self.functions.iter().flat_map(signature);
         let known = |ty: u8| match edition {
             Edition::One => ty == 0 || is_number(ty),
-            Edition::Three => structure(ty).is_none(),
+            Edition::Three => structure(ty).is_none() && !is_managed(ty),
             Edition::Four => true,
         };
         code.all(|instr| instr.op.byte(edition).is_some())

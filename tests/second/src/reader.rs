@@ -2,7 +2,7 @@
 
 use crate::opcode::{Edition, Op};
 use crate::rules::{Fault, Rules};
-use crate::types::{is_number, pointee, structure, INT, NULL, STRUCTURE};
+use crate::types::{is_managed, is_number, pointee, structure, GCNULL, INT, NULL, STRUCTURE};
 use crate::words::{payload, word};
 use std::ops::Range;
 
@@ -267,8 +267,13 @@ impl<'a> Module<'a> {
     }
 
     /// "return type (one byte: 0, 3, 4, 6)"; "Type bytes 8A to 99 (hex) mean pointer to a
-    /// structure; functions may return those." Pointers to numbers stay 7.
+    /// structure; functions may return those." Pointers to numbers stay 7, but for managed ones,
+    /// "which functions may take and return".
     fn can_return(&self, rules: Rules, ty: u8) -> bool {
+        if is_managed(ty) {
+            let refused = pointee(ty).is_some() && rules.wrong(Fault::ManagedReturnRefused);
+            return self.can_manage(rules, ty) && !refused;
+        }
         let structure = self.declares(rules, ty) && !rules.wrong(Fault::StructureReturnRefused);
         let number = rules.wrong(Fault::NumberPointerReturned) && self.edition.has_heap();
         ty == 0 || is_number(ty) || structure || number && pointee(ty).is_some()
@@ -276,6 +281,10 @@ impl<'a> Module<'a> {
 
     /// A parameter's type byte. Edition 1: "No pointer types in signatures (7)."
     fn can_take(&self, rules: Rules, ty: u8) -> bool {
+        if is_managed(ty) {
+            let refused = pointee(ty).is_some() && rules.wrong(Fault::ManagedParameterRefused);
+            return self.can_manage(rules, ty) && !refused;
+        }
         let pointers = self.edition.has_pointers() || rules.wrong(Fault::PointerParameterTaken);
         let null = self.edition.has_heap() && rules.wrong(Fault::NullParameterTaken);
         is_number(ty)
@@ -284,10 +293,24 @@ impl<'a> Module<'a> {
             || null && ty == NULL
     }
 
+    /// "C3, C4, C6 and CA to D9 (hex) for managed pointers" of edition 4; C0 is no type of a
+    /// signature, as 80 is none.
+    fn can_manage(&self, rules: Rules, ty: u8) -> bool {
+        let three = self.edition == Edition::Three && rules.wrong(Fault::ManagedTypesInThree);
+        let null = ty == GCNULL && rules.wrong(Fault::GcnullInSignature);
+        let known = pointee(ty).is_some() || self.declares(rules, ty) || null;
+        (self.edition.has_heap() || three) && known
+    }
+
     /// Is this a pointer to a declared structure? "an undeclared one in a signature 7"
     fn declares(&self, rules: Rules, ty: u8) -> bool {
         let declared = |n: u8| u32::from(n - STRUCTURE) < self.structures;
-        let all = self.edition.has_heap() && rules.wrong(Fault::UndeclaredTaken);
+        let fault = if is_managed(ty) {
+            Fault::UndeclaredManagedTaken
+        } else {
+            Fault::UndeclaredTaken
+        };
+        let all = self.edition.has_heap() && rules.wrong(fault);
         structure(ty).is_some_and(|n| declared(n) || all)
     }
 

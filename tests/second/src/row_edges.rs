@@ -1,12 +1,13 @@
 //! Which of `possible::row_edges` a call on rows reaches, and where the row is that ends it.
 
 use crate::gen::rows::MapCase;
+use crate::heap::LISTED_MANAGED;
 use crate::map::EIGHT;
 use crate::memory::MapMemory;
 use crate::possible::ROW_PLACES;
 use crate::reader::{read, Function, ENTRY};
 use crate::rules::Rules;
-use crate::types::{is_number, is_pointer, INT};
+use crate::types::{is_managed, is_number, is_pointer, INT};
 use crate::words::payload;
 
 /// The function of a case whose module can be read and has it.
@@ -19,12 +20,14 @@ fn function(case: &MapCase) -> Option<Function> {
 fn clauses(case: &MapCase, function: &Function) -> Vec<&'static str> {
     let needed = function.parameters.len() * case.out.len();
     let given = case.arg_payloads.len();
-    let pointer = function.parameters.iter().any(|&ty| !is_number(ty));
+    let managed = function.parameters.iter().any(|&ty| is_managed(ty));
+    let pointer = function.parameters.iter().any(|&ty| !is_number(ty)) && !managed;
     reached(&[
         ("13 by part of an output", !whole(case)),
         ("13 by fewer arguments", whole(case) && given < needed),
         ("13 by more arguments", whole(case) && given > needed),
         ("13 by a pointer", pointer),
+        ("13 by a managed pointer", managed),
         ("13 by no result", function.returns == 0),
     ])
 }
@@ -118,10 +121,13 @@ fn of_rows(
     let slots = (case.payloads.len() / 8).min(case.types.len());
     let misfit = function.parameters.len() > slots;
     let refused = answer == 13;
-    let pointer = is_pointer(function.returns);
-    let table = memory.blocks.slice();
+    let managed = is_managed(function.returns);
+    let pointer = is_pointer(function.returns) && !managed;
     let blocks = (case.heap.len() / 8).min(case.blocks.len() / 24);
-    let listed = blocks > 0 && table[..8].iter().any(|&byte| byte != 0);
+    let table = memory.blocks.slice().chunks(24).take(blocks);
+    let mut types = table.map(|entry| payload(entry, 16)).filter(|&ty| ty != 0);
+    let listed = types.clone().next().is_some();
+    let kept = types.any(|ty| ty >= u64::from(LISTED_MANAGED));
     let mut all = reached(&[
         ("no rows", count == 0),
         (
@@ -135,7 +141,9 @@ fn of_rows(
         ("dozens of rows", answer == 0 && count >= 24),
         ("a pointer returned", pointer && rows > 0),
         ("a pointer returned by several rows", pointer && rows > 1),
+        ("a managed pointer returned", managed && rows > 0),
         ("blocks left", listed && rows > 0),
+        ("managed blocks left", kept && rows > 0),
         ("no heap", blocks == 0 && rows > 0),
     ]);
     if answer == 0 && count > 1 {

@@ -155,6 +155,53 @@ pub enum Fault {
     DeleteOfField,
     DeleteTwice,
     PointersSigned,
+    ManagedOpcodesInThree,
+    ManagedTypesInThree,
+    GcnullInSignature,
+    UndeclaredManagedTaken,
+    ManagedParameterRefused,
+    ManagedReturnRefused,
+    ManagedAdmitted,
+    GcnullFits,
+    ComparedAcrossTyped,
+    ManagedDeleteTyped,
+    GcnullDeleteTyped,
+    FleaGivesPointerTyped,
+    ManagedShownPlain,
+    GcnullIsPointer,
+    FleaGivesPointer,
+    ManagedDeleteUnknown,
+    ManagedDeleted,
+    GcnullDeleted,
+    ComparedAcross,
+    MovedAcross,
+    PassedAcross,
+    TypeBeforeManaged,
+    ManagedTypeAfterRoom,
+    RoomAfterFreeing,
+    DeadKept,
+    LiveFreed,
+    FreedWhenShort,
+    NewFrees,
+    NewPacks,
+    RetFrees,
+    EndFrees,
+    AnyTypeHolds,
+    FieldsDontHold,
+    LocalsDontHold,
+    BuriedDontHold,
+    CallersDontHold,
+    FreedSerialReused,
+    PackedNever,
+    PackedAlways,
+    PackedBeforeFreeing,
+    PackedWhereItHelps,
+    PackedByPlace,
+    PackedNewestFirst,
+    PackedUp,
+    OthersStay,
+    CellsNotMoved,
+    ListedPlain,
     ProfileRefused,
     ProfileIgnored,
     ProfileZeroIsAny,
@@ -213,6 +260,8 @@ pub enum Fault {
     ConvertHeaderFirst,
     ConvertRestCleared,
     ConvertLengthOfOutput,
+    ManagedOpcodesKept,
+    ManagedTypesKept,
     GrammarBeforeLength,
     SpacesUncounted,
     LengthAtMost255,
@@ -1020,6 +1069,225 @@ pub const HEAP_FAULTS: [(Fault, &str, &str); 52] = [
     ),
 ];
 
+/// The wrong variants of reader, check and run in what managed blocks bring.
+pub const MANAGED_FAULTS: [(Fault, &str, &str); 47] = [
+    (
+        Fault::ManagedOpcodesInThree,
+        "33-in-3",
+        "edition 3 has gcnull and gcnew",
+    ),
+    (
+        Fault::ManagedTypesInThree,
+        "c3-in-3",
+        "edition 3 has managed pointers in signatures",
+    ),
+    (
+        Fault::GcnullInSignature,
+        "c0-in-signature",
+        "C0 in a signature is taken",
+    ),
+    (
+        Fault::UndeclaredManagedTaken,
+        "undeclared-managed-taken",
+        "a managed pointer to an undeclared structure in a signature is taken",
+    ),
+    (
+        Fault::ManagedParameterRefused,
+        "managed-parameter-refused",
+        "a managed pointer to a number as parameter is 7",
+    ),
+    (
+        Fault::ManagedReturnRefused,
+        "managed-return-refused",
+        "returning a managed pointer to a number is 7",
+    ),
+    (
+        Fault::ManagedAdmitted,
+        "managed-admitted",
+        "a host's run takes a managed pointer as argument",
+    ),
+    (
+        Fault::GcnullFits,
+        "gcnull-fits",
+        "typing lets gcnull stand for every managed pointer",
+    ),
+    (
+        Fault::ComparedAcrossTyped,
+        "compared-across-typed",
+        "typing lets pointers of types 7 and 8 be compared",
+    ),
+    (
+        Fault::ManagedDeleteTyped,
+        "managed-delete-typed",
+        "typing lets delete take managed pointers",
+    ),
+    (
+        Fault::GcnullDeleteTyped,
+        "gcnull-delete-typed",
+        "typing lets delete take gcnull",
+    ),
+    (
+        Fault::FleaGivesPointerTyped,
+        "flea-gives-83",
+        "typing lets flea of a managed pointer give 83, 84 or 86",
+    ),
+    (
+        Fault::ManagedShownPlain,
+        "managed-shown-plain",
+        "label records show managed pointers as others",
+    ),
+    (Fault::GcnullIsPointer, "gcnull-is-7", "gcnull gives type 7"),
+    (
+        Fault::FleaGivesPointer,
+        "flea-gives-7",
+        "flea of type 8 gives type 7",
+    ),
+    (
+        Fault::ManagedDeleteUnknown,
+        "managed-delete-33",
+        "delete of type 8 is 33",
+    ),
+    (
+        Fault::ManagedDeleted,
+        "managed-deleted",
+        "delete takes a managed block",
+    ),
+    (
+        Fault::GcnullDeleted,
+        "gcnull-deleted",
+        "delete of gcnull does nothing",
+    ),
+    (
+        Fault::ComparedAcross,
+        "compared-across",
+        "pointers of types 7 and 8 are compared",
+    ),
+    (
+        Fault::MovedAcross,
+        "moved-across",
+        "store and swap take types 7 and 8 for one",
+    ),
+    (
+        Fault::PassedAcross,
+        "passed-across",
+        "call and ret take types 7 and 8 for one",
+    ),
+    (
+        Fault::TypeBeforeManaged,
+        "22-before-32-of-8",
+        "type 8 and a number in arithmetic are 22",
+    ),
+    (
+        Fault::ManagedTypeAfterRoom,
+        "gcnew-37-after-20",
+        "gcnew on a full stack is 20 before 37",
+    ),
+    (
+        Fault::RoomAfterFreeing,
+        "20-after-freeing",
+        "gcnew on a full stack frees before 20",
+    ),
+    (Fault::DeadKept, "dead-kept", "gcnew frees nothing"),
+    (
+        Fault::LiveFreed,
+        "live-freed",
+        "gcnew frees live managed blocks too",
+    ),
+    (
+        Fault::FreedWhenShort,
+        "freed-when-short",
+        "gcnew frees only where no run is long enough",
+    ),
+    (Fault::NewFrees, "new-frees", "new frees dead blocks"),
+    (
+        Fault::NewPacks,
+        "new-packs",
+        "new packs where no run is long enough",
+    ),
+    (Fault::RetFrees, "ret-frees", "ret frees dead blocks"),
+    (
+        Fault::EndFrees,
+        "end-frees",
+        "dead blocks are not listed after a run",
+    ),
+    (
+        Fault::AnyTypeHolds,
+        "any-type-holds",
+        "a slot of any type, 7 or a number, keeps a block alive",
+    ),
+    (
+        Fault::FieldsDontHold,
+        "fields-dont-hold",
+        "a field's pointer does not keep its block alive",
+    ),
+    (
+        Fault::LocalsDontHold,
+        "locals-dont-hold",
+        "only operands and buried slots keep blocks alive",
+    ),
+    (
+        Fault::BuriedDontHold,
+        "buried-dont-hold",
+        "a buried slot does not keep a block alive",
+    ),
+    (
+        Fault::CallersDontHold,
+        "callers-dont-hold",
+        "slots of callers do not keep blocks alive",
+    ),
+    (
+        Fault::FreedSerialReused,
+        "freed-serial-reused",
+        "a freed block's serial is given again",
+    ),
+    (Fault::PackedNever, "packed-never", "gcnew does not pack"),
+    (
+        Fault::PackedAlways,
+        "packed-always",
+        "gcnew packs though a run is long enough",
+    ),
+    (
+        Fault::PackedBeforeFreeing,
+        "packed-before-freeing",
+        "gcnew packs, if at all, before it frees",
+    ),
+    (
+        Fault::PackedWhereItHelps,
+        "packed-where-it-helps",
+        "gcnew packs only where the free cells are enough",
+    ),
+    (
+        Fault::PackedByPlace,
+        "packed-by-place",
+        "blocks are packed in order of place",
+    ),
+    (
+        Fault::PackedNewestFirst,
+        "packed-newest-first",
+        "blocks are packed by falling serials",
+    ),
+    (
+        Fault::PackedUp,
+        "packed-up",
+        "blocks are packed toward the last cell",
+    ),
+    (
+        Fault::OthersStay,
+        "others-stay",
+        "only managed blocks are moved",
+    ),
+    (
+        Fault::CellsNotMoved,
+        "cells-not-moved",
+        "packing leaves payloads where they were",
+    ),
+    (
+        Fault::ListedPlain,
+        "listed-plain",
+        "a managed block is listed without 64",
+    ),
+];
+
 /// The wrong variants of reader and run in what they have of profiles.
 pub const PROFILE_FAULTS: [(Fault, &str, &str); 11] = [
     (
@@ -1203,7 +1471,7 @@ pub const RANGE_FAULTS: [(Fault, &str, &str); 27] = [
 ];
 
 /// The wrong variants of the conversions.
-pub const CONVERSION_FAULTS: [(Fault, &str, &str); 20] = [
+pub const CONVERSION_FAULTS: [(Fault, &str, &str); 22] = [
     (
         Fault::AnotherEditionFirst,
         "convert-2-before-1",
@@ -1303,6 +1571,16 @@ pub const CONVERSION_FAULTS: [(Fault, &str, &str); 20] = [
         Fault::ConvertLengthOfOutput,
         "convert-length-of-output",
         "the output's length is given",
+    ),
+    (
+        Fault::ManagedOpcodesKept,
+        "managed-opcodes-kept",
+        "gcnull and gcnew are no opcodes that edition 3 lacks",
+    ),
+    (
+        Fault::ManagedTypesKept,
+        "managed-types-kept",
+        "managed pointers to numbers are no types that edition 3 lacks",
     ),
 ];
 
@@ -1599,6 +1877,7 @@ impl Rules {
         FAULTS
             .iter()
             .chain(&HEAP_FAULTS)
+            .chain(&MANAGED_FAULTS)
             .chain(&PROFILE_FAULTS)
             .chain(&RANGE_FAULTS)
             .chain(&WRITER_FAULTS)

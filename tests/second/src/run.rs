@@ -3,10 +3,11 @@
 
 use crate::heap::{self, Heap, LentHeap};
 use crate::machine::{Machine, Slot, Unwatched, Watch};
+use crate::pointers;
 use crate::profile;
 use crate::reader::{read, refuse, Function, Module, ENTRY};
 use crate::rules::{Fault, Rules};
-use crate::types::{is_number, run_time, INT};
+use crate::types::{is_managed, is_number, run_time, INT};
 use crate::words::payload;
 
 /// Which body to run, on what, and for how long.
@@ -92,6 +93,7 @@ pub fn run_watched(
     }
     let mut machine = Machine::new(rules, module, call.function, arguments, capacity, heap);
     let outcome = machine.run(call.allowance, watch);
+    end(&mut machine);
     write_back(rules, &machine.stack, capacity, stack);
     // "After a run", of any edition
     if module.edition.has_heap() || !rules.wrong(Fault::OldHeapUntouched) {
@@ -101,6 +103,14 @@ pub fn run_watched(
         outcome,
         steps: machine.steps,
         height: machine.stack.len(),
+    }
+}
+
+/// Wrong on purpose: a run's end frees dead blocks.
+fn end(machine: &mut Machine<'_>) {
+    if machine.rules.wrong(Fault::EndFrees) {
+        let holders = pointers::holders(machine);
+        machine.heap.free_dead(&holders);
     }
 }
 
@@ -154,9 +164,9 @@ fn admit(rules: Rules, module: Module<'_>, call: Call<'_>) -> Result<Vec<Slot>, 
     let early = rules.wrong(Fault::ProfileBeforeArguments);
     refuse(early && profile::differs(rules, module, call), 17)?;
     // 13: "argument payload bytes are not 8 per type byte, types differ from the declaration,
-    // an int argument has upper bits, or a parameter is a pointer"
+    // an int argument has upper bits, or a parameter is a pointer", managed or not
     let eight = call.arg_types.len().checked_mul(8) == Some(call.arg_payloads.len());
-    let numbers = parameters.iter().all(|&ty| is_number(ty)) || rules.wrong(Fault::PointerMapped);
+    let numbers = parameters.iter().all(|&ty| can_come(rules, ty));
     if !eight || !numbers || call.arg_types != parameters.as_slice() {
         return Err(13);
     }
@@ -171,6 +181,12 @@ fn admit(rules: Rules, module: Module<'_>, call: Call<'_>) -> Result<Vec<Slot>, 
         return Err(13);
     }
     Ok(slots)
+}
+
+/// May an argument of this type come from the host? Only a number may.
+pub fn can_come(rules: Rules, ty: u8) -> bool {
+    let managed = is_managed(ty) && rules.wrong(Fault::ManagedAdmitted);
+    is_number(ty) || managed || rules.wrong(Fault::PointerMapped)
 }
 
 /// "After any run, slots from the height to the capacity are zero; entries past the capacity

@@ -1,11 +1,13 @@
 //! The samples: W1 to W12 of the paper and more modules that show a rule each.
 
 mod heap;
+mod managed;
 mod profiles;
 
 use crate::asm;
 use crate::hex;
 pub use heap::HEAP;
+pub use managed::MANAGED;
 pub use profiles::{CONVERSIONS, PROFILES};
 
 /// One sample module.
@@ -875,6 +877,7 @@ pub fn all() -> impl Iterator<Item = &'static Sample> {
         .chain(&REFUSED)
         .chain(&OLD)
         .chain(&HEAP)
+        .chain(&MANAGED)
         .chain(&PROFILES)
         .chain(&CONVERSIONS)
 }

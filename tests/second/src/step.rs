@@ -10,7 +10,7 @@ use crate::machine::{Frame, Machine, Slot};
 use crate::opcode::{Edition, Op};
 use crate::reader::{Instruction, ENTRY};
 use crate::rules::{Fault, Rules};
-use crate::types::{run_time, DOUBLE, INT, LONG, POINTER};
+use crate::types::{is_address, run_time, DOUBLE, INT, LONG, MANAGED, POINTER};
 use crate::{convert, double, integer, pointers};
 
 #[derive(Clone, Copy, Debug, PartialEq, Eq)]
@@ -36,9 +36,11 @@ pub fn step(m: &mut Machine<'_>, at: Instruction) -> Result<Flow, u32> {
         Op::Tload => pointers::tload(m)?,
         Op::Tstore => pointers::tstore(m)?,
         Op::Flea => pointers::flea(m, at.operand)?,
-        Op::Null => pointers::null(m)?,
+        Op::Null => pointers::null(m, POINTER)?,
         Op::New => pointers::new(m, at.operand)?,
         Op::Delete => pointers::delete(m)?,
+        Op::GcNull => pointers::gcnull(m)?,
+        Op::GcNew => pointers::gcnew(m, at.operand)?,
         Op::Inc | Op::Dec => by_one(m, at.op)?,
         Op::Neg | Op::Not => unary(m, at.op)?,
         Op::Toi | Op::Tol | Op::Tod => conversion(m, at.op)?,
@@ -114,7 +116,7 @@ fn load(m: &mut Machine<'_>, n: u32) -> Result<(), u32> {
 fn lea(m: &mut Machine<'_>, n: u32) -> Result<(), u32> {
     let slot = local(m, n)?;
     if m.rules.wrong(Fault::LeaOfPointerRaises) {
-        raise(m.stack[slot].ty == POINTER, 32)?;
+        raise(is_address(m.stack[slot].ty), 32)?;
     }
     room(m)?;
     let mut payload = slot as u64;
@@ -136,7 +138,7 @@ fn store(m: &mut Machine<'_>, n: u32) -> Result<(), u32> {
     let top = operands(m, 1)?[0];
     if n < count {
         let slot = m.frame().locals[n];
-        raise(m.stack[slot].ty != top.ty, 22)?;
+        raise(!is_same(m, m.stack[slot].ty, top.ty), 22)?;
         m.stack[slot] = top;
         drop_operands(m, 1);
         return Ok(());
@@ -151,6 +153,11 @@ fn store(m: &mut Machine<'_>, n: u32) -> Result<(), u32> {
     Ok(())
 }
 
+/// The same type number: 7 and 8 are two.
+fn is_same(m: &Machine<'_>, a: u8, b: u8) -> bool {
+    a == b || is_address(a) && is_address(b) && m.rules.wrong(Fault::MovedAcross)
+}
+
 /// 003: copies the top onto itself.
 fn copy(m: &mut Machine<'_>) -> Result<(), u32> {
     let top = operands(m, 1)?[0];
@@ -162,7 +169,7 @@ fn copy(m: &mut Machine<'_>) -> Result<(), u32> {
 /// 003: exchanges the two topmost values, which must have the same type.
 fn swap(m: &mut Machine<'_>) -> Result<(), u32> {
     let pair = operands(m, 2)?;
-    raise(pair[0].ty != pair[1].ty, 22)?;
+    raise(!is_same(m, pair[0].ty, pair[1].ty), 22)?;
     let height = m.stack.len();
     m.stack.swap(height - 1, height - 2);
     Ok(())
@@ -219,11 +226,13 @@ fn width(ty: u8) -> Option<u32> {
 fn arithmetic(m: &mut Machine<'_>, op: Op) -> Result<(), u32> {
     let pair = operands(m, 2)?;
     let (a, b) = (pair[0], pair[1]);
-    if m.rules.wrong(Fault::TypeBeforePointer) {
+    let managed = [a.ty, b.ty].contains(&MANAGED);
+    let early = managed && m.rules.wrong(Fault::TypeBeforeManaged);
+    if m.rules.wrong(Fault::TypeBeforePointer) || early {
         raise(a.ty != b.ty, 22)?;
     }
     // "Pointers are refused (32) by the other arithmetic and by conversions."
-    raise(a.ty == POINTER || b.ty == POINTER, 32)?;
+    raise(is_address(a.ty) || is_address(b.ty), 32)?;
     if m.rules.wrong(Fault::DoubleBeforeType) && b.ty == DOUBLE {
         double::binary(m.rules, op, b.payload, b.payload)?;
     }
@@ -239,7 +248,7 @@ fn arithmetic(m: &mut Machine<'_>, op: Op) -> Result<(), u32> {
 /// `neg` and `not`: 21, 32, 34.
 fn unary(m: &mut Machine<'_>, op: Op) -> Result<(), u32> {
     let Slot { ty, payload } = operands(m, 1)?[0];
-    raise(ty == POINTER, 32)?;
+    raise(is_address(ty), 32)?;
     raise(op == Op::Not && ty == DOUBLE, 34)?;
     let payload = match (op, width(ty)) {
         (Op::Not, Some(width)) => integer::not(width, payload),
@@ -257,10 +266,10 @@ fn conversion(m: &mut Machine<'_>, op: Op) -> Result<(), u32> {
         converted(m, op, top)?;
     }
     let top = operands(m, 1)?[0];
-    if m.rules.wrong(Fault::RangeBeforePointer) && top.ty == POINTER {
+    if m.rules.wrong(Fault::RangeBeforePointer) && is_address(top.ty) {
         converted(m, op, Slot { ty: DOUBLE, ..top })?;
     }
-    raise(top.ty == POINTER, 32)?;
+    raise(is_address(top.ty), 32)?;
     let value = converted(m, op, top);
     if value.is_err() {
         let full = room(m).is_err();
@@ -285,7 +294,7 @@ fn converted(m: &Machine<'_>, op: Op, Slot { ty, payload }: Slot) -> Result<Slot
 }
 
 /// "`cmp`, `icmp`: A > B gives 1, equal 0, anything else -1. Pointers compare by slot.": 21, 22,
-/// 35. "`cmp` and `icmp` on pointers go by payload, unsigned."
+/// 35. "`cmp` and `icmp` on pointers go by payload, unsigned.", of one type number: 7 and 8 are 22.
 fn compare(m: &mut Machine<'_>, op: Op) -> Result<(), u32> {
     let pair = operands(m, 2)?;
     let (a, b) = (pair[0], pair[1]);
@@ -294,7 +303,8 @@ fn compare(m: &mut Machine<'_>, op: Op) -> Result<(), u32> {
             double::compare(m.rules, op, slot.payload, slot.payload)?;
         }
     }
-    raise(a.ty != b.ty, 22)?;
+    let across = is_address(a.ty) && is_address(b.ty) && m.rules.wrong(Fault::ComparedAcross);
+    raise(a.ty != b.ty && !across, 22)?;
     if m.rules.wrong(Fault::PointeesCompared) && a.ty == POINTER {
         let target = |slot: Slot| m.stack.get(slot.payload as usize).map(|slot| slot.ty);
         raise(target(a) != target(b), 22)?;
@@ -313,7 +323,7 @@ fn compare(m: &mut Machine<'_>, op: Op) -> Result<(), u32> {
             integer::signed(width, a.payload),
             integer::signed(width, b.payload),
         ),
-        _ if a.ty == POINTER && m.rules.wrong(Fault::PointersSigned) => order(
+        _ if is_address(a.ty) && m.rules.wrong(Fault::PointersSigned) => order(
             integer::signed(64, a.payload),
             integer::signed(64, b.payload),
         ),
@@ -386,7 +396,7 @@ fn call(m: &mut Machine<'_>, at: Instruction) -> Result<Flow, u32> {
     let count = function.parameters.len();
     let arguments = operands(m, count)?;
     for (argument, &parameter) in arguments.iter().zip(&function.parameters) {
-        raise(argument.ty != run_time(parameter), 22)?;
+        raise(!passes(m, argument.ty, run_time(parameter)), 22)?;
     }
     raise(m.frames.len() >= limit, 20)?;
     let first = m.stack.len() - count;
@@ -394,6 +404,12 @@ fn call(m: &mut Machine<'_>, at: Instruction) -> Result<Flow, u32> {
     m.frames.push(frame);
     m.place = function.start as usize;
     Ok(Flow::Goes)
+}
+
+/// Does a value of this type number go to a parameter, or back, as this one? 7 is not 8.
+fn passes(m: &Machine<'_>, ty: u8, wanted: u8) -> bool {
+    let both = is_address(ty) && is_address(wanted);
+    ty == wanted || both && m.rules.wrong(Fault::PassedAcross)
 }
 
 /// "it needs a top operand of the return type (none for 0), drops the frame and its
@@ -406,7 +422,7 @@ fn ret(m: &mut Machine<'_>) -> Result<Flow, u32> {
     if returns != 0 {
         let top = operands(m, 1)?[0];
         // "functions may return those": a pointer only as a pointer
-        raise(top.ty != run_time(returns), 22)?;
+        raise(!passes(m, top.ty, run_time(returns)), 22)?;
         value = Some(top);
     }
     let frame = m.frame().clone();
@@ -417,6 +433,10 @@ fn ret(m: &mut Machine<'_>) -> Result<Flow, u32> {
     };
     m.stack.truncate(kept);
     m.stack.extend(value);
+    if m.rules.wrong(Fault::RetFrees) {
+        let holders = pointers::holders(m);
+        m.heap.free_dead(&holders);
+    }
     if m.frames.len() == 1 {
         return Ok(Flow::Finished);
     }

@@ -46,7 +46,7 @@ fn thirty_seven_numbers() {
     }
     let lacking = ALL.iter().filter(|(op, _)| op.byte(Edition::One).is_none());
     let lacking: Vec<&str> = lacking.map(|&(_, name)| name).collect();
-    let heap = ["null", "new", "delete"];
+    let heap = ["null", "new", "delete", "gcnull", "gcnew"];
     let pointers = ["lea", "flea", "tload", "tstore", "copy", "swap"];
     assert_eq!(lacking, [&pointers[..], &heap].concat());
     for edition in [Edition::Three, Edition::Four] {

@@ -181,7 +181,7 @@ fn order_of_exceptions() {
     }
 }
 
-/// 003's 0.3.0 numbers of what edition 4 adds; "`flea` and `new`" have an operand.
+/// 003's 0.3.0 numbers of what edition 4 adds; `flea`, `new` and `gcnew` have an operand.
 #[test]
 fn opcode_numbers() {
     for (byte, name, size) in [
@@ -189,13 +189,15 @@ fn opcode_numbers() {
         (0x30, "null", 1),
         (0x31, "new", 5),
         (0x32, "delete", 1),
+        (0x33, "gcnull", 1),
+        (0x34, "gcnew", 5),
     ] {
         let op = Op::from_byte(PLAIN, Edition::Four, byte).expect("an opcode");
         assert_eq!((op.name(), op.size()), (name, size));
         assert_eq!(Op::from_byte(PLAIN, Edition::Three, byte), None);
     }
     assert_eq!(Edition::Three.ops().len(), 42);
-    assert_eq!(Edition::Four.ops().len(), 46);
+    assert_eq!(Edition::Four.ops().len(), 48);
 }
 
 /// "modules refused before stay refused": any pointers are compared in edition 4 alone.

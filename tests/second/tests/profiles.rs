@@ -142,13 +142,16 @@ fn down_then_up() {
                 assert_eq!(number, 18);
                 // a file with edition 3's numbers and this code would not be one, or would lose
                 // something
-                let mut functions = (0..module.functions).filter_map(|n| module.function(n));
-                let profile = functions.any(|f| f.profile != 0);
+                let functions = || (0..module.functions).filter_map(|n| module.function(n));
+                let profile = functions().any(|f| f.profile != 0);
+                let managed = functions()
+                    .flat_map(|f| [f.parameters, vec![f.returns]].concat())
+                    .any(|ty| ty >= 0xC3);
                 let code = module.sections()[3];
                 let like = code
                     .iter()
-                    .any(|byte| [0x06, 0x30, 0x31, 0x32].contains(byte));
-                assert!(profile || module.structures > 0 || like);
+                    .any(|byte| [0x06, 0x30, 0x31, 0x32, 0x33, 0x34].contains(byte));
+                assert!(profile || module.structures > 0 || managed || like);
                 lost += 1;
             }
         }

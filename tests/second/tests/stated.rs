@@ -1,7 +1,7 @@
 //! The second program gives what is stated, and the stated checks and runs alone tell wrong
 //! checkers and machines.
 
-use second::rules::{Rules, HEAP_FAULTS, RANGE_FAULTS};
+use second::rules::{Rules, HEAP_FAULTS, MANAGED_FAULTS, RANGE_FAULTS};
 use second::stated::{self, runs};
 use second::subject::Second;
 
@@ -15,12 +15,13 @@ fn the_second_program_gives_what_is_stated() {
     }
 }
 
-/// Each wrong variant of edition 4, and of what `toi` and `tol` make of doubles, is told by a
-/// stated check or a stated run.
+/// Each wrong variant of edition 4, of managed blocks, and of what `toi` and `tol` make of doubles, is
+/// told by a stated check or a stated run.
 #[test]
 fn wrong_heaps_and_ranges_are_told() {
     let (checks, runs) = (stated::all(), runs::all());
-    for &(fault, name, _) in HEAP_FAULTS.iter().chain(&RANGE_FAULTS) {
+    let heaps = HEAP_FAULTS.iter().chain(&MANAGED_FAULTS);
+    for &(fault, name, _) in heaps.chain(&RANGE_FAULTS) {
         let mut wrong = Second(Rules::with(fault));
         let told = checks.iter().any(|s| s.difference(&mut wrong).is_some())
             || runs.iter().any(|s| s.difference(&mut wrong).is_some());

@@ -1,12 +1,13 @@
 -- The proof of `access::step`.
-use Rattle.access.proofs.Steps.{ready-rest, shapes-rest, done, over-heap}
-use Rattle.access.proofs.HeapKeys.{byte-is, said-whole, no-other, no-end, starts-inside}
+use Rattle.access.proofs.Steps.{ready-rest, shapes-rest, done, done-new, over-heap}
+use Rattle.access.proofs.HeapKeys.{byte-is, said-whole, new-whole, no-other, no-end, starts-inside}
 use Rattle.rules.specs.declared.Instruction.the-variants.{Tload, Tstore, Bump, Null, New, Delete, Flea}
-use mathlib.Core.Path.{_≡_, refl, sym, _∙_}
+use mathlib.Core.Path.{_≡_, refl, sym, _∙_, subst}
 use mathlib.Core.Bool.{true, false}
 use denote.Ref.{now}
-use borrow.Author.Needs.{needs}
+use types.Run.{OneOf}
 use Rattle.rules.specs.Bytes.{byte}
+use borrow.Author.Needs.{needs}
 use Rattle.access.proofs.step.Statement.{statement}
 use Rattle.access.proofs.step.Tie as tie
 
@@ -35,7 +36,8 @@ add-decode c = search needs
 
 decode-requires : tie.Need-decode-requires
 decode-requires c κs =
-    let start = c .before .before .before .before .before .before .before .before .before .before in
+    let at-before = c .before .before .before .before .before .before .before .before .before in
+    let start = at-before .before in
     starts-inside _ _ _ (start .pre .1 .0 .1 .1)
 
 enum-known-decoded : tie.Need-enum-known-decoded
@@ -45,47 +47,59 @@ enum-told : tie.Need-enum-told
 enum-told c = search needs
 
 returns : tie.Need-returns
-returns c = no-end _ _ (sym (c .before .before .decode .ensures) ∙ c .enum-told .given .1)
+returns c =
+    let at-decode = c .before .before in
+    no-end _ _ (sym (at-decode .decode .ensures) ∙ c .enum-told .given .1)
 
 flea-requires : tie.Need-flea-requires
 flea-requires c κs =
-    let at-match = c .before .before .before .before .before in
+    let at-before = c .before .before .before .before in
+    let at-match = at-before .before in
     let start = begin (at-match .before) in
-    (ready-rest _ _ (start .pre .0) _ _ _ _ (start .pre .1 .1 .1), (start .pre .1 .1 .0 .0, start .pre .1 .0 .0, said-whole _ _ 6 Flea (byte-there (at-match .before) ∙ at-match .match2 .keys1) (λ w. refl) _ (start .pre .1 .0 .1 .1) 5 (λ w. refl)))
+    (ready-rest _ _ (start .pre .0) _ _ _ _ (start .pre .1 .1 .1), (start .pre .1 .1 .0 .0, start .pre .1 .0 .0, said-whole _ _ 6 Flea (byte-there (at-match .before) ∙ at-match .match2 .keys1) (λ w. refl) _ (start .pre .1 .0 .1 .1) 5 (λ w. refl), start .pre .1 .1 .0 .1))
 
 tload-requires : tie.Need-tload-requires
 tload-requires c κs =
-    let start = begin (c .before .before .before .before .before .before) in
-    (ready-rest _ _ (start .pre .0) _ _ _ _ (start .pre .1 .1 .1), (start .pre .1 .1 .0 .0, start .pre .1 .0 .0))
+    let at-before = c .before .before .before .before .before in
+    let start = begin (at-before .before) in
+    (ready-rest _ _ (start .pre .0) _ _ _ _ (start .pre .1 .1 .1), (start .pre .1 .1 .0 .0, start .pre .1 .0 .0, start .pre .1 .1 .0 .1))
 
 tstore-requires : tie.Need-tstore-requires
 tstore-requires c κs =
-    let start = begin (c .before .before .before .before .before .before) in
-    (ready-rest _ _ (start .pre .0) _ _ _ _ (start .pre .1 .1 .1), (start .pre .1 .1 .0 .0, start .pre .1 .0 .0))
+    let at-before = c .before .before .before .before .before in
+    let start = begin (at-before .before) in
+    (ready-rest _ _ (start .pre .0) _ _ _ _ (start .pre .1 .1 .1), (start .pre .1 .1 .0 .0, start .pre .1 .0 .0, start .pre .1 .1 .0 .1))
 
 inc-requires : tie.Need-inc-requires
 inc-requires c κs =
-    let start = begin (c .before .before .before .before .before .before) in
-    ((ready-rest _ _ (start .pre .0) _ _ _ _ (start .pre .1 .1 .1), start .pre .1 .1 .0 .1), (start .pre .1 .1 .0 .0, start .pre .1 .0 .0))
+    let at-before = c .before .before .before .before .before in
+    let start = begin (at-before .before) in
+    (ready-rest _ _ (start .pre .0) _ _ _ _ (start .pre .1 .1 .1), (start .pre .1 .1 .0 .0, start .pre .1 .0 .0, start .pre .1 .1 .0 .1))
 
 dec-requires : tie.Need-dec-requires
 dec-requires c κs =
-    let start = begin (c .before .before .before .before .before .before) in
-    ((ready-rest _ _ (start .pre .0) _ _ _ _ (start .pre .1 .1 .1), start .pre .1 .1 .0 .1), (start .pre .1 .1 .0 .0, start .pre .1 .0 .0))
+    let at-before = c .before .before .before .before .before in
+    let start = begin (at-before .before) in
+    (ready-rest _ _ (start .pre .0) _ _ _ _ (start .pre .1 .1 .1), (start .pre .1 .1 .0 .0, start .pre .1 .0 .0, start .pre .1 .1 .0 .1))
 
 null-requires : tie.Need-null-requires
 null-requires c κs = search needs
 
 new-requires : tie.Need-new-requires
 new-requires c κs =
-    let at-match = c .before .before .before .before .before in
+    let at-before = c .before .before .before .before in
+    let at-match = at-before .before in
     let start = begin (at-match .before) in
-    (ready-rest _ _ (start .pre .0) _ _ _ _ (start .pre .1 .1 .1), (start .pre .1 .1 .0 .0, start .pre .1 .0 .0, said-whole _ _ 49 New (byte-there (at-match .before) ∙ at-match .match2 .keys7) (λ w. refl) _ (start .pre .1 .0 .1 .1) 5 (λ w. refl)))
+    (ready-rest _ _ (start .pre .0) _ _ _ _ (start .pre .1 .1 .1), (start .pre .1 .1 .0 .0, start .pre .1 .0 .0, new-whole _ _ _ _ (byte-there (at-match .before)) (at-match .match2 .keys7) (start .pre .1 .0 .1 .1)))
 
 delete-requires : tie.Need-delete-requires
 delete-requires c κs =
-    let start = begin (c .before .before .before .before .before .before) in
+    let at-before = c .before .before .before .before .before in
+    let start = begin (at-before .before) in
     (ready-rest _ _ (start .pre .0) _ _ _ _ (start .pre .1 .1 .1), (start .pre .1 .1 .0 .0, start .pre .1 .0 .0))
+
+null-requires-2 : tie.Need-null-requires-2
+null-requires-2 c κs = search needs
 
 same-length : tie.Need-same-length
 same-length c = search needs
@@ -208,7 +222,7 @@ returns-7 c =
     let at-null = c .before .before .before .before in
     let at-match = at-null .before .before .before in
     let start = begin (at-match .before) in
-    done _ _ (start .pre .0) _ _ _ _ _ _ _ _ _ _ _ _ _ _ _ 48 (λ w. Null) (byte-there (at-match .before) ∙ at-match .match2 .keys6) (λ w. refl) (over-heap _ Null _ _ _ _ _ _ _ _ _ _ _ _ (ready-rest _ _ (start .pre .0) _ _ _ _ (start .pre .1 .1 .1)) (at-null .null .ensures _))
+    done _ _ (start .pre .0) _ _ _ _ _ _ _ _ _ _ _ _ _ _ _ 48 (λ w. Null false) (byte-there (at-match .before) ∙ at-match .match2 .keys6) (λ w. refl) (over-heap _ (Null false) _ _ _ _ _ _ _ _ _ _ _ _ (ready-rest _ _ (start .pre .0) _ _ _ _ (start .pre .1 .1 .1)) (at-null .null .ensures _))
 
 same-length-28 : tie.Need-same-length-28
 same-length-28 c = search needs
@@ -227,10 +241,10 @@ same-length-32 c = search needs
 
 returns-8 : tie.Need-returns-8
 returns-8 c =
-    let at-new = c .before .before .before .before .before .before .before .before in
+    let at-new = c .before .before .before .before .before .before .before .before .before .before in
     let at-match = at-new .before .before .before .before .before .before in
     let start = begin (at-match .before) in
-    done _ _ (start .pre .0) _ _ _ _ _ _ _ _ _ _ _ _ _ _ _ 49 New (byte-there (at-match .before) ∙ at-match .match2 .keys7) (λ w. refl) (at-new .new .ensures _ (shapes-rest _ _ (start .pre .0)))
+    done-new _ _ (start .pre .0) _ _ _ _ _ _ _ _ _ _ _ _ _ _ _ _ (byte-there (at-match .before)) (at-match .match2 .keys7) (at-new .new .ensures _ (shapes-rest _ _ (start .pre .0)))
 
 same-length-33 : tie.Need-same-length-33
 same-length-33 c = search needs
@@ -254,8 +268,21 @@ returns-9 c =
     let start = begin (at-match .before) in
     done _ _ (start .pre .0) _ _ _ _ _ _ _ _ _ _ _ _ _ _ _ 50 (λ w. Delete) (byte-there (at-match .before) ∙ at-match .match2 .keys8) (λ w. refl) (at-delete .delete .ensures _)
 
+same-length-38 : tie.Need-same-length-38
+same-length-38 c = search needs
+
+same-length-39 : tie.Need-same-length-39
+same-length-39 c = search needs
+
 returns-10 : tie.Need-returns-10
 returns-10 c =
+    let at-null = c .before .before .before .before in
+    let at-match = at-null .before .before .before in
+    let start = begin (at-match .before) in
+    done _ _ (start .pre .0) _ _ _ _ _ _ _ _ _ _ _ _ _ _ _ 51 (λ w. Null true) (byte-there (at-match .before) ∙ at-match .match2 .keys9) (λ w. refl) (over-heap _ (Null true) _ _ _ _ _ _ _ _ _ _ _ _ (ready-rest _ _ (start .pre .0) _ _ _ _ (start .pre .1 .1 .1)) (at-null .null2 .ensures _))
+
+returns-11 : tie.Need-returns-11
+returns-11 c =
     let start = begin (c .before) in
     no-other _ _ _ _ (sym (byte-there (c .before))) (c .match2 .rest) (start .pre .1 .0 .1 .1) (start .pre .1 .0 .1 .2)
 
@@ -280,6 +307,7 @@ step-spec =
     null-requires
     new-requires
     delete-requires
+    null-requires-2
     same-length
     same-length-2
     same-length-3
@@ -325,4 +353,7 @@ step-spec =
     same-length-36
     same-length-37
     returns-9
-    returns-10)
+    same-length-38
+    same-length-39
+    returns-10
+    returns-11)

@@ -14,7 +14,7 @@ function-count-requires : tie.Need-function-count-requires
 function-count-requires c κs = search needs
 
 bad-records-requires : tie.Need-bad-records-requires
-bad-records-requires c κs = let few = le-trans (c .before .before .before .before .pre .2) (limit-small (c .before .before .before .before .args .edition)) in (few, c .before .before .before .before .pre .0, c .function-count .ensures .0)
+bad-records-requires c κs = (c .before .before .before .before .pre .2, c .before .before .before .before .pre .0, c .function-count .ensures .0)
 
 high-params-requires : tie.Need-high-params-requires
 high-params-requires c κs = search needs

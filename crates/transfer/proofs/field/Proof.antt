@@ -28,19 +28,19 @@ wide-requires : tie.Need-wide-requires
 wide-requires c κs = search needs
 
 returns-2 : tie.Need-returns-2
-returns-2 c = sym (field-past _ ((c .before .before .before .before .before .before .before .pre)) _ (omega (arith, (c .before .before .before .before .before .declared) .ensures, (c .before .before .before .before .if1) .left)) _ ((c .before .before .before .word) .ensures .0) _ (omega (arith, (c .before .wide) .ensures, (c .if2) .taken)))
+returns-2 c = sym (field-past _ ((c .before .before .before .before .before .before .before .pre)) _ (omega (arith, (c .before .before .before .before .before .declared) .ensures, (c .before .before .before .before .if1) .left)) _ ((c .before .before .before .word) .ensures .0) _ (omega (arith, (c .before .wide) .ensures .0, (c .if2) .taken)))
 
 add-result : tie.Need-add-result
 add-result c = let l = inside _ ((c .before .before .before .before .before .before .before .pre)) ((c .before .before .before .before .before .before .before .args) .i) (omega (arith, (c .before .before .before .before .before .declared) .ensures, (c .before .before .before .before .if1) .left)) _ ((c .before .before .before .word) .ensures .0) in omega (arith, l)
 
 add-result-2 : tie.Need-add-result-2
-add-result-2 c = let l = inside _ ((c .before .before .before .before .before .before .before .pre)) ((c .before .before .before .before .before .before .before .args) .i) (omega (arith, (c .before .before .before .before .before .declared) .ensures, (c .before .before .before .before .if1) .left)) _ ((c .before .before .before .word) .ensures .0) in let f = few-fields _ ((c .before .before .before .before .before .before .before .pre)) ((c .before .before .before .before .before .before .before .args) .i) (omega (arith, (c .before .before .before .before .before .declared) .ensures, (c .before .before .before .before .if1) .left)) _ ((c .before .before .before .word) .ensures .0) in omega (arith, l, f, (c .before .wide) .ensures, (c .if2) .left)
+add-result-2 c = let l = inside _ ((c .before .before .before .before .before .before .before .pre)) ((c .before .before .before .before .before .before .before .args) .i) (omega (arith, (c .before .before .before .before .before .declared) .ensures, (c .before .before .before .before .if1) .left)) _ ((c .before .before .before .word) .ensures .0) in let f = few-fields _ ((c .before .before .before .before .before .before .before .pre)) ((c .before .before .before .before .before .before .before .args) .i) (omega (arith, (c .before .before .before .before .before .declared) .ensures, (c .before .before .before .before .if1) .left)) _ ((c .before .before .before .word) .ensures .0) in omega (arith, l, f, (c .before .wide) .ensures .0, (c .if2) .left)
 
 shared-slice-read-result : tie.Need-shared-slice-read-result
-shared-slice-read-result c = let l = inside _ ((c .before .before .before .before .before .before .before .before .pre)) ((c .before .before .before .before .before .before .before .before .args) .i) (omega (arith, (c .before .before .before .before .before .before .declared) .ensures, (c .before .before .before .before .before .if1) .left)) _ ((c .before .before .before .before .word) .ensures .0) in let f = few-fields _ ((c .before .before .before .before .before .before .before .before .pre)) ((c .before .before .before .before .before .before .before .before .args) .i) (omega (arith, (c .before .before .before .before .before .before .declared) .ensures, (c .before .before .before .before .before .if1) .left)) _ ((c .before .before .before .before .word) .ensures .0) in omega (arith, l, f, (c .before .before .wide) .ensures, (c .before .if2) .left)
+shared-slice-read-result c = let l = inside _ ((c .before .before .before .before .before .before .before .before .pre)) ((c .before .before .before .before .before .before .before .before .args) .i) (omega (arith, (c .before .before .before .before .before .before .declared) .ensures, (c .before .before .before .before .before .if1) .left)) _ ((c .before .before .before .before .word) .ensures .0) in let f = few-fields _ ((c .before .before .before .before .before .before .before .before .pre)) ((c .before .before .before .before .before .before .before .before .args) .i) (omega (arith, (c .before .before .before .before .before .before .declared) .ensures, (c .before .before .before .before .before .if1) .left)) _ ((c .before .before .before .before .word) .ensures .0) in omega (arith, l, f, (c .before .before .wide) .ensures .0, (c .before .if2) .left)
 
 returns-3 : tie.Need-returns-3
-returns-3 c = sym (field-there _ ((c .before .before .before .before .before .before .before .before .pre)) _ (omega (arith, (c .before .before .before .before .before .before .declared) .ensures, (c .before .before .before .before .before .if1) .left)) _ ((c .before .before .before .before .word) .ensures .0) _ (omega (arith, (c .before .before .wide) .ensures, (c .before .if2) .left)))
+returns-3 c = sym (field-there _ ((c .before .before .before .before .before .before .before .before .pre)) _ (omega (arith, (c .before .before .before .before .before .before .declared) .ensures, (c .before .before .before .before .before .if1) .left)) _ ((c .before .before .before .before .word) .ensures .0) _ (omega (arith, (c .before .before .wide) .ensures .0, (c .before .if2) .left)))
 
 pub field-spec : {M : Type 1} → statement M
 field-spec =

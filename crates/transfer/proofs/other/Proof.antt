@@ -132,6 +132,12 @@ add-delete c = search needs
 delete-requires : tie.Need-delete-requires
 delete-requires c κs = search needs
 
+add-push-type-2 : tie.Need-add-push-type-2
+add-push-type-2 c = search needs
+
+push-type-requires-2 : tie.Need-push-type-requires-2
+push-type-requires-2 c κs = search needs
+
 same-length : tie.Need-same-length
 same-length c = search needs
 
@@ -244,7 +250,7 @@ same-length-19 : tie.Need-same-length-19
 same-length-19 c = search needs
 
 returns-19 : tie.Need-returns-19
-returns-19 c = λ m d w. moves m d w _ ((c .before .before .before .before .before .before .args) .st .now) _ _ _ 48 ((c .before .before .before .before .match) .keys19) w refl Null refl ((c .before .before .push-type) .ensures m d)
+returns-19 c = λ m d w. moves m d w _ ((c .before .before .before .before .before .before .args) .st .now) _ _ _ 48 ((c .before .before .before .before .match) .keys19) w refl (Null false) refl ((c .before .before .push-type) .ensures m d)
 
 same-length-20 : tie.Need-same-length-20
 same-length-20 c = search needs
@@ -252,14 +258,20 @@ same-length-20 c = search needs
 returns-20 : tie.Need-returns-20
 returns-20 c = λ m d w. moves m d w _ ((c .before .before .before .before .before .before .args) .st .now) _ _ _ 50 ((c .before .before .before .before .match) .keys20) w refl Delete refl ((c .before .before .delete) .ensures m d)
 
+same-length-21 : tie.Need-same-length-21
+same-length-21 c = search needs
+
 returns-21 : tie.Need-returns-21
-returns-21 c = λ m d w. unknown _ ((c .before .before .pre) .0 .0) evens refl ((c .match) .keys21)
+returns-21 c = λ m d w. moves m d w _ ((c .before .before .before .before .before .before .args) .st .now) _ _ _ 51 ((c .before .before .before .before .match) .keys21) w refl (Null true) refl ((c .before .before .push-type2) .ensures m d)
 
 returns-22 : tie.Need-returns-22
-returns-22 c = λ m d w. unknown _ ((c .before .before .pre) .0 .0) odds refl ((c .match) .keys22)
+returns-22 c = λ m d w. unknown _ ((c .before .before .pre) .0 .0) evens refl ((c .match) .keys22)
 
 returns-23 : tie.Need-returns-23
-returns-23 c = λ m d w. nothing-left _ ((c .before .before .pre) .0 .0) ((c .match) .rest) ((c .before .before .pre) .0 .1)
+returns-23 c = λ m d w. unknown _ ((c .before .before .pre) .0 .0) odds refl ((c .match) .keys23)
+
+returns-24 : tie.Need-returns-24
+returns-24 c = λ m d w. nothing-left _ ((c .before .before .pre) .0 .0) ((c .match) .rest) ((c .before .before .pre) .0 .1)
 
 pub other-spec : {M : Type 1} → statement M
 other-spec =
@@ -305,6 +317,8 @@ other-spec =
     push-type-requires
     add-delete
     delete-requires
+    add-push-type-2
+    push-type-requires-2
     same-length
     returns
     same-length-2
@@ -345,6 +359,8 @@ other-spec =
     returns-19
     same-length-20
     returns-20
+    same-length-21
     returns-21
     returns-22
-    returns-23)
+    returns-23
+    returns-24)

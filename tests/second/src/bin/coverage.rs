@@ -14,7 +14,7 @@ use second::opcode::{Edition, EDITIONS};
 use second::possible::{
     answer_of, at_range_edges, conversion_answers, exceptions, executions, map_answers, reasons,
     row_edges, row_numbers, CHECK_ANSWERS, CONVERSION_EDGES, FORMULA_ANSWERS, HEAP_EDGES,
-    LINE_EDGES, PROFILE_EDGES, ROW_PLACES, RUN_ANSWERS, WRITE_ANSWERS,
+    LINE_EDGES, MANAGED_EDGES, PROFILE_EDGES, ROW_PLACES, RUN_ANSWERS, WRITE_ANSWERS,
 };
 use std::collections::BTreeMap;
 
@@ -74,7 +74,7 @@ fn kinds(coverage: &Coverage) -> u64 {
     for (kind, all) in &coverage.kinds {
         let accepted = coverage.accepted.get(kind).copied().unwrap_or(0);
         println!("  {kind}: {accepted} of {all}");
-        if ["typed", "expression", "heap"].contains(kind) {
+        if ["typed", "expression", "heap", "managed"].contains(kind) {
             missing += all - accepted;
         }
     }
@@ -122,6 +122,7 @@ fn answers(coverage: &Coverage) -> u64 {
         + row("arguments that don't fit:", misfit)
         + edges("formula lines", &LINE_EDGES, &coverage.line_edges)
         + edges("heaps", &HEAP_EDGES, &coverage.heap_edges)
+        + edges("managed blocks", &MANAGED_EDGES, &coverage.managed_edges)
         + edges("profiles", &PROFILE_EDGES, &coverage.profile_edges)
         + edges("conversions", &CONVERSION_EDGES, &coverage.conversion_edges)
 }

@@ -15,8 +15,8 @@ use second::gen::lines::LineCase;
 use second::gen::rows::MapCase;
 use second::gen::tables::WriteCase;
 use second::rules::{
-    Fault, Rules, CONVERSION_FAULTS, FAULTS, FORMULA_FAULTS, HEAP_FAULTS, PROFILE_FAULTS,
-    RANGE_FAULTS, ROW_FAULTS, WRITER_FAULTS,
+    Fault, Rules, CONVERSION_FAULTS, FAULTS, FORMULA_FAULTS, HEAP_FAULTS, MANAGED_FAULTS,
+    PROFILE_FAULTS, RANGE_FAULTS, ROW_FAULTS, WRITER_FAULTS,
 };
 use second::subject::Second;
 
@@ -31,7 +31,8 @@ fn main() {
     let seed = args::number("--seed", 1);
     let limit = args::number("--cases", 50_000);
     println!("wrong variants, found after how many cases from seed {seed} (at most {limit}):");
-    let variants = [&FAULTS[..], &HEAP_FAULTS, &PROFILE_FAULTS, &RANGE_FAULTS].concat();
+    let heaps = [&HEAP_FAULTS[..], &MANAGED_FAULTS].concat();
+    let variants = [&FAULTS[..], &heaps, &PROFILE_FAULTS, &RANGE_FAULTS].concat();
     let missed = search(&variants, limit, |number| {
         let case = Case::new(seed, number);
         move |wrong: &mut Second| {

@@ -8,8 +8,8 @@ use second::opcode::Edition;
 use second::reader::read;
 use second::rules::Rules;
 use second::samples::{
-    all, LineSample, Sample, CONVERSIONS, HEAP, LIMITS, LINES, NUMBERS, OLD, PROFILES, PROGRAMS,
-    REFUSED, REFUSED_LINES, W_SAMPLES,
+    all, LineSample, Sample, CONVERSIONS, HEAP, LIMITS, LINES, MANAGED, NUMBERS, OLD, PROFILES,
+    PROGRAMS, REFUSED, REFUSED_LINES, W_SAMPLES,
 };
 use second::show::small;
 use std::collections::BTreeMap;
@@ -161,6 +161,7 @@ fn readme() -> String {
         ("Files that can't be read", &REFUSED[..]),
         ("Old recipes, edition 1", &OLD[..]),
         ("Structures and a heap, edition 4", &HEAP[..]),
+        ("Managed blocks, edition 4", &MANAGED[..]),
     ] {
         text += &table(title, samples);
     }

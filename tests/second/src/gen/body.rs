@@ -7,7 +7,8 @@ use crate::judge::Lists;
 use crate::opcode::{Edition, Op};
 use crate::program::Constant;
 use crate::types::{
-    is_number, is_pointer, pointee, structure, DOUBLE, INT, LONG, NULL, POINTER_TO, STRUCTURE,
+    is_managed, is_number, is_pointer, kind, pointee, structure, target, DOUBLE, GCNULL, INT, LONG,
+    MANAGED_TO, NULL, POINTER_TO, STRUCTURE,
 };
 
 /// Parameter types and return type.
@@ -80,11 +81,13 @@ impl Body<'_> {
             }
             Op::Call => self.called(n),
             Op::Null => self.lists.operands.push(NULL),
+            Op::GcNull => self.lists.operands.push(GCNULL),
             Op::New => self.lists.operands.push(POINTER_TO | operand as u8),
+            Op::GcNew => self.lists.operands.push(MANAGED_TO | operand as u8),
             Op::Flea => {
                 let top = self.lists.operands.pop().unwrap_or(0);
                 let field = self.shared.fields(top).map_or(0, |fields| fields[n]);
-                self.lists.operands.push(POINTER_TO | field);
+                self.lists.operands.push(kind(top) | field);
             }
             _ => self.effect(op),
         }
@@ -137,10 +140,10 @@ impl Body<'_> {
             }
             Op::Tload | Op::Inc | Op::Dec => pointee(top?).map(|_| 0),
             Op::Neg | Op::Toi | Op::Tol | Op::Tod => is_number(top?).then_some(0),
-            Op::Null => room.then_some(0),
-            Op::New => room.then(|| rng.pick(&blocks(self.shared.structures.len()))),
+            Op::Null | Op::GcNull => room.then_some(0),
+            Op::New | Op::GcNew => room.then(|| rng.pick(&blocks(self.shared.structures.len()))),
             // what is deleted is often used again: less of it, more of the rest
-            Op::Delete => (is_pointer(top?) && rng.one_in(3)).then_some(0),
+            Op::Delete => (kind(top?) == POINTER_TO && rng.one_in(3)).then_some(0),
             Op::Flea => {
                 let fields = self.shared.fields(top?)?;
                 Some(rng.below(fields.len()) as u32)
@@ -158,7 +161,7 @@ impl Body<'_> {
         match op {
             Op::Tstore => pointee(a) == Some(b),
             Op::Cmp | Op::Icmp if self.shared.edition.has_heap() => {
-                a == b || is_pointer(a) && is_pointer(b)
+                a == b || is_pointer(a) && kind(a) == kind(b)
             }
             Op::Swap | Op::Cmp | Op::Icmp => a == b,
             Op::Add | Op::Sub | Op::Mul | Op::Imul | Op::Div | Op::Idiv => a == b && is_number(a),
@@ -235,15 +238,11 @@ impl Body<'_> {
             if local == ty {
                 ways.push((Op::Load, n as u32));
             }
-            if pointee(ty) == Some(local) {
+            if pointee(ty) == Some(local) && !is_managed(ty) {
                 ways.push((Op::Lea, n as u32));
             }
         }
-        if ty == NULL {
-            ways.push((Op::Null, 0));
-        } else if is_pointer(ty) && self.shared.edition.has_heap() {
-            ways.push((Op::New, u32::from(ty & !POINTER_TO)));
-        }
+        ways.extend(self.given(ty));
         if ways.is_empty() {
             return false;
         }
@@ -256,6 +255,18 @@ impl Body<'_> {
         let (op, operand) = rng.pick(&ways[from..]);
         self.emit(op, operand);
         true
+    }
+
+    /// What gives a new pointer of this type, if one does.
+    fn given(&self, ty: u8) -> Option<(Op, u32)> {
+        let block = u32::from(target(ty));
+        match ty {
+            NULL => Some((Op::Null, 0)),
+            GCNULL => Some((Op::GcNull, 0)),
+            ty if is_managed(ty) => Some((Op::GcNew, block)),
+            ty if is_pointer(ty) && self.shared.edition.has_heap() => Some((Op::New, block)),
+            _ => None,
+        }
     }
 
     /// Brings the lists to the target, if that is possible.

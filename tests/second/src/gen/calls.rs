@@ -19,24 +19,31 @@ pub struct Trial {
     pub height: usize,
     /// Cells up to the highest that a block had.
     pub cells: usize,
+    /// The cells of all blocks, right after each `gcnew`.
+    pub packed: Vec<usize>,
     /// Nothing in the module can be repeated, so any allowance will do.
     pub straight: bool,
 }
 
-/// The highest slot, and the highest cell.
+/// The highest slot, the highest cell, and the cells of all blocks after each `gcnew`.
 #[derive(Default)]
 struct Highest {
     slot: usize,
     cell: usize,
+    packed: Vec<usize>,
 }
 
 impl Watch for Highest {
     fn after(&mut self, machine: &Machine<'_>, op: Op, _raised: Option<u32>) {
         self.slot = self.slot.max(machine.stack.len());
-        if op == Op::New {
-            let blocks = machine.heap.blocks.iter();
-            let ends = blocks.map(|block| block.first + block.cells.len());
+        let blocks = machine.heap.blocks.iter();
+        if op.has_type() {
+            let ends = blocks.clone().map(|block| block.range().end);
             self.cell = self.cell.max(ends.max().unwrap_or(0));
+        }
+        if op == Op::GcNew {
+            self.packed
+                .push(blocks.map(|block| block.cells.len()).sum());
         }
     }
 }
@@ -73,7 +80,7 @@ fn run(rng: &mut Rng, file: &[u8]) -> RunCall {
     let (payloads, types) = lengths(rng, &trial);
     call.payloads = rng.bytes(payloads);
     call.types = rng.bytes(types);
-    let (cells, entries) = heap_lengths(rng, heap, trial.cells);
+    let (cells, entries) = heap_lengths(rng, heap, &trial);
     call.heap = rng.bytes(cells);
     call.blocks = rng.bytes(entries);
     call
@@ -109,11 +116,11 @@ fn arguments(rng: &mut Rng, parameters: &[u8]) -> (Vec<u8>, Vec<u8>) {
         match rng.below(7) {
             0 if !types.is_empty() => {
                 let n = rng.below(types.len());
-                types[n] = rng.pick(&[0, 3, 4, 6, 7, 0x80, 0x83, 0x8A]);
+                types[n] = rng.pick(&[0, 3, 4, 6, 7, 8, 0x80, 0x83, 0x8A, 0xC0, 0xC3]);
             }
             1 => drop((types.pop(), values.pop())),
             2 => {
-                types.push(rng.pick(&[3, 4, 6, 7]));
+                types.push(rng.pick(&[3, 4, 6, 7, 8]));
                 values.push(rng.any());
             }
             3 => values.push(0),
@@ -169,6 +176,7 @@ pub fn trial(file: &[u8], call: &RunCall, cells: usize) -> Trial {
         steps,
         height: highest.slot.max(call.arg_types.len()),
         cells: highest.cell,
+        packed: highest.packed,
         straight: false,
     }
 }
@@ -212,8 +220,15 @@ pub fn lengths(rng: &mut Rng, trial: &Trial) -> (usize, usize) {
 }
 
 /// Bytes of heap and of block entries that are lent: around what a first run took, none, one, a
-/// few, and around the limit; mostly as many of both.
-pub fn heap_lengths(rng: &mut Rng, heap: bool, taken: usize) -> (usize, usize) {
+/// few, and around the limit; mostly as many of both. Of a run with managed blocks often just as
+/// many as all, or some, of its `gcnew` can do with where they free and pack.
+pub fn heap_lengths(rng: &mut Rng, heap: bool, trial: &Trial) -> (usize, usize) {
+    let taken = trial.cells;
+    if let Some(&most) = trial.packed.iter().max().filter(|_| rng.percent(70)) {
+        let some = rng.pick(&trial.packed);
+        let cells = rng.pick(&[most, most, some]) + rng.below(3);
+        return (CELL * cells, BLOCK * cells);
+    }
     let cells = match rng.below(40) {
         0..=3 => 0,
         4..=6 => 1,

@@ -2,7 +2,9 @@
 
 use super::profiles::given;
 use super::rng::Rng;
-use super::{calls, damage, expression, flow, heap, limits, loose, mixed, near, pointers, typed};
+use super::{
+    calls, damage, expression, flow, heap, limits, loose, managed, mixed, near, pointers, typed,
+};
 use crate::check::RECORD;
 use crate::memory::{CheckMemory, Lent, RunMemory, Start};
 use crate::opcode::Edition;
@@ -111,7 +113,7 @@ impl Case {
 /// A module file, and the name of its generator.
 pub fn module(rng: &mut Rng) -> (&'static str, Vec<u8>) {
     let edition = edition(rng);
-    if edition.has_heap() && rng.percent(30) {
+    if edition.has_heap() && rng.percent(45) {
         return heap_module(rng);
     }
     match rng.below(100) {
@@ -150,12 +152,20 @@ pub fn readable(rng: &mut Rng, edition: Edition, kind: usize) -> (&'static str, 
 
 /// A module of edition 4 that is about its heap.
 fn heap_module(rng: &mut Rng) -> (&'static str, Vec<u8>) {
-    let (kind, program) = match rng.below(10) {
+    let (kind, program) = heap_program(rng);
+    (kind, given(rng, program).file())
+}
+
+/// Such a program.
+pub fn heap_program(rng: &mut Rng) -> (&'static str, Program) {
+    match rng.below(20) {
         0..=4 => ("heap", heap::program(rng)),
         5..=8 => ("heap astray", heap::astray(rng)),
-        _ => ("heap filled", heap::filled(rng)),
-    };
-    (kind, given(rng, program).file())
+        9 => ("heap filled", heap::filled(rng)),
+        10..=14 => ("managed", managed::program(rng)),
+        15..=18 => ("managed astray", managed::astray(rng)),
+        _ => ("managed filled", managed::filled(rng)),
+    }
 }
 
 /// Each edition about as often.

@@ -181,14 +181,25 @@ fn append(rng: &mut Rng, program: &mut Program, op: Op, operand: u32) {
 
 /// Bytes of an operand that edition 3 has not as opcodes.
 fn look_like_opcodes(rng: &mut Rng, program: &mut Program) {
-    let operand = rng.pick(&[0x06, 0x30, 0x31, 0x32, 0x3000, 0x0006_0000, 0x3130_0632]);
+    let operand = rng.pick(&[
+        0x06,
+        0x30,
+        0x31,
+        0x32,
+        0x33,
+        0x34,
+        0x3000,
+        0x3400,
+        0x0006_0000,
+        0x3130_0632,
+    ]);
     let op = rng.pick(&[Op::Push, Op::Load, Op::Store, Op::Call]);
     append(rng, program, op, operand);
 }
 
-/// Something that edition 3 lacks: a profile, a structure, an opcode.
+/// Something that edition 3 lacks: a profile, a structure, a type byte, an opcode.
 fn lose(rng: &mut Rng, program: &mut Program) {
-    match rng.below(4) {
+    match rng.below(5) {
         0 if !program.functions.is_empty() => {
             let n = rng.below(program.functions.len());
             program.functions[n].profile = profile(rng).max(1);
@@ -198,8 +209,25 @@ fn lose(rng: &mut Rng, program: &mut Program) {
             program.structures.push(fields);
         }
         2 => *program = given(rng, program.clone()),
+        3 if !program.functions.is_empty() => {
+            let ty = rng.pick(&structures::managed(program.structures.len()));
+            let n = rng.below(program.functions.len());
+            let function = &mut program.functions[n];
+            match function.parameters.last_mut().filter(|_| rng.one_in(2)) {
+                Some(last) => *last = ty,
+                None => function.returns = ty,
+            }
+        }
         _ => {
-            let op = rng.pick(&[Op::Null, Op::New, Op::Delete, Op::Flea]);
+            let ops = [
+                Op::Null,
+                Op::New,
+                Op::Delete,
+                Op::Flea,
+                Op::GcNull,
+                Op::GcNew,
+            ];
+            let op = rng.pick(&ops);
             let operand = rng.pick(&[0, 3, 10]);
             append(rng, program, op, operand);
         }

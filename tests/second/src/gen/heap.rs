@@ -23,7 +23,7 @@ struct Writer {
 }
 
 /// Constants 0, 1, 2 are an int, a long and a double.
-fn start(rng: &mut Rng) -> Program {
+pub(super) fn start(rng: &mut Rng) -> Program {
     let of_type = |ty| constants::constant(rng, ty);
     let mut constants: Vec<Constant> = [INT, LONG, DOUBLE].map(of_type).to_vec();
     constants.extend(pool(rng, 0));
@@ -40,7 +40,7 @@ fn start(rng: &mut Rng) -> Program {
 }
 
 /// The constant of a number type.
-fn constant(ty: u8) -> u32 {
+pub(super) fn constant(ty: u8) -> u32 {
     match ty {
         INT => 0,
         LONG => 1,
@@ -49,7 +49,7 @@ fn constant(ty: u8) -> u32 {
 }
 
 /// The number of the constant that is a small int.
-const SMALL: u32 = 9;
+pub(super) const SMALL: u32 = 9;
 
 pub fn program(rng: &mut Rng) -> Program {
     let pieces = rng.pick(&[2, 6, 12, 25, 50]);

@@ -212,9 +212,10 @@ fn counts(rng: &mut Rng) -> Program {
 fn structures(rng: &mut Rng) -> Program {
     let count = rng.range(15, 17) as u32;
     let last = 9 + rng.range(count as usize - 1, count as usize + 1) as u32;
+    let op = rng.pick(&[Op::New, Op::GcNew]);
     Program {
         structures: vec![vec![DOUBLE; 8]; count as usize],
-        entry: instrs(&[(Op::New, last), (Op::Flea, rng.pick(&[0, 7, 7, 8]))]),
+        entry: instrs(&[(op, last), (Op::Flea, rng.pick(&[0, 7, 7, 8]))]),
         ..Program::default()
     }
 }

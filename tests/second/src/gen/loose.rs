@@ -7,7 +7,7 @@ use super::structures::{self, blocks};
 use super::typed::signature;
 use crate::opcode::{Edition, Op};
 use crate::program::{Instr, Mark, Program, Routine};
-use crate::types::{run_time, DOUBLE, INT, LONG, POINTER, STRUCTURE};
+use crate::types::{is_address, run_time, target, DOUBLE, INT, LONG, MANAGED, POINTER, STRUCTURE};
 
 /// What a pointer is known to lead to.
 #[derive(Clone, Copy, PartialEq, Eq)]
@@ -95,8 +95,10 @@ fn body(rng: &mut Rng, program: &Program, owner: u32, strict: usize) -> Vec<Inst
 
 /// A value to return: a constant, or a new block.
 fn returned(program: &Program, returns: u8) -> Vec<(Op, u32)> {
-    if run_time(returns) == POINTER {
-        return vec![(Op::New, u32::from(returns & 0x7F))];
+    match run_time(returns) {
+        POINTER => return vec![(Op::New, u32::from(target(returns)))],
+        MANAGED => return vec![(Op::GcNew, u32::from(target(returns)))],
+        _ => {}
     }
     let want = u32::from(returns);
     let n = program.constants.iter().position(|c| c.ty == want);
@@ -116,10 +118,10 @@ impl Track<'_> {
             Op::Load | Op::Lea => self.locals.len(),
             Op::Store => self.locals.len() + 1,
             Op::Call => self.program.functions.len(),
-            Op::New if rng.percent(80) => {
+            Op::New | Op::GcNew if rng.percent(80) => {
                 return rng.pick(&blocks(self.program.structures.len()));
             }
-            Op::New => 12 + self.program.structures.len(),
+            Op::New | Op::GcNew => 12 + self.program.structures.len(),
             Op::Flea => 6,
             _ => 4,
         };
@@ -140,13 +142,14 @@ impl Track<'_> {
             }
             Op::Pop | Op::Copy => self.own() > 0,
             Op::Inc | Op::Dec if self.old() => self.own() > 0,
-            Op::Tload | Op::Inc | Op::Dec | Op::Delete => self.own() > 0 && top == POINTER,
-            Op::Null => true,
-            Op::New => self.cells(n).is_some(),
+            Op::Tload | Op::Inc | Op::Dec => self.own() > 0 && is_address(top),
+            Op::Delete => self.own() > 0 && top == POINTER,
+            Op::Null | Op::GcNull => true,
+            Op::New | Op::GcNew => self.cells(n).is_some(),
             Op::Flea => self.own() > 0 && self.field(n).is_some(),
             Op::Neg | Op::Toi | Op::Tol | Op::Tod => self.own() > 0 && number,
             Op::Not => self.own() > 0 && number && top != DOUBLE,
-            Op::Tstore => self.own() > 1 && under == POINTER,
+            Op::Tstore => self.own() > 1 && is_address(under),
             Op::Swap | Op::Cmp | Op::Icmp => self.own() > 1 && top == under,
             Op::Call => n < self.program.functions.len() && self.callable(n),
             op if op.is_conditional() => self.own() > 0 && top == INT,
@@ -212,9 +215,11 @@ impl Track<'_> {
             Op::Lea => self.stack.push((POINTER, Some(To::Slot(self.locals[n])))),
             Op::Null => self.stack.push((POINTER, None)),
             Op::New => self.stack.push((POINTER, Some(To::Block(n as u8)))),
+            Op::GcNull => self.stack.push((MANAGED, None)),
+            Op::GcNew => self.stack.push((MANAGED, Some(To::Block(n as u8)))),
             Op::Flea => {
                 let field = self.field(n).map(To::Block);
-                self.replace(1, (POINTER, field));
+                self.replace(1, (top.0, field));
             }
             Op::Store if n == self.locals.len() => self.locals.push(self.stack.len() - 1),
             Op::Store => {
@@ -222,9 +227,7 @@ impl Track<'_> {
                 self.stack.pop();
             }
             Op::Copy => self.stack.push(top),
-            Op::Tload => {
-                self.replace(1, self.target(top));
-            }
+            Op::Tload => self.replace(1, self.target(top)),
             Op::Toi => self.replace(1, (INT, None)),
             Op::Tol => self.replace(1, (LONG, None)),
             Op::Tod => self.replace(1, (DOUBLE, None)),

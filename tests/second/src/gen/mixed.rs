@@ -88,12 +88,21 @@ fn code(rng: &mut Rng, edition: Edition, structures: usize) -> Vec<(Op, u32)> {
     code
 }
 
+/// A pointer to a new block, managed or not, or now and then null.
+fn given(rng: &mut Rng, structures: usize) -> (Op, u32) {
+    let ty = rng.pick(&blocks(structures));
+    match rng.below(8) {
+        0 => (Op::Null, 0),
+        1 => (Op::GcNull, 0),
+        2..=4 => (Op::GcNew, ty),
+        _ => (Op::New, ty),
+    }
+}
+
 /// Locals 2 and 3 point to blocks, one of which may be gone, or are null.
 fn bind_blocks(rng: &mut Rng, structures: usize, code: &mut Vec<(Op, u32)>) {
     for n in 2..4 {
-        let given = (Op::New, rng.pick(&blocks(structures)));
-        let value = rng.pick(&[given, given, given, (Op::Null, 0)]);
-        code.extend([value, (Op::Store, n)]);
+        code.extend([given(rng, structures), (Op::Store, n)]);
     }
     if rng.one_in(4) {
         code.extend([(Op::Load, rng.range(2, 3) as u32), (Op::Delete, 0)]);
@@ -108,14 +117,23 @@ fn operands(
     locals: usize,
     code: &mut Vec<(Op, u32)>,
 ) -> Op {
-    if rng.one_in(5) {
+    // more in edition 4, of which fewer programs are of this kind
+    let (pairs, conditions) = if edition.has_heap() {
+        (40, 8)
+    } else {
+        (20, 15)
+    };
+    if rng.percent(pairs) {
         // two numbers, of the same type or not
         let first = (Op::Push, rng.below(8) as u32);
         let second = (Op::Push, rng.below(8) as u32);
         code.extend([first, rng.pick(&[first, second])]);
         return rng.pick(&ARITHMETIC);
     }
-    if rng.one_in(15) {
+    if rng.one_in(conditions) {
+        if edition.has_heap() && rng.percent(60) {
+            code.push((Op::Push, rng.below(8) as u32));
+        }
         return rng.pick(&CONDITIONS);
     }
     if rng.one_in(15) {
@@ -131,7 +149,7 @@ fn operands(
 /// often with a payload that would be out of range.
 fn unconverted(rng: &mut Rng, edition: Edition, locals: usize, code: &mut Vec<(Op, u32)>) -> Op {
     if edition.has_heap() && rng.one_in(2) {
-        code.push((Op::Null, 0));
+        code.push(rng.pick(&[(Op::Null, 0), (Op::GcNull, 0)]));
     } else {
         let constant = (Op::Push, rng.below(8) as u32);
         code.extend([constant, (Op::Store, locals as u32)]);
@@ -152,15 +170,15 @@ fn value(
         _ => Op::Lea,
     };
     code.push(match rng.below(8) {
-        0..=3 if edition.has_heap() && rng.one_in(4) => {
-            let given = (Op::New, rng.pick(&blocks(structures)));
-            rng.pick(&[given, (Op::Null, 0)])
-        }
+        0..=3 if edition.has_heap() && rng.one_in(3) => given(rng, structures),
         0..=3 => (Op::Push, rng.below(8) as u32),
         4 | 5 => (Op::Load, rng.below(locals) as u32),
         _ => (lea, rng.below(locals) as u32),
     });
-    let heap = matches!(code.last(), Some((Op::New, _)) | Some((Op::Load, 2 | 3)));
+    let heap = matches!(
+        code.last(),
+        Some((Op::New | Op::GcNew, _)) | Some((Op::Load, 2 | 3))
+    );
     if heap && rng.one_in(3) {
         code.push((Op::Flea, rng.below(4) as u32));
     }

@@ -12,6 +12,7 @@ pub mod heap;
 pub mod limits;
 pub mod lines;
 pub mod loose;
+pub mod managed;
 pub mod mixed;
 pub mod near;
 pub mod pointers;

@@ -7,7 +7,7 @@ use crate::opcode::Edition;
 use crate::opcode::Op;
 use crate::program::{Instr, Mark, Program};
 use crate::reader::ENTRY;
-use crate::types::{NULL, NUMBERS, POINTER_TO, STRUCTURE};
+use crate::types::{GCNULL, MANAGED_TO, NULL, NUMBERS, POINTER_TO, STRUCTURE};
 
 /// Changes one operand, opcode, label, type or constant.
 pub fn change(rng: &mut Rng, program: &mut Program) {
@@ -175,7 +175,9 @@ fn wrong_types(rng: &mut Rng, program: &Program) -> Vec<u8> {
     let count = program.structures.len();
     let mut types = structures::parameters(edition, count);
     if program.edition.has_heap() && rng.one_in(3) {
-        types = vec![NULL, POINTER_TO | (STRUCTURE + count as u8), 0x9A, 0xCA];
+        let next = STRUCTURE + count as u8;
+        types = vec![NULL, POINTER_TO | next, 0x9A];
+        types.extend([GCNULL, MANAGED_TO | next, 0xC7, 0xDA, 0x43]);
     }
     types
 }
@@ -188,7 +190,10 @@ fn returns(rng: &mut Rng, program: &mut Program) {
     let count = program.structures.len();
     let returns = structures::returns(rng, program.edition, count);
     program.functions[n].returns = if program.edition.has_heap() && rng.one_in(3) {
-        rng.pick(&[0x80, 0x83, 0x86, 0x8A, 0x8A + count as u8, 0x99])
+        let next = STRUCTURE + count as u8;
+        let plain = [0x80, 0x83, 0x86, 0x8A, POINTER_TO | next, 0x99];
+        let managed = [0xC0, 0xC3, 0xC4, 0xC6, 0xCA, MANAGED_TO | next, 0xD9];
+        rng.pick(&[&plain[..], &managed].concat())
     } else {
         returns
     };

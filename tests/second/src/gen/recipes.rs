@@ -6,7 +6,9 @@ use super::structures;
 use crate::asm;
 use crate::opcode::Edition;
 use crate::program::Program;
-use crate::types::{DOUBLE, INT, LONG, NUMBERS, POINTER_TO, STRUCTURE};
+use crate::types::{
+    is_managed, target, DOUBLE, INT, LONG, MANAGED_TO, NUMBERS, POINTER_TO, STRUCTURE,
+};
 
 /// Which lent amount decides whether a row finishes.
 #[derive(Clone, Copy, Debug, PartialEq, Eq)]
@@ -32,7 +34,7 @@ pub struct Weakness {
 }
 
 /// Function 0 of the recipe's module; constants as in `CONSTANTS`.
-const WEAKNESSES: [Weakness; 13] = [
+const WEAKNESSES: [Weakness; 15] = [
     // 24
     weak(
         INT,
@@ -77,6 +79,9 @@ const WEAKNESSES: [Weakness; 13] = [
     )
     .since(4),
     weak(INT, FILLS, SMALL, LARGE).by(Limit::Cells).since(4),
+    weak(INT, HOLDS, SMALL, LARGE).by(Limit::Cells).since(4),
+    // 15, and never 36: what is forgotten is freed
+    weak(INT, FORGETS, SMALL, LARGE).by(Limit::Steps).since(4),
     // 13: upper bits
     weak(INT, "ret", SMALL, UPPER_BITS).by(Limit::Arguments),
     weak(INT, "ret", &[7, 0xFFFF_FFFF], UPPER_BITS),
@@ -95,6 +100,27 @@ const STALE: &str = "load 0; je 0; push 0; store 1; lea 1; store 2; lea 2; call 
 const TWICE: &str = "load 0; je 0; new 3; copy; delete; delete; @0; ret";
 const FILLS: &str = "load 0; push 2; and; store 1
     @0; load 1; je 1; load 1; push 1; sub; store 1; new 3; inc; jmp 0; @1; ret";
+
+const HOLDS: &str = "load 0; push 2; and; store 1
+    @0; load 1; je 1; load 1; push 1; sub; store 1; gcnew 3; copy; inc; jmp 0; @1; ret";
+const FORGETS: &str = "load 0; push 2; and; store 1
+    @0; load 1; je 1; load 1; push 1; sub; store 1; gcnew 10; pop; jmp 0; @1; ret";
+
+/// Blocks that a row leaves, and one that it does not; no heap is no failure.
+const KEPT: [&str; 5] = [
+    "new 10; pop",
+    "new 6; pop; new 10; pop",
+    "new 4; delete",
+    "gcnew 10; pop",
+    "gcnew 6; gcnew 10; pop; pop; new 3; pop",
+];
+
+/// Pointers that a recipe returns.
+const POINTERS: [u8; 3] = [
+    POINTER_TO | STRUCTURE,
+    MANAGED_TO | STRUCTURE,
+    MANAGED_TO | INT,
+];
 
 const SMALL: &[u64] = &[0, 1, 2];
 const LARGE: &[u64] = &[14, 15, 255];
@@ -163,16 +189,15 @@ pub fn recipe(rng: &mut Rng, edition: Edition) -> Recipe {
         .filter(|&n| parameters[n] == weakness.ty)
         .collect();
     let weak = (!own.is_empty()).then(|| rng.pick(&own));
-    let returns = if edition.has_heap() && rng.one_in(4) {
-        POINTER_TO | STRUCTURE
+    let returns = if edition.has_heap() && rng.one_in(3) {
+        rng.pick(&POINTERS)
     } else {
         rng.pick(&NUMBERS)
     };
     let mut code = Vec::new();
     code.extend(weak.map(|weak| format!("load {weak}; call 0")));
     if edition.has_heap() && rng.percent(60) {
-        // blocks that a row leaves, and one that it does not; no heap is no failure
-        let kept = rng.pick(&["new 10; pop", "new 6; pop; new 10; pop", "new 4; delete"]);
+        let kept = rng.pick(&KEPT);
         let at = rng.below(code.len() + 1);
         code.insert(at, kept.to_string());
     }
@@ -209,6 +234,7 @@ fn stray(rng: &mut Rng, edition: Edition) -> &'static str {
     }
     if edition.has_heap() {
         all.extend(["new 5", "new 10; flea 8", "new 3; flea 0", "new 10; tload"]);
+        all.extend(["gcnew 8", "gcnew 10; delete", "gcnew 10; null; cmp"]);
     }
     rng.pick(&all)
 }
@@ -229,6 +255,11 @@ fn result(rng: &mut Rng, parameters: &[u8], returns: u8) -> String {
         INT => "toi",
         LONG => "tol",
         DOUBLE => "tod",
+        ty if is_managed(ty) => {
+            let given = format!("gcnew {}", target(ty));
+            let value = rng.pick(&[&given[..], &given, &given, "gcnull"]);
+            return format!("{value}; ret");
+        }
         _ if rng.one_in(5) => return "null; ret".to_string(),
         _ => return "new 10; ret".to_string(),
     };
@@ -253,12 +284,15 @@ fn text(
     returns: u8,
     code: &str,
 ) -> String {
+    let list: Vec<&str> = parameters.iter().map(|&ty| word(ty)).collect();
     let (start, called, pointer) = match edition {
         Edition::One => ("edition 1;", "(): ret", "(int): load 0"),
         Edition::Three => ("", POINTER_STORED, "(*int): load 0; tload; ret"),
+        Edition::Four if list.len() % 2 == 0 => {
+            ("edition 4;", POINTER_STORED, "(gc*10): push 0; ret")
+        }
         Edition::Four => ("edition 4;", POINTER_STORED, "(*10): push 0; ret"),
     };
-    let list: Vec<&str> = parameters.iter().map(|&ty| word(ty)).collect();
     format!(
         "{start} {CONSTANTS}; entry: push 1
         function void ({}): {}
@@ -280,6 +314,8 @@ fn word(ty: u8) -> &'static str {
         INT => "int",
         LONG => "long",
         DOUBLE => "double",
+        ty if ty == MANAGED_TO | INT => "gc*int",
+        ty if is_managed(ty) => "gc*10",
         _ => "*10",
     }
 }

@@ -2,12 +2,12 @@
 //! programs, lengths of no whole rows or of another count.
 
 use super::calls::{allowance, heap_lengths, lengths, trial, Trial, TRIAL_CELLS};
-use super::case::{edition, module, readable, RunCall};
+use super::case::{edition, heap_program, module, readable, RunCall};
 use super::constants::payload;
+use super::damage;
 use super::profiles::{given, named};
 use super::recipes::{recipe, Limit, Recipe, RECIPE};
 use super::rng::Rng;
-use super::{damage, heap};
 use crate::hex;
 use crate::map::EIGHT;
 use crate::memory::{Lent, MapMemory, Start};
@@ -141,11 +141,7 @@ fn source(rng: &mut Rng) -> Source {
             of(kind, given(rng, program).file(), Some(function))
         }
         16 | 17 => {
-            let (kind, program) = match rng.below(3) {
-                0 => ("heap", heap::program(rng)),
-                1 => ("heap astray", heap::astray(rng)),
-                _ => ("heap filled", heap::filled(rng)),
-            };
+            let (kind, program) = heap_program(rng);
             let (function, program) = moved(rng, program);
             of(kind, given(rng, program).file(), Some(function))
         }
@@ -307,7 +303,7 @@ impl Source {
         let (cells, entries) = match (tight, worst.cells) {
             (Some(Limit::Cells), cells) => (8 * cells, 24 * cells.saturating_sub(1)),
             (_, cells) if calm => (8 * (cells + rng.below(4)), 24 * (cells + rng.below(4))),
-            _ => heap_lengths(rng, heap, worst.cells),
+            _ => heap_lengths(rng, heap, worst),
         };
         case.payloads = rng.bytes(payloads);
         case.types = rng.bytes(types);
@@ -348,6 +344,7 @@ fn worst(
         worst.steps = worst.steps.max(trial.steps);
         worst.height = worst.height.max(trial.height);
         worst.cells = worst.cells.max(trial.cells);
+        worst.packed.extend(trial.packed);
     }
     worst
 }

@@ -307,7 +307,7 @@ pub const HEAP: [Sample; 41] = [
         77,
         &[0x83],
     ),
-    patched("heap-refused-8", "opcode 33", 92, &[0x33]),
+    patched("heap-refused-8", "opcode 35", 92, &[0x35]),
     Sample {
         name: "heap-refused-8-old",
         shows: "opcode 30 (null) in edition 3",

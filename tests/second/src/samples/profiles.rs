@@ -62,7 +62,7 @@ const fn above(name: &'static str, shows: &'static str, other: &'static str) -> 
 }
 
 /// Modules of edition 3 before their twins of edition 4, and modules of edition 4 without one.
-pub const CONVERSIONS: [Sample; 18] = [
+pub const CONVERSIONS: [Sample; 21] = [
     text(
         "convert-sum-3",
         "a loop through two functions and three labels, edition 3",
@@ -98,9 +98,9 @@ pub const CONVERSIONS: [Sample; 18] = [
     ),
     text(
         "convert-operands-3",
-        "operands that look like opcodes 06, 30, 31 and 32",
+        "operands that look like opcodes 06 and 30 to 34",
         "int 825241606
-         entry: push 0; jmp 0; call 6; call 48; push 49; push 842019888; @0; pop",
+         entry: push 0; jmp 0; call 6; call 48; push 49; push 842019888; push 51; call 52; @0; pop",
     ),
     above(
         "convert-operands-4",
@@ -146,6 +146,21 @@ pub const CONVERSIONS: [Sample; 18] = [
         "convert-18-opcode",
         "new and delete of a number",
         "edition 4; int 7; entry: new 3; delete; push 0",
+    ),
+    text(
+        "convert-18-managed",
+        "a managed pointer to an int in a signature, with no structure at all",
+        "edition 4; int 7; entry: push 0; function void (gc*int): ret",
+    ),
+    text(
+        "convert-18-gcnew",
+        "gcnew of a number",
+        "edition 4; int 7; entry: gcnew 3; pop; push 0",
+    ),
+    text(
+        "convert-18-gcnull",
+        "gcnull after a ret, which nothing reaches",
+        "edition 4; int 7; entry: push 0; function void (): ret; gcnull",
     ),
     text(
         "convert-18-dead",

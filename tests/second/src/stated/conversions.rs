@@ -58,6 +58,7 @@ pub fn all() -> Vec<StatedConversion> {
     all.extend(structures());
     all.extend(opcodes());
     all.extend(operands());
+    all.extend(managed());
     all
 }
 
@@ -261,7 +262,7 @@ const PATCHES: [(u32, &str, usize, usize, u8); 15] = [
     (7, "parameter of type 80", 82, 90, 0x80),
     (7, "parameter of type 8A", 82, 90, 0x8A),
     (8, "opcode 2F", 128, 144, 0x2F),
-    (8, "opcode 33", 144, 160, 0x33),
+    (8, "opcode 35", 144, 160, 0x35),
     (9, "label inside an instruction", 116, 132, 1),
 ];
 
@@ -275,7 +276,7 @@ fn patched_up() -> Vec<StatedConversion> {
     for (number, name, at, _, byte) in PATCHES {
         patch(number, name, at, byte);
     }
-    for byte in [0x06, 0x30, 0x31, 0x32] {
+    for byte in [0x06, 0x30, 0x31, 0x32, 0x33, 0x34] {
         patch(8, &format!("opcode {byte:02X} of edition 4"), 144, byte);
     }
     all
@@ -311,7 +312,7 @@ fn patched_down() -> Vec<StatedConversion> {
         (6, "no fields", with("00 0000000000000000 000000", &[])),
         (7, "structure 11 of one", with(good, &[(90, 0x8B)])),
         (9, "a structure, a bad label", with(good, &[(132, 1)])),
-        (8, "a structure, opcode 33", with(good, &[(160, 0x33)])),
+        (8, "a structure, opcode 35", with(good, &[(160, 0x35)])),
         (18, "a structure", with(good, &[])),
         (18, "a structure in a signature", with(good, &[(90, 0x8A)])),
         (18, "a structure returned", with(good, &[(89, 0x8A)])),
@@ -358,8 +359,8 @@ fn opcodes() -> Vec<StatedConversion> {
     let mut all = Vec::new();
     for byte in 0..=255u8 {
         let three = matches!(byte, 0x01..=0x05 | 0x07..=0x28 | 0x2B | 0x2C | 0x2E);
-        let four = three || matches!(byte, 0x06 | 0x30..=0x32);
-        let operand = matches!(byte, 0x01 | 0x03..=0x06 | 0x20..=0x27 | 0x31);
+        let four = three || matches!(byte, 0x06 | 0x30..=0x34);
+        let operand = matches!(byte, 0x01 | 0x03..=0x06 | 0x20..=0x27 | 0x31 | 0x34);
         let mut code = vec![byte];
         code.extend(vec![0; if operand { 4 } else { 0 }]);
         let name = format!("opcode {byte:02X}");
@@ -412,7 +413,7 @@ fn short(edition: u32, entry: &[u8], function: &[u8]) -> Vec<u8> {
 fn operands() -> Vec<StatedConversion> {
     let mut all = Vec::new();
     for text in [
-        "entry: push 6; pop; push 48; pop; push 49; pop; push 50; pop",
+        "entry: push 6; pop; push 48; pop; push 49; pop; push 50; pop; push 51; pop; push 52; pop",
         "entry: push 825241648",
         "int 48; entry: push 0; store 0; lea 0; tload; call 50; function void (): jmp 12544; ret",
     ] {
@@ -424,5 +425,61 @@ fn operands() -> Vec<StatedConversion> {
         "int 825241606; long 48; entry: @0; push 0; push 1; function int (int): @1; load 0; ret";
     let (three, four) = (asm::file(text), asm::file(&format!("edition 4; {text}")));
     all.extend(both(text, &three, &four));
+    all
+}
+
+/// Managed pointers are types that edition 3 lacks, of numbers too; "after reading".
+fn managed() -> Vec<StatedConversion> {
+    let mut all = Vec::new();
+    for text in [
+        "edition 4; entry: function void (gc*int): ret",
+        "edition 4; entry: function void (int, int, gc*double): ret",
+        "edition 4; entry: function gc*long (): @0; jmp 0",
+        "edition 4; entry: function void (): ret; function gc*int (gc*int): load 0; ret",
+        "edition 4; structure int; entry: function void (gc*10): ret",
+        "edition 4; entry: gcnull",
+        "edition 4; entry: gcnew 3; pop",
+        "edition 4; entry: function void (): ret; gcnull",
+    ] {
+        all.extend(refused(18, text, DOWN, &asm::file(text)));
+    }
+    all.extend(managed_bytes());
+    all
+}
+
+fn managed_bytes() -> Vec<StatedConversion> {
+    let mut all = Vec::new();
+    // the byte of function 0's first parameter, of its return type, of function 1's return type
+    for (number, ty) in [
+        (18, 0xC3),
+        (18, 0xC4),
+        (18, 0xC6),
+        (7, 0xC0),
+        (7, 0xC5),
+        (7, 0xCA),
+        (7, 0x43),
+    ] {
+        for at in [90, 89, 113] {
+            let mut file = base_4();
+            file[at] = ty;
+            let name = format!("{ty:02X} at {at}");
+            all.extend(refused(number, &name, DOWN, &file));
+            // 7 before 8 and 9, these before 18
+            for (other, place, byte) in [(8, 144, 0x2F), (9, 132, 1)] {
+                let mut file = file.clone();
+                file[place] = byte;
+                let name = format!("{name}, and byte {place}");
+                let number = if number == 7 { 7 } else { other };
+                all.extend(refused(number, &name, DOWN, &file));
+            }
+        }
+    }
+    for ty in [0xC0, 0xC3, 0xC4, 0xC6, 0xCA] {
+        for at in [82, 81, 101] {
+            let mut file = base_3();
+            file[at] = ty;
+            all.extend(refused(7, &format!("{ty:02X} at {at}"), UP, &file));
+        }
+    }
     all
 }

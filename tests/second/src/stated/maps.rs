@@ -226,6 +226,7 @@ pub fn all() -> Vec<StatedMap> {
     all.extend(exceptions());
     all.extend(heaps());
     all.extend(pointers_returned());
+    all.extend(managed());
     all.extend(refusals::cases());
     all
 }
@@ -515,5 +516,39 @@ fn pointers_returned() -> Vec<StatedMap> {
         rows(given, &[1, UPPER], 2, 13, &[65_536], &[block]).with(&[[1, 0, 10]], &[]),
         rows(none, &[], 2, 0, &[u64::MAX; 2], &[(7, u64::MAX)]),
         rows(second, &[], 2, 0, &[131_072; 2], &[(7, 131_072)]).with(&[[1, 0, 3], [2, 1, 10]], &[]),
+    ]
+}
+
+/// Managed blocks in each row: what a row forgets is freed by its own `gcnew`, and a function may
+/// return a managed pointer.
+fn managed() -> Vec<StatedMap> {
+    let given = "edition 4; structure int, long; entry: function gc*10 (int): gcnew 10; ret";
+    let number = "edition 4; entry: function gc*int (): gcnew 3; ret";
+    let none = "edition 4; entry: function gc*double (): gcnull; ret";
+    let second = "edition 4; structure int; entry: function gc*10 (): gcnew 3; pop; gcnew 10; ret";
+    let held = "edition 4; entry: function int (int): gcnew 3; store 1; gcnew 3; store 2
+        load 0; ret";
+    // a block in each round, forgotten in the next
+    let forgets = "edition 4; int 1; entry: function int (int): @0; load 0; je 1; gcnew 4; inc
+        load 0; push 0; sub; store 0; jmp 0; @1; load 0; ret";
+    let block = (8, 65_536);
+    let null = (8, u64::MAX);
+    vec![
+        rows(given, &[1, 2, 3], 3, 0, &[65_536; 3], &[block]).with(&[[1, 0, 74]], &[]),
+        rows(given, &[1, 2], 2, 0, &[u64::MAX; 2], &[null]).lent(8, 24, 1),
+        rows(given, &[1, UPPER], 2, 13, &[65_536], &[block]).with(&[[1, 0, 74]], &[]),
+        rows(number, &[], 2, 0, &[65_536; 2], &[block]).with(&[[1, 0, 67]], &[]),
+        rows(none, &[], 2, 0, &[u64::MAX; 2], &[null]),
+        rows(second, &[], 2, 0, &[131_072; 2], &[(8, 131_072)]).with(&[[2, 0, 74]], &[]),
+        rows(held, &[5, 6], 2, 0, &[5, 6], &[(3, 6)]).with(&[[1, 0, 67], [2, 1, 67]], &[]),
+        rows(held, &[5, 6], 2, 0, &[5, 6], &[(3, 6)])
+            .lent(8, 24, 1)
+            .with(&[[1, 0, 67]], &[]),
+        rows(forgets, &[2, 5], 2, 0, &[0, 0], &[(3, 0)]).with(&[[5, 0, 68]], &[(0, 1)]),
+        rows(forgets, &[9, 5], 2, 0, &[0, 0], &[(3, 0)])
+            .lent(8, 24, 1)
+            .with(&[[5, 0, 68]], &[(0, 1)]),
+        rows(forgets, &[5, 0], 2, 0, &[0, 0], &[(3, 0)]),
+        rows(forgets, &[1, 0], 2, 36, &[], &[(3, 1), null]).lent(0, 0, 0),
     ]
 }

@@ -12,6 +12,7 @@ pub mod formulas;
 mod instructions;
 mod joins;
 mod labels;
+mod managed;
 pub mod maps;
 mod refusals;
 pub mod runs;
@@ -58,6 +59,7 @@ pub fn all() -> Vec<Stated> {
     all.extend(refusals::cases());
     all.extend(editions::cases());
     all.extend(structures::cases());
+    all.extend(managed::cases());
     all
 }
 

@@ -1,7 +1,8 @@
 //! Runs on a lent heap with their answers stated: what document 02's A6 says of outcome, steps,
 //! stack, cells and table, with everything that was lent written out. `profiles` has what A7 says,
-//! `ranges` what A8 says.
+//! `ranges` what A8 says, `managed` what A9 says.
 
+mod managed;
 mod profiles;
 mod ranges;
 mod rows;
@@ -153,6 +154,7 @@ pub fn all() -> Vec<StatedRun> {
     all.extend(other_editions());
     all.extend(profiles::cases());
     all.extend(ranges::cases());
+    all.extend(managed::cases());
     all
 }
 

@@ -394,7 +394,7 @@ const PATCHES: [(u32, &str, usize, &[u8]); 33] = [
     (6, "last zero of the last structure", 158, &[1]),
     (6, "a structure and a function", 147, &[0]),
     (7, "byte 18 of the function", 110, &[1]),
-    (8, "opcode 33", 124, &[0x33]),
+    (8, "opcode 35", 124, &[0x35]),
     (9, "label on the entry's end", 120, &[5]),
 ];
 
@@ -412,12 +412,14 @@ fn patched() -> Vec<Stated> {
     patched.collect()
 }
 
-/// "an undeclared one in a signature 7"; 80 is no type of a signature, 83 none to return.
+/// "an undeclared one in a signature 7"; 80 and C0 are no types of a signature, 83 none to return.
 fn signatures() -> Vec<Stated> {
     let mut cases = Vec::new();
     for ty in 0..=255u8 {
-        let parameter = matches!(ty, 3 | 4 | 6 | 0x83 | 0x84 | 0x86 | 0x8A | 0x8B);
-        let returned = matches!(ty, 0 | 3 | 4 | 6 | 0x8A | 0x8B);
+        // "C3, C4, C6 and CA to D9 (hex) for managed pointers, which functions may take and return"
+        let managed = matches!(ty, 0xC3 | 0xC4 | 0xC6 | 0xCA | 0xCB);
+        let parameter = matches!(ty, 3 | 4 | 6 | 0x83 | 0x84 | 0x86 | 0x8A | 0x8B) || managed;
+        let returned = matches!(ty, 0 | 3 | 4 | 6 | 0x8A | 0x8B) || managed;
         for (types, good) in [((ty, 0), parameter), ((3, ty), returned)] {
             let name = format!("edition 4, a function of {types:02X?}");
             // it never returns
@@ -433,7 +435,7 @@ fn signatures() -> Vec<Stated> {
         }
     }
     // no type of edition 3
-    for ty in [0x8A, 0x80] {
+    for ty in [0x8A, 0x80, 0xC0, 0xC3, 0xC6, 0xCA] {
         for at in [9, 10] {
             let mut file = crate::asm::file("entry: function void (int): ret");
             file[48 + at] = ty;
@@ -448,8 +450,8 @@ fn signatures() -> Vec<Stated> {
 fn opcodes() -> Vec<Stated> {
     let mut cases = Vec::new();
     for byte in 0..=255u8 {
-        let known = matches!(byte, 0x01..=0x28 | 0x2B | 0x2C | 0x2E | 0x30..=0x32);
-        let operand = matches!(byte, 0x01 | 0x03..=0x06 | 0x20..=0x27 | 0x31);
+        let known = matches!(byte, 0x01..=0x28 | 0x2B | 0x2C | 0x2E | 0x30..=0x34);
+        let operand = matches!(byte, 0x01 | 0x03..=0x06 | 0x20..=0x27 | 0x31 | 0x34);
         let name = format!("edition 4, opcode {byte:02X} at the end");
         let code = format!("2000000000 {byte:02X}");
         let mut stated = Stated::new(&name, file(&code, 0, STRUCTURE, FUNCTION), 64 + REST);

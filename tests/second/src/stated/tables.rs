@@ -45,6 +45,25 @@ pub fn cases() -> Vec<StatedWrite> {
     all.extend(for_other_editions());
     all.extend(opcodes());
     all.extend(records());
+    all.extend(managed());
+    all
+}
+
+/// "managed pointers, which functions may take and return"
+fn managed() -> Vec<StatedWrite> {
+    let mut all = Vec::new();
+    for ty in [0xC3, 0xC4, 0xC6, 0xCA, 0xCB] {
+        for at in [9, 10, 11] {
+            let mut tables = two();
+            tables.functions[at] = ty;
+            let name = format!("edition 4, {ty:02X} in a signature, at {at}");
+            let file = joined(HEADER, &tables);
+            all.push(stated(&name, tables.clone(), 185, Ok(file)));
+            let mut three = base();
+            three.functions[at] = ty;
+            all.push(refused(7, &format!("{name}, for edition 3"), three));
+        }
+    }
     all
 }
 
@@ -138,7 +157,7 @@ fn foreign() -> Vec<StatedWrite> {
 }
 
 /// Number, what is wrong, table (4: structures), place, bytes.
-const PATCHES: [(u32, &str, usize, usize, &[u8]); 24] = [
+const PATCHES: [(u32, &str, usize, usize, &[u8]); 34] = [
     (6, "constant of type 10", 0, 0, &[10]),
     (6, "no fields", 4, 0, &[0]),
     (6, "nine fields", 4, 12, &[9]),
@@ -161,7 +180,17 @@ const PATCHES: [(u32, &str, usize, usize, &[u8]); 24] = [
     (7, "return type 8C", 1, 9, &[0x8C]),
     (7, "return type 10", 1, 9, &[10]),
     (7, "unused parameter byte", 1, 12, &[0x8A]),
-    (8, "opcode 33", 3, 0, &[0x33]),
+    (7, "parameter C0", 1, 10, &[0xC0]),
+    (7, "parameter C5", 1, 10, &[0xC5]),
+    (7, "parameter CC", 1, 11, &[0xCC]),
+    (7, "parameter D9", 1, 11, &[0xD9]),
+    (7, "parameter DA", 1, 11, &[0xDA]),
+    (7, "parameter 43", 1, 10, &[0x43]),
+    (7, "return type C0", 1, 9, &[0xC0]),
+    (7, "return type CC", 1, 9, &[0xCC]),
+    (7, "return type 4A", 1, 9, &[0x4A]),
+    (7, "unused parameter byte, managed", 1, 12, &[0xC3]),
+    (8, "opcode 35", 3, 0, &[0x35]),
     (9, "label inside an instruction", 2, 4, &[1]),
 ];
 
@@ -257,7 +286,7 @@ fn opcodes() -> Vec<StatedWrite> {
         };
         let short = matches!(
             byte,
-            0x02 | 0x07..=0x1F | 0x28 | 0x2B | 0x2C | 0x2E | 0x30 | 0x32
+            0x02 | 0x07..=0x1F | 0x28 | 0x2B | 0x2C | 0x2E | 0x30 | 0x32 | 0x33
         );
         let name = format!("opcode {byte:02X} in edition 4");
         if short {

@@ -117,7 +117,7 @@ returns-5 c =
     let at-slot-at = at-if2 .before .before in
     let at-if1 = at-slot-at .before in
     let start = at-if1 .before .before .before .before .before .before .before .before in
-    λ m f k. rw (at-moved .moved .ensures) (delete-is m _ _ f _ _ k _ _ _ _ _ (start .pre .0) (at-if1 .if1 .left) _ (at-slot-at .slot-at .ensures) (at-if2 .if2 .left) (at-if3 .if3 .left) _ (at-shelf .shelf .ensures) (at-given .given .result) (at-given .given .ensures) _ (at-i .i .given .1) _ _ _ _ (at-remove .remove .ensures) (at-keep .keep .ensures .0) (at-keep .keep .ensures .1))
+    λ m f k. rw (at-moved .moved .ensures) (delete-is m _ _ f _ _ k _ _ _ _ _ (start .pre .0) (at-if1 .if1 .left) _ (at-slot-at .slot-at .ensures) (at-if2 .if2 .left) (at-if3 .if3 .left) _ (at-shelf .shelf .ensures) (at-given .given .result) (at-given .given .ensures) _ (at-i .i .given .1) _ _ _ _ (at-remove .remove .ensures .0) (at-keep .keep .ensures .0) (at-keep .keep .ensures .1))
 
 pub delete-spec : {M : Type 1} → statement M
 delete-spec =

@@ -1,5 +1,6 @@
 -- The proof of `access::blocks::flea`.
 use Rattle.access.proofs.BlockLaws.{flea-21, flea-slot, flea-cell, flea-stops, flea-38, flea-is, address-fits}
+use Rattle.state.proofs.Families.{kind-at}
 use native.Mathlib.Omega.{arith}
 use borrow.Author.Needs.{needs}
 use Rattle.access.proofs.blocks.flea.Statement.{statement}
@@ -16,7 +17,8 @@ add-if1 c = search needs
 
 returns : tie.Need-returns
 returns c =
-    let start = c .before .before .before .before .before .before .before .before .before .before in
+    let at-before = c .before .before .before .before .before .before .before .before .before in
+    let start = at-before .before in
     λ m sh f k. flea-21 m _ _ f _ _ k _ _ _ _ _ (start .pre .0) _ (c .if1 .taken)
 
 sub-slot-at : tie.Need-sub-slot-at
@@ -29,7 +31,10 @@ sub-target-of : tie.Need-sub-target-of
 sub-target-of c = search needs
 
 target-of-requires : tie.Need-target-of-requires
-target-of-requires c κs = search needs
+target-of-requires c κs =
+    let at-if1 = c .before .before in
+    let start = at-if1 .before .before .before .before .before .before .before .before .before .before in
+    (start .pre .0, omega (arith, start .pre .1 .0 .1 .high, start .pre .1 .0 .1 .small), kind-at _ _ _ _ (start .pre .1 .3) (omega (arith, at-if1 .if1 .left)) (c .slot-at .ensures))
 
 enum-known-x : tie.Need-enum-known-x
 enum-known-x c = search needs
@@ -58,7 +63,8 @@ sub-store64 c = search needs
 
 mul-store64 : tie.Need-mul-store64
 mul-store64 c =
-    let start = c .before .before .before .before .before .before .before .before .before .before .before .before .before .before .before .before .before .before in
+    let at-before = c .before .before .before .before .before .before .before .before .before .before .before .before .before .before .before .before .before in
+    let start = at-before .before in
     omega (arith, start .pre .1 .0 .1 .high, start .pre .1 .0 .1 .small)
 
 add-store64 : tie.Need-add-store64
@@ -79,13 +85,15 @@ add-store64-2 c =
 
 store64-requires : tie.Need-store64-requires
 store64-requires c κs =
-    let at-if1 = c .before .before .before .before .before .before .before .before .before in
+    let at-before = c .before .before .before .before .before .before .before .before in
+    let at-if1 = at-before .before in
     let start = at-if1 .before .before .before .before .before .before .before .before .before .before in
     omega (arith, at-if1 .if1 .left, start .pre .1 .0 .1 .high, start .pre .1 .0 .1 .payloads)
 
 add-moved : tie.Need-add-moved
 add-moved c =
-    let start = c .before .before .before .before .before .before .before .before .before .before .before .before .before .before .before .before .before .before .before .before .before .before .before in
+    let at-before = c .before .before .before .before .before .before .before .before .before .before .before .before .before .before .before .before .before .before .before .before .before .before in
+    let start = at-before .before in
     omega (arith, start .pre .1 .0 .1 .near, start .pre .1 .1)
 
 moved-requires : tie.Need-moved-requires

@@ -1,6 +1,7 @@
 -- The proof of `access::pointers::tstore`.
 use Rattle.access.proofs.Through.{tstore-21, tstore-stops, tstore-22, tstore-is}
 use Rattle.access.proofs.Leading.{names-at, names-nowhere, names-reach}
+use Rattle.state.proofs.Families.{kind-at}
 use native.Mathlib.Omega.{arith}
 use borrow.Author.Needs.{needs}
 use Rattle.access.proofs.pointers.tstore.Statement.{statement}
@@ -11,7 +12,8 @@ add-if1 c = search needs
 
 returns : tie.Need-returns
 returns c =
-    let start = c .before .before .before .before .before .before .before .before in
+    let at-before = c .before .before .before .before .before .before .before in
+    let start = at-before .before in
     λ m sh f k. tstore-21 m _ _ _ _ f _ _ _ _ _ k (start .pre .0) (c .if1 .taken)
 
 sub-slot-at : tie.Need-sub-slot-at
@@ -31,8 +33,10 @@ sub-number-of c = search needs
 
 number-of-requires : tie.Need-number-of-requires
 number-of-requires c κs =
-    let start = c .before .before .before .before .before .before .before .before .before .before .before .before .before .before in
-    ((start .pre .0, omega (arith, start .pre .1 .0 .1 .high, start .pre .1 .0 .1 .small)), (omega (arith, start .pre .1 .0 .1 .high, start .pre .1 .0 .1 .payloads), omega (arith, start .pre .1 .0 .1 .high, start .pre .1 .0 .1 .types)))
+    let at-slot-at = c .before .before .before .before in
+    let at-if1 = at-slot-at .before .before in
+    let start = at-if1 .before .before .before .before .before .before .before .before in
+    ((start .pre .0, omega (arith, start .pre .1 .0 .1 .high, start .pre .1 .0 .1 .small), kind-at _ _ _ _ (start .pre .1 .2) (omega (arith, at-if1 .if1 .left)) (at-slot-at .slot-at .ensures)), (omega (arith, start .pre .1 .0 .1 .high, start .pre .1 .0 .1 .payloads), omega (arith, start .pre .1 .0 .1 .high, start .pre .1 .0 .1 .types)))
 
 enum-known-x : tie.Need-enum-known-x
 enum-known-x c = search needs
@@ -62,7 +66,8 @@ put-requires c κs =
 
 add-moved : tie.Need-add-moved
 add-moved c =
-    let start = c .before .before .before .before .before .before .before .before .before .before .before .before .before .before .before .before .before .before .before .before .before .before .before .before .before .before .before .before .before in
+    let at-before = c .before .before .before .before .before .before .before .before .before .before .before .before .before .before .before .before .before .before .before .before .before .before .before .before .before .before .before .before in
+    let start = at-before .before in
     omega (arith, start .pre .1 .0 .1 .near, start .pre .1 .1)
 
 sub-moved : tie.Need-sub-moved

@@ -1,6 +1,7 @@
 -- The proof of `access::targets::target_of`.
 use mathlib.Core.Path.{_≡_}
 use Rattle.access.proofs.Leading.{aimed-31, aimed-36, aimed-slot, aimed-low, aimed-lost, aimed-whole, aimed-cell}
+use Rattle.state.proofs.Families.{not-pointer, is-pointer}
 use Rattle.heap.specs.declared.Target.the-variants.{Lost}
 use Rattle.heap.specs.declared.Target.{Target}
 use borrow.Author.Needs.{needs}
@@ -10,20 +11,20 @@ use Rattle.access.proofs.targets.target_of.Tie as tie
 returns : tie.Need-returns
 returns c =
     let start = c .before .before .before .before .before .before in
-    aimed-31 _ _ _ _ _ (start .pre .0) _ (start .pre .1) (start .args .w) (c .if1 .taken)
+    aimed-31 _ _ _ _ _ (start .pre .0) _ (start .pre .1) (start .args .w) (not-pointer (c .if1 .taken))
 
 returns-2 : tie.Need-returns-2
 returns-2 c =
     let at-if1 = c .before in
     let start = at-if1 .before .before .before .before .before .before in
-    aimed-36 _ _ _ _ _ (start .pre .0) _ (start .pre .1) _ (at-if1 .if1 .left) (c .if2 .taken)
+    aimed-36 _ _ _ _ _ (start .pre .0) _ (start .pre .1) (start .args .w) (is-pointer (start .pre .2) (at-if1 .if1 .left)) (c .if2 .taken)
 
 returns-3 : tie.Need-returns-3
 returns-3 c =
     let at-if2 = c .before in
     let at-if1 = at-if2 .before in
     let start = at-if1 .before .before .before .before .before .before in
-    aimed-slot _ _ _ _ _ (start .pre .0) _ (start .pre .1) _ (at-if1 .if1 .left) (at-if2 .if2 .left) (c .if3 .taken)
+    aimed-slot _ _ _ _ _ (start .pre .0) _ (start .pre .1) (start .args .w) (is-pointer (start .pre .2) (at-if1 .if1 .left)) (at-if2 .if2 .left) (c .if3 .taken)
 
 returns-4 : tie.Need-returns-4
 returns-4 c =
@@ -31,7 +32,7 @@ returns-4 c =
     let at-if2 = at-if3 .before in
     let at-if1 = at-if2 .before in
     let start = at-if1 .before .before .before .before .before .before in
-    aimed-low _ _ _ _ _ (start .pre .0) _ (start .pre .1) _ (at-if1 .if1 .left) (at-if2 .if2 .left) (at-if3 .if3 .left) (c .if4 .taken)
+    aimed-low _ _ _ _ _ (start .pre .0) _ (start .pre .1) (start .args .w) (is-pointer (start .pre .2) (at-if1 .if1 .left)) (at-if2 .if2 .left) (at-if3 .if3 .left) (c .if4 .taken)
 
 shelf-requires : tie.Need-shelf-requires
 shelf-requires c κs = search needs
@@ -59,7 +60,7 @@ returns-5 c =
     let at-if1 = at-if2 .before in
     let start = at-if1 .before .before .before .before .before .before in
     let z : _≡_ {A = Target} (at-target .target .result) Lost = cc in
-    aimed-lost _ _ _ _ _ (start .pre .0) _ (start .pre .1) _ (at-if1 .if1 .left) (at-if2 .if2 .left) _ (at-shelf .shelf .ensures) _ (at-target .target .ensures) z
+    aimed-lost _ _ _ _ _ (start .pre .0) _ (start .pre .1) (start .args .w) (is-pointer (start .pre .2) (at-if1 .if1 .left)) (at-if2 .if2 .left) _ (at-shelf .shelf .ensures) _ (at-target .target .ensures) z
 
 returns-6 : tie.Need-returns-6
 returns-6 c =
@@ -69,7 +70,7 @@ returns-6 c =
     let at-if2 = at-shelf .before .before .before in
     let at-if1 = at-if2 .before in
     let start = at-if1 .before .before .before .before .before .before in
-    aimed-whole _ _ _ _ _ (start .pre .0) _ (start .pre .1) _ (at-if1 .if1 .left) (at-if2 .if2 .left) _ (at-shelf .shelf .ensures) _ (at-target .target .ensures) _ (at-found .found .given .1)
+    aimed-whole _ _ _ _ _ (start .pre .0) _ (start .pre .1) (start .args .w) (is-pointer (start .pre .2) (at-if1 .if1 .left)) (at-if2 .if2 .left) _ (at-shelf .shelf .ensures) _ (at-target .target .ensures) _ (at-found .found .given .1)
 
 returns-7 : tie.Need-returns-7
 returns-7 c =
@@ -79,7 +80,7 @@ returns-7 c =
     let at-if2 = at-shelf .before .before .before in
     let at-if1 = at-if2 .before in
     let start = at-if1 .before .before .before .before .before .before in
-    aimed-cell _ _ _ _ _ (start .pre .0) _ (start .pre .1) _ (at-if1 .if1 .left) (at-if2 .if2 .left) _ (at-shelf .shelf .ensures) _ (at-target .target .ensures) _ _ (at-found2 .found2 .given .1)
+    aimed-cell _ _ _ _ _ (start .pre .0) _ (start .pre .1) (start .args .w) (is-pointer (start .pre .2) (at-if1 .if1 .left)) (at-if2 .if2 .left) _ (at-shelf .shelf .ensures) _ (at-target .target .ensures) _ _ (at-found2 .found2 .given .1)
 
 pub target-of-spec : {M : Type 1} → statement M
 target-of-spec =

@@ -1,5 +1,7 @@
 -- The proof of `access::targets::top_number`.
 use Rattle.access.proofs.Leading.{top-short, top-names}
+use Rattle.state.proofs.Families.{kind-at}
+use native.Mathlib.Omega.{arith}
 use borrow.Author.Needs.{needs}
 use Rattle.access.proofs.targets.top_number.Statement.{statement}
 use Rattle.access.proofs.targets.top_number.Tie as tie
@@ -9,7 +11,8 @@ add-if1 c = search needs
 
 returns : tie.Need-returns
 returns c =
-    let start = c .before .before .before .before .before .before .before .before in
+    let at-before = c .before .before .before .before .before .before .before in
+    let start = at-before .before in
     λ m sh. top-short m (start .args .size) (start .args .d .now) (start .args .g .now) (start .args .p .now) (start .args .t .now) (start .args .cells .now) (start .args .table .now) (start .args .r .floor) (start .args .r .height) (c .if1 .taken)
 
 sub-slot-at : tie.Need-sub-slot-at
@@ -22,7 +25,9 @@ sub-number-of : tie.Need-sub-number-of
 sub-number-of c = search needs
 
 number-of-requires : tie.Need-number-of-requires
-number-of-requires c κs = search needs
+number-of-requires c κs =
+    let start = c .before .before .before .before .before .before .before .before .before in
+    ((start .pre .0 .0, omega (arith, start .pre .0 .1), kind-at _ _ _ _ (start .pre .0 .2) (omega (arith, c .before .if1 .left)) (c .slot-at .ensures)), (omega (arith, start .pre .1 .0), omega (arith, start .pre .1 .1)))
 
 returns-2 : tie.Need-returns-2
 returns-2 c =

@@ -1,22 +1,17 @@
-use Rattle.heap.proofs.Granted.{new-spent, new-none, new-room, new-block}
+-- The proof of `heap::blocks::new`.
+use Rattle.heap.proofs.Collected.{gives-from, gives-then, source-room, source-none, found-as, found-of, room-of, unmade}
+use Rattle.heap.proofs.Aimed.{type-low}
 use Rattle.heap.specs.declared.Room.the-variants.{From, Nowhere}
 use Rattle.heap.specs.declared.Room.{Room}
-use mathlib.Core.Path.{_≡_}
+use mathlib.Core.Path.{_≡_, refl}
 use native.Mathlib.Omega.{arith}
+use Rattle.rules.specs.Stack.{slotsOf}
 use borrow.Author.Needs.{needs}
 use Rattle.heap.proofs.blocks.new.Statement.{statement}
 use Rattle.heap.proofs.blocks.new.Tie as tie
-use Rattle.heap.proofs.blocks.new.Reads as reads
-use Rattle.heap.proofs.blocks.new.Lts as lts
-use Rattle.heap.proofs.blocks.give.Reads as give-reads
-use Rattle.heap.proofs.entries.width.Reads as width-reads
-use Rattle.heap.proofs.rooms.place.Reads as place-reads
 
-returns : tie.Need-returns
-returns c = λ p s. new-spent _ _ _ p _ s _ ((c .if1) .taken)
-
-width-requires : tie.Need-width-requires
-width-requires c κs = search needs
+freed-requires : tie.Need-freed-requires
+freed-requires c κs = search needs
 
 place-requires : tie.Need-place-requires
 place-requires c κs = search needs
@@ -27,40 +22,67 @@ enum-known-room c = search needs
 enum-told : tie.Need-enum-told
 enum-told c = search needs
 
+squeezed-requires : tie.Need-squeezed-requires
+squeezed-requires c κs =
+    let at-place = c .before .before .before .before in
+    let at-freed = at-place .before .before .before .before .before .before in
+    let start = at-freed .before .before .before .before .before .before .before .before in
+    let z : _≡_ {A = Room} (at-place .place .result) Nowhere = cc in
+    ((at-freed .freed .ensures .sane, found-as z (at-place .place .ensures _ (at-freed .freed .ensures .sane))), (start .pre .0 .1, start .pre .0 .2, start .pre .0 .3))
+
 same-length : tie.Need-same-length
 same-length c = search needs
-
-returns-2 : tie.Need-returns-2
-returns-2 c = let z : _≡_ {A = Room} ((c .before .before .place) .result) Nowhere = cc in
-    λ p s. new-none _ _ _ p _ s _ _ ((c .before .before .before .before .width) .ensures .0) ((c .before .before .before .before .before .if1) .left) _ ((c .before .before .place) .ensures p s) z
-
-give-requires : tie.Need-give-requires
-give-requires c κs = let s = (c .before .before .before .before .before .before .before .before .before .before .before .pre) .0 .1 in
-    let q = new-room _ _ _ _ _ s _ _ ((c .before .before .before .before .before .before .width) .ensures .0) ((c .before .before .before .before .before .before .before .if1) .left) _ ((c .before .before .before .before .place) .ensures _ s) _ _ _ ((c .before .before .room) .given .1) (omega (arith, (c .before .before .before .before .before .before .width) .ensures .0, (c .before .before .before .before .before .before .before .before .before .before .before .pre) .1)) in
-    omega (arith, q, s .room-table)
-
-mul-t17 : tie.Need-mul-t17
-mul-t17 c = search needs
 
 same-length-2 : tie.Need-same-length-2
 same-length-2 c = search needs
 
-returns-3 : tie.Need-returns-3
-returns-3 c = λ p s. rw ((c .before .before .before .give) .ensures .1)
-    (new-block _ _ _ p _ s _ _ ((c .before .before .before .before .before .before .before .before .before .before .width) .ensures .0) ((c .before .before .before .before .before .before .before .before .before .before .before .if1) .left) _ ((c .before .before .before .before .before .before .before .before .place) .ensures p s) _ _ _ ((c .before .before .before .before .before .before .room) .given .1) (omega (arith, (c .before .before .before .before .before .before .before .before .before .before .width) .ensures .0, (c .before .before .before .before .before .before .before .before .before .before .before .before .before .before .before .pre) .1)) _ ((c .before .before .before .give) .ensures .0))
+returns : tie.Need-returns
+returns c =
+    let z : _≡_ {A = Room} (c .before .before .before .before .before .before .before .before .before .place .result) Nowhere = cc in
+    let at-squeezed = c .before .before .before .before in
+    let at-place = at-squeezed .before .before .before .before .before in
+    let at-freed = at-place .before .before .before .before .before .before in
+    let start = at-freed .before .before .before .before .before .before .before .before in
+    gives-then (at-freed .freed .ensures) (source-none _ (start .args .k) _ _ _ _ _ (at-freed .freed .result) _ _ (start .args .managed) (at-freed .freed .ensures) (found-as z (at-place .place .ensures _ (at-freed .freed .ensures .sane)))) (at-squeezed .squeezed .ensures)
+
+grant-requires : tie.Need-grant-requires
+grant-requires c κs =
+    let at-room = c .before .before in
+    let at-place = at-room .before .before in
+    let at-freed = at-place .before .before .before .before .before .before in
+    let start = at-freed .before .before .before .before .before .before .before .before in
+    let f = found-as (at-room .room .given .1) (at-place .place .ensures _ (at-freed .freed .ensures .sane)) in
+    (omega (arith, room-of (at-freed .freed .ensures .sane) f (start .pre .0 .1), at-freed .freed .ensures .sane .room-table), omega (arith, type-low _ _ (rw (start .pre .0 .3) at (start .pre .0 .1))))
+
+same-length-3 : tie.Need-same-length-3
+same-length-3 c = search needs
+
+same-length-4 : tie.Need-same-length-4
+same-length-4 c = search needs
+
+returns-2 : tie.Need-returns-2
+returns-2 c =
+    let at-grant = c .before .before in
+    let at-room = at-grant .before .before .before in
+    let at-place = at-room .before .before in
+    let at-freed = at-place .before .before .before .before .before .before in
+    let start = at-freed .before .before .before .before .before .before .before .before in
+    let f = found-as (at-room .room .given .1) (at-place .place .ensures _ (at-freed .freed .ensures .sane)) in
+    gives-then (at-freed .freed .ensures) (source-room _ (start .args .k) _ _ _ _ _ (at-freed .freed .result) _ _ (start .args .managed) (at-freed .freed .ensures) _ _ _ f) (gives-from (unmade (at-freed .freed .ensures .sane)) (at-grant .grant .ensures _ _ _ (at-freed .freed .ensures .sane) (found-of (start .pre .0 .3) f) (rw (start .pre .0 .3) at (start .pre .0 .1))))
 
 pub new-spec : {M : Type 1} → statement M
 new-spec =
     tie.close
     (tie.spec
-    returns
-    width-requires
+    freed-requires
     place-requires
     enum-known-room
     enum-told
+    squeezed-requires
     same-length
-    returns-2
-    give-requires
-    mul-t17
     same-length-2
-    returns-3)
+    returns
+    grant-requires
+    same-length-3
+    same-length-4
+    returns-2)

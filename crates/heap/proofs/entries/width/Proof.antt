@@ -1,61 +1,17 @@
-use Rattle.heap.specs.Blocks.{widthIn, fieldsIn}
-use borrow.Author.Tests.{eq-eqb, ne-eqb, lt-ltb, le-ltb, lt-leb, le-leb}
-use mathlib.Core.Path.{_≡_, refl, _∙_}
-use native.Mathlib.Omega.{arith}
+use Rattle.heap.specs.Blocks.{widthIn}
 use borrow.Author.Needs.{needs}
 use Rattle.heap.proofs.entries.width.Statement.{statement}
 use Rattle.heap.proofs.entries.width.Tie as tie
 use Rattle.heap.proofs.entries.width.Reads as reads
 use Rattle.heap.proofs.entries.width.Lts as lts
-use Rattle.memory.proofs.load8_padded.Reads as load8-padded-reads
+use Rattle.heap.proofs.entries.size_of.Reads as size-of-reads
+
+size-of-requires : tie.Need-size-of-requires
+size-of-requires c κs = search needs
 
 returns : tie.Need-returns
-unfolding widthIn fieldsIn
-returns c = (rw (eq-eqb _ 3 ((c .if1) .taken)) refl, omega arith)
-
-returns-2 : tie.Need-returns-2
-unfolding widthIn fieldsIn
-returns-2 c = (rw (ne-eqb _ 3 ((c .before .if1) .left), eq-eqb _ 4 ((c .if2) .taken)) refl, omega arith)
-
-returns-3 : tie.Need-returns-3
-unfolding widthIn fieldsIn
-returns-3 c = (rw (ne-eqb _ 3 ((c .before .before .if1) .left), ne-eqb _ 4 ((c .before .if2) .left), eq-eqb _ 6 ((c .if3) .taken)) refl, omega arith)
-
-returns-4 : tie.Need-returns-4
-unfolding widthIn fieldsIn
-returns-4 c = (rw (ne-eqb _ 3 ((c .before .before .before .if1) .left), ne-eqb _ 4 ((c .before .before .if2) .left), ne-eqb _ 6 ((c .before .if3) .left), lt-ltb _ _ ((c .if4) .taken)) refl, omega arith)
-
-returns-5 : tie.Need-returns-5
-unfolding widthIn fieldsIn
-returns-5 c = (rw (ne-eqb _ 3 ((c .before .before .before .before .if1) .left), ne-eqb _ 4 ((c .before .before .before .if2) .left), ne-eqb _ 6 ((c .before .before .if3) .left), le-ltb _ _ ((c .before .if4) .left), le-leb _ _ ((c .if5) .taken)) refl, omega arith)
-
-sub-load8-padded : tie.Need-sub-load8-padded
-sub-load8-padded c = search needs
-
-mul-load8-padded : tie.Need-mul-load8-padded
-mul-load8-padded c = search needs
-
-load8-padded-requires : tie.Need-load8-padded-requires
-load8-padded-requires c κs = search needs
-
-cast-result : tie.Need-cast-result
-cast-result c = search needs
-
-returns-6 : tie.Need-returns-6
-unfolding widthIn fieldsIn
-returns-6 c = (rw (ne-eqb _ 3 ((c .before .before .before .before .before .if1) .left), ne-eqb _ 4 ((c .before .before .before .before .if2) .left), ne-eqb _ 6 ((c .before .before .before .if3) .left), le-ltb _ _ ((c .before .before .if4) .left), lt-leb _ _ ((c .before .if5) .left)) ((c .load8-padded) .ensures), omega arith)
+unfolding widthIn
+returns c = (c .size-of) .ensures
 
 pub width-spec : {M : Type 1} → statement M
-width-spec =
-    tie.close
-    (tie.spec
-    returns
-    returns-2
-    returns-3
-    returns-4
-    returns-5
-    sub-load8-padded
-    mul-load8-padded
-    load8-padded-requires
-    cast-result
-    returns-6)
+width-spec = tie.close (tie.spec size-of-requires returns)

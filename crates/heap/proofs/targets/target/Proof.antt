@@ -36,13 +36,13 @@ cast-t18 : tie.Need-cast-t18
 cast-t18 c = search needs
 
 returns-2 : tie.Need-returns-2
-returns-2 c = let f = found-at (entryAt ((c .before .before .before .before .before .before .before .before .before .args) .t .now)) ((c .before .before .before .before .before .before .before .before .before .args) .k .count) ((c .before .before .before .before .before .before .before .before .before .args) .a / 65536) _ ((c .before .before .before .before .before .before .find) .ensures) _ ((c .before .before .before .before .i) .given .1) in λ p s m sh st. aims-number _ _ _ p _ s m sh st _ ((c .before .before .before .before .before .before .before .before .before .pre) .2) _ _ (f .0) (f .1) ((c .before .before .entry-at) .ensures) ((c .before .if1) .taken) ((c .if2) .taken)
+returns-2 c = let f = found-at (entryAt ((c .before .before .before .before .before .before .before .before .before .before .args) .t .now)) ((c .before .before .before .before .before .before .before .before .before .before .args) .k .count) ((c .before .before .before .before .before .before .before .before .before .before .args) .a / 65536) _ ((c .before .before .before .before .before .before .before .find) .ensures) _ ((c .before .before .before .before .before .i) .given .1) in λ p s m sh st. aims-number _ _ _ p _ s m sh st _ ((c .before .before .before .before .before .before .before .before .before .before .pre) .2) _ _ (f .0) (f .1) ((c .before .before .before .entry-at) .ensures) ((c .before .if1) .taken) ((c .if2) .taken)
 
 returns-3 : tie.Need-returns-3
-returns-3 c = let f = found-at (entryAt ((c .before .before .before .before .before .before .before .before .before .args) .t .now)) ((c .before .before .before .before .before .before .before .before .before .args) .k .count) ((c .before .before .before .before .before .before .before .before .before .args) .a / 65536) _ ((c .before .before .before .before .before .before .find) .ensures) _ ((c .before .before .before .before .i) .given .1) in λ p s m sh st. aims-past _ _ _ p _ s m sh st _ ((c .before .before .before .before .before .before .before .before .before .pre) .2) _ _ (f .0) (f .1) ((c .before .before .entry-at) .ensures) ((c .before .if1) .taken) ((c .if2) .left)
+returns-3 c = let f = found-at (entryAt ((c .before .before .before .before .before .before .before .before .before .before .args) .t .now)) ((c .before .before .before .before .before .before .before .before .before .before .args) .k .count) ((c .before .before .before .before .before .before .before .before .before .before .args) .a / 65536) _ ((c .before .before .before .before .before .before .before .find) .ensures) _ ((c .before .before .before .before .before .i) .given .1) in λ p s m sh st. aims-past _ _ _ p _ s m sh st _ ((c .before .before .before .before .before .before .before .before .before .before .pre) .2) _ _ (f .0) (f .1) ((c .before .before .before .entry-at) .ensures) ((c .before .if1) .taken) ((c .if2) .left)
 
 mul-at : tie.Need-mul-at
-mul-at c = let f = found-at (entryAt ((c .before .before .before .before .before .before .before .before .args) .t .now)) ((c .before .before .before .before .before .before .before .before .args) .k .count) ((c .before .before .before .before .before .before .before .before .args) .a / 65536) _ ((c .before .before .before .before .before .find) .ensures) _ ((c .before .before .before .i) .given .1) in omega (arith, listed-low _ _ _ _ _ ((c .before .before .before .before .before .before .before .before .pre) .0 .1) _ _ (f .0) ((c .before .entry-at) .ensures))
+mul-at c = let f = found-at (entryAt ((c .before .before .before .before .before .before .before .before .before .args) .t .now)) ((c .before .before .before .before .before .before .before .before .before .args) .k .count) ((c .before .before .before .before .before .before .before .before .before .args) .a / 65536) _ ((c .before .before .before .before .before .before .find) .ensures) _ ((c .before .before .before .before .i) .given .1) in omega (arith, listed-low _ _ _ _ _ ((c .before .before .before .before .before .before .before .before .before .pre) .0 .1) _ _ (f .0) ((c .before .before .entry-at) .ensures))
 
 load8-padded-requires : tie.Need-load8-padded-requires
 load8-padded-requires c κs = search needs
@@ -51,13 +51,13 @@ cast-count : tie.Need-cast-count
 cast-count c = search needs
 
 returns-4 : tie.Need-returns-4
-returns-4 c = let f = found-at (entryAt ((c .before .before .before .before .before .before .before .before .before .before .args) .t .now)) ((c .before .before .before .before .before .before .before .before .before .before .args) .k .count) ((c .before .before .before .before .before .before .before .before .before .before .args) .a / 65536) _ ((c .before .before .before .before .before .before .before .find) .ensures) _ ((c .before .before .before .before .before .i) .given .1) in λ p s m sh st. aims-whole _ _ _ p _ s m sh st _ ((c .before .before .before .before .before .before .before .before .before .before .pre) .2) _ _ (f .0) (f .1) ((c .before .before .before .entry-at) .ensures) ((c .before .before .if1) .left) _ ((c .before .load8-padded) .ensures) (omega arith) ((c .if3) .taken)
+returns-4 c = let f = found-at (entryAt ((c .before .before .before .before .before .before .before .before .before .before .before .args) .t .now)) ((c .before .before .before .before .before .before .before .before .before .before .before .args) .k .count) ((c .before .before .before .before .before .before .before .before .before .before .before .args) .a / 65536) _ ((c .before .before .before .before .before .before .before .before .find) .ensures) _ ((c .before .before .before .before .before .before .i) .given .1) in λ p s m sh st. aims-whole _ _ _ p _ s m sh st _ ((c .before .before .before .before .before .before .before .before .before .before .before .pre) .2) _ _ (f .0) (f .1) ((c .before .before .before .before .entry-at) .ensures) ((c .before .before .if1) .left) _ ((c .before .load8-padded) .ensures) (omega arith) ((c .if3) .taken)
 
 returns-5 : tie.Need-returns-5
-returns-5 c = let f = found-at (entryAt ((c .before .before .before .before .before .before .before .before .before .before .before .args) .t .now)) ((c .before .before .before .before .before .before .before .before .before .before .before .args) .k .count) ((c .before .before .before .before .before .before .before .before .before .before .before .args) .a / 65536) _ ((c .before .before .before .before .before .before .before .before .find) .ensures) _ ((c .before .before .before .before .before .before .i) .given .1) in λ p s m sh st. aims-beyond _ _ _ p _ s m sh st _ ((c .before .before .before .before .before .before .before .before .before .before .before .pre) .2) _ _ (f .0) (f .1) ((c .before .before .before .before .entry-at) .ensures) ((c .before .before .before .if1) .left) _ ((c .before .before .load8-padded) .ensures) ((c .before .if3) .left) ((c .if4) .taken)
+returns-5 c = let f = found-at (entryAt ((c .before .before .before .before .before .before .before .before .before .before .before .before .args) .t .now)) ((c .before .before .before .before .before .before .before .before .before .before .before .before .args) .k .count) ((c .before .before .before .before .before .before .before .before .before .before .before .before .args) .a / 65536) _ ((c .before .before .before .before .before .before .before .before .before .find) .ensures) _ ((c .before .before .before .before .before .before .before .i) .given .1) in λ p s m sh st. aims-beyond _ _ _ p _ s m sh st _ ((c .before .before .before .before .before .before .before .before .before .before .before .before .pre) .2) _ _ (f .0) (f .1) ((c .before .before .before .before .before .entry-at) .ensures) ((c .before .before .before .if1) .left) _ ((c .before .before .load8-padded) .ensures) ((c .before .if3) .left) ((c .if4) .taken)
 
 add-load8-padded : tie.Need-add-load8-padded
-add-load8-padded c = let f = found-at (entryAt ((c .before .before .before .before .before .before .before .before .before .before .before .args) .t .now)) ((c .before .before .before .before .before .before .before .before .before .before .before .args) .k .count) ((c .before .before .before .before .before .before .before .before .before .before .before .args) .a / 65536) _ ((c .before .before .before .before .before .before .before .before .find) .ensures) _ ((c .before .before .before .before .before .before .i) .given .1) in omega (arith, listed-low _ _ _ _ _ ((c .before .before .before .before .before .before .before .before .before .before .before .pre) .0 .1) _ _ (f .0) ((c .before .before .before .before .entry-at) .ensures))
+add-load8-padded c = let f = found-at (entryAt ((c .before .before .before .before .before .before .before .before .before .before .before .before .args) .t .now)) ((c .before .before .before .before .before .before .before .before .before .before .before .before .args) .k .count) ((c .before .before .before .before .before .before .before .before .before .before .before .before .args) .a / 65536) _ ((c .before .before .before .before .before .before .before .before .before .find) .ensures) _ ((c .before .before .before .before .before .before .before .i) .given .1) in omega (arith, listed-low _ _ _ _ _ ((c .before .before .before .before .before .before .before .before .before .before .before .before .pre) .0 .1) _ _ (f .0) ((c .before .before .before .before .before .entry-at) .ensures))
 
 load8-padded-requires-2 : tie.Need-load8-padded-requires-2
 load8-padded-requires-2 c κs = search needs
@@ -66,11 +66,11 @@ sub-t19 : tie.Need-sub-t19
 sub-t19 c = search needs
 
 add-t21 : tie.Need-add-t21
-add-t21 c = let f = found-at (entryAt ((c .before .before .before .before .before .before .before .before .before .before .before .before .args) .t .now)) ((c .before .before .before .before .before .before .before .before .before .before .before .before .args) .k .count) ((c .before .before .before .before .before .before .before .before .before .before .before .before .args) .a / 65536) _ ((c .before .before .before .before .before .before .before .before .before .find) .ensures) _ ((c .before .before .before .before .before .before .before .i) .given .1) in
-    omega (arith, field-inside _ _ _ _ _ ((c .before .before .before .before .before .before .before .before .before .before .before .before .pre) .0 .1) _ _ _ _ (f .0) ((c .before .before .before .before .before .entry-at) .ensures) ((c .before .before .before .before .if1) .left) ((c .before .before .before .load8-padded) .ensures) ((c .before .if4) .left))
+add-t21 c = let f = found-at (entryAt ((c .before .before .before .before .before .before .before .before .before .before .before .before .before .args) .t .now)) ((c .before .before .before .before .before .before .before .before .before .before .before .before .before .args) .k .count) ((c .before .before .before .before .before .before .before .before .before .before .before .before .before .args) .a / 65536) _ ((c .before .before .before .before .before .before .before .before .before .before .find) .ensures) _ ((c .before .before .before .before .before .before .before .before .i) .given .1) in
+    omega (arith, field-inside _ _ _ _ _ ((c .before .before .before .before .before .before .before .before .before .before .before .before .before .pre) .0 .1) _ _ _ _ (f .0) ((c .before .before .before .before .before .before .entry-at) .ensures) ((c .before .before .before .before .if1) .left) ((c .before .before .before .load8-padded) .ensures) ((c .before .if4) .left))
 
 returns-6 : tie.Need-returns-6
-returns-6 c = let f = found-at (entryAt ((c .before .before .before .before .before .before .before .before .before .before .before .before .args) .t .now)) ((c .before .before .before .before .before .before .before .before .before .before .before .before .args) .k .count) ((c .before .before .before .before .before .before .before .before .before .before .before .before .args) .a / 65536) _ ((c .before .before .before .before .before .before .before .before .before .find) .ensures) _ ((c .before .before .before .before .before .before .before .i) .given .1) in λ p s m sh st. aims-field _ _ _ p _ s m sh st _ ((c .before .before .before .before .before .before .before .before .before .before .before .before .pre) .2) _ _ (f .0) (f .1) ((c .before .before .before .before .before .entry-at) .ensures) ((c .before .before .before .before .if1) .left) _ ((c .before .before .before .load8-padded) .ensures) ((c .before .before .if3) .left) ((c .before .before .before .before .before .before .before .before .before .before .before .before .pre) .1) _ ((c .before .if4) .left) ((c .load8-padded2) .ensures)
+returns-6 c = let f = found-at (entryAt ((c .before .before .before .before .before .before .before .before .before .before .before .before .before .args) .t .now)) ((c .before .before .before .before .before .before .before .before .before .before .before .before .before .args) .k .count) ((c .before .before .before .before .before .before .before .before .before .before .before .before .before .args) .a / 65536) _ ((c .before .before .before .before .before .before .before .before .before .before .find) .ensures) _ ((c .before .before .before .before .before .before .before .before .i) .given .1) in λ p s m sh st. aims-field _ _ _ p _ s m sh st _ ((c .before .before .before .before .before .before .before .before .before .before .before .before .before .pre) .2) _ _ (f .0) (f .1) ((c .before .before .before .before .before .before .entry-at) .ensures) ((c .before .before .before .before .if1) .left) _ ((c .before .before .before .load8-padded) .ensures) ((c .before .before .if3) .left) ((c .before .before .before .before .before .before .before .before .before .before .before .before .before .pre) .1) _ ((c .before .if4) .left) ((c .load8-padded2) .ensures)
 
 pub target-spec : {M : Type 1} → statement M
 target-spec =

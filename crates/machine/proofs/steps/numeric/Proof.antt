@@ -11,10 +11,10 @@ use Rattle.machine.proofs.steps.numeric.Statement.{statement}
 use Rattle.machine.proofs.steps.numeric.Tie as tie
 
 tload-requires : tie.Need-tload-requires
-tload-requires c κs = ((c .before .before .before .before .before .pre) .1 .0, (c .before .before .before .before .before .pre) .1 .1 .inside)
+tload-requires c κs = let start = c .before .before .before .before .before in (start .pre .1 .0, (start .pre .1 .1 .inside, start .pre .1 .1 .kinds))
 
 tstore-requires : tie.Need-tstore-requires
-tstore-requires c κs = ((c .before .before .before .before .before .pre) .1 .0, (c .before .before .before .before .before .pre) .1 .1 .inside)
+tstore-requires c κs = let start = c .before .before .before .before .before in (start .pre .1 .0, (start .pre .1 .1 .inside, start .pre .1 .1 .kinds))
 
 copy-requires : tie.Need-copy-requires
 copy-requires c κs = ((c .before .before .before .before .before .pre) .1 .0, (c .before .before .before .before .before .pre) .1 .1 .inside)

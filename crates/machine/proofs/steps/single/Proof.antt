@@ -8,7 +8,7 @@ use Rattle.rules.specs.declared.Operator.the-variants.{And, Or, Xor, Shl, Sal, 
 use Rattle.rules.specs.declared.Num.the-variants.{Int, Long, Double}
 use Rattle.keys.proofs.Chain.{unknown}
 use Rattle.machine.specs.Matches.{even, odd}
-use Rattle.machine.proofs.Arms.{alone, leaves, leaves-one, no-other}
+use Rattle.machine.proofs.Arms.{alone, leaves-one, leaves-odd, no-other}
 use borrow.Author.Needs.{needs}
 use Rattle.machine.proofs.steps.single.Statement.{statement}
 use Rattle.machine.proofs.steps.single.Tie as tie
@@ -239,7 +239,7 @@ returns-20 : tie.Need-returns-20
 returns-20 c = λ cap. leaves-one _ cap 36 refl _ _ _ ((c .match) .keys20)
 
 returns-21 : tie.Need-returns-21
-returns-21 c = λ cap. leaves _ cap 37 refl _ _ _ 49 (λ w. New w) (λ w. refl) (λ w. refl) ((c .match) .keys21)
+returns-21 c = λ cap. leaves-odd _ cap 37 refl _ _ _ ((c .match) .keys21)
 
 returns-22 : tie.Need-returns-22
 returns-22 c = unknown _ ((c .before .before .before .pre) .0 .0) even refl ((c .match) .keys22)

@@ -1,9 +1,10 @@
 -- The proof of `moves::pointers::tload`.
 use native.Mathlib.Omega.{arith}
 use mathlib.Core.Logic.{inl, inr}
-use borrow.Author.Needs.{needs}
 use Rattle.state.proofs.Outcomes.{deferring}
+use Rattle.state.proofs.Families.{kind-at, not-pointer, is-pointer}
 use Rattle.moves.proofs.PointerLaws.{tload-21, tload-31, tload-is}
+use borrow.Author.Needs.{needs}
 use Rattle.moves.proofs.pointers.tload.Statement.{statement}
 use Rattle.moves.proofs.pointers.tload.Tie as tie
 
@@ -29,7 +30,7 @@ returns-2 : tie.Need-returns-2
 returns-2 c =
     let at-slot-at = c .before .before in
     let at-if1 = at-slot-at .before .before .before in
-    λ m f k. inl (tload-31 _ _ _ _ f k m (at-if1 .if1 .left) _ (at-slot-at .slot-at .ensures) (c .if2 .taken))
+    λ m f k. inl (tload-31 _ _ _ _ f k m (at-if1 .if1 .left) _ (at-slot-at .slot-at .ensures) (not-pointer (c .if2 .taken)))
 
 sub-if3 : tie.Need-sub-if3
 sub-if3 c = search needs
@@ -72,9 +73,10 @@ returns-4 c =
     let at-if2 = at-if3 .before .before in
     let at-slot-at = at-if2 .before .before in
     let at-if1 = at-slot-at .before .before .before in
-    λ m f k. inl (rw (c .moved .ensures) (tload-is _ _ _ _ f k m (at-if1 .if1 .left) _ (at-slot-at .slot-at .ensures) _ _ _ (at-if2 .if2 .left)
-    (omega (arith, at-if3 .if3 .left)) (at-slot-at2 .slot-at2 .ensures) (at-put-slot .put-slot .ensures .0) (at-put-slot .put-slot .ensures .1) (omega
-    (arith, at-slot-at2 .slot-at2 .ok))))
+    let start = at-if1 .before .before .before .before in
+    λ m f k. inl (rw (c .moved .ensures) (tload-is _ _ _ _ f k m (at-if1 .if1 .left) _ (at-slot-at .slot-at .ensures) _ _ _
+    (is-pointer (kind-at _ _ _ _ (start .pre .1 .1) (omega (arith, at-if1 .if1 .left)) (at-slot-at .slot-at .ensures)) (at-if2 .if2 .left))
+    (omega (arith, at-if3 .if3 .left)) (at-slot-at2 .slot-at2 .ensures) (at-put-slot .put-slot .ensures .0) (at-put-slot .put-slot .ensures .1) (omega (arith, at-slot-at2 .slot-at2 .ok))))
 
 pub tload-spec : {M : Type 1} → statement M
 tload-spec =

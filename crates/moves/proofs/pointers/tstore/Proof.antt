@@ -1,17 +1,13 @@
-use Rattle.moves.proofs.PointerLaws.{tstore-21, tstore-31, tstore-22, tstore-is}
-use Rattle.state.proofs.Families.{payloads-are}
-use Rattle.state.proofs.Outcomes.{deferring}
-use mathlib.Core.Path.{_∙_}
-use mathlib.Core.Logic.{inl, inr}
+-- The proof of `moves::pointers::tstore`.
 use native.Mathlib.Omega.{arith}
+use mathlib.Core.Logic.{inl, inr}
+use mathlib.Core.Path.{_∙_}
+use Rattle.state.proofs.Outcomes.{deferring}
+use Rattle.state.proofs.Families.{kind-at, not-pointer, is-pointer, payloads-are}
+use Rattle.moves.proofs.PointerLaws.{tstore-21, tstore-31, tstore-22, tstore-is}
 use borrow.Author.Needs.{needs}
 use Rattle.moves.proofs.pointers.tstore.Statement.{statement}
 use Rattle.moves.proofs.pointers.tstore.Tie as tie
-use Rattle.moves.proofs.pointers.tstore.Reads as reads
-use Rattle.moves.proofs.pointers.tstore.Lts as lts
-use Rattle.memory.proofs.store64.Reads as store64-reads
-use Rattle.state.proofs.moved.Reads as moved-reads
-use Rattle.state.proofs.slot_at.Reads as slot-at-reads
 
 add-if1 : tie.Need-add-if1
 add-if1 c = search needs
@@ -29,7 +25,10 @@ same-length : tie.Need-same-length
 same-length c = search needs
 
 returns-2 : tie.Need-returns-2
-returns-2 c = λ m f k. inl (tstore-31 _ _ _ _ f k m ((c .before .before .before .before .if1) .left) _ ((c .before .before .slot-at) .ensures) (c .if2 .taken))
+returns-2 c =
+    let at-slot-at = c .before .before in
+    let at-if1 = at-slot-at .before .before in
+    λ m f k. inl (tstore-31 _ _ _ _ f k m (at-if1 .if1 .left) _ (at-slot-at .slot-at .ensures) (not-pointer (c .if2 .taken)))
 
 sub-if3 : tie.Need-sub-if3
 sub-if3 c = search needs
@@ -53,16 +52,34 @@ same-length-3 : tie.Need-same-length-3
 same-length-3 c = search needs
 
 returns-4 : tie.Need-returns-4
-returns-4 c = λ m f k. inl (tstore-22 _ _ _ _ f k m ((c .before .before .before .before .before .before .before .before .before .before .before .before .before .if1) .left) _ ((c .before .before .before .before .before .before .before .before .before .before .before .slot-at) .ensures) ((c .before .before .before .before .before .before .before .before .before .if2) .left) (omega (arith, (c .before .before .before .before .before .before .before .if3) .left)) _ _ ((c .before .before .before .before .before .slot-at2) .ensures) ((c .before .before .before .slot-at3) .ensures) (c .if4 .taken))
+returns-4 c =
+    let at-slot-at3 = c .before .before .before in
+    let at-slot-at2 = at-slot-at3 .before .before in
+    let at-if3 = at-slot-at2 .before .before in
+    let at-if2 = at-if3 .before .before in
+    let at-slot-at = at-if2 .before .before in
+    let at-if1 = at-slot-at .before .before in
+    let start = at-if1 .before .before .before .before in
+    λ m f k. inl (tstore-22 _ _ _ _ f k m (at-if1 .if1 .left) _ (at-slot-at .slot-at .ensures)
+    (is-pointer (kind-at _ _ _ _ (start .pre .1 .1) (omega (arith, at-if1 .if1 .left)) (at-slot-at .slot-at .ensures)) (at-if2 .if2 .left))
+    (omega (arith, at-if3 .if3 .left)) _ _ (at-slot-at2 .slot-at2 .ensures) (at-slot-at3 .slot-at3 .ensures) (c .if4 .taken))
 
 mul-store64 : tie.Need-mul-store64
-mul-store64 c = omega (arith, (c .before .before .before .before .before .before .before .before .if3) .left, (c .before .before .before .before .before .before .before .before .before .before .before .before .before .before .before .before .before .before .pre) .0 .1 .high, (c .before .before .before .before .before .before .before .before .before .before .before .before .before .before .before .before .before .before .pre) .0 .1 .small)
+mul-store64 c =
+    let at-if3 = c .before .before .before .before .before .before .before .before in
+    let start = at-if3 .before .before .before .before .before .before .before .before .before .before in
+    omega (arith, at-if3 .if3 .left, start .pre .0 .1 .high, start .pre .0 .1 .small)
 
 store64-requires : tie.Need-store64-requires
-store64-requires c κs = omega (arith, (c .before .before .before .before .before .before .before .before .if3) .left, (c .before .before .before .before .before .before .before .before .before .before .before .before .before .before .before .before .before .before .pre) .0 .1 .high, (c .before .before .before .before .before .before .before .before .before .before .before .before .before .before .before .before .before .before .pre) .0 .1 .payloads)
+store64-requires c κs =
+    let at-if3 = c .before .before .before .before .before .before .before .before in
+    let start = at-if3 .before .before .before .before .before .before .before .before .before .before in
+    omega (arith, at-if3 .if3 .left, start .pre .0 .1 .high, start .pre .0 .1 .payloads)
 
 add-moved : tie.Need-add-moved
-add-moved c = omega (arith, (c .before .before .before .before .before .before .before .before .before .before .before .before .before .before .before .before .before .before .before .before .before .before .pre) .0 .1 .near, (c .before .before .before .before .before .before .before .before .before .before .before .before .before .before .before .before .before .before .before .before .before .before .pre) .1)
+add-moved c =
+    let start = c .before .before .before .before .before .before .before .before .before .before .before .before .before .before .before .before .before .before .before .before .before .before in
+    omega (arith, start .pre .0 .1 .near, start .pre .1 .0)
 
 sub-moved : tie.Need-sub-moved
 sub-moved c = search needs
@@ -74,8 +91,20 @@ same-length-4 : tie.Need-same-length-4
 same-length-4 c = search needs
 
 returns-5 : tie.Need-returns-5
-returns-5 c = λ m f k. inl (rw (c .moved .ensures) (tstore-is _ _ _ _ f k m ((c .before .before .before .before .before .before .before .before .before .before .before .before .before .before .before .before .before .before .before .if1) .left) _ ((c .before .before .before .before .before .before .before .before .before .before .before .before .before .before .before .before .before .slot-at) .ensures) ((c .before .before .before .before .before .before .before .before .before .before .before .before .before .before .before .if2) .left) (omega (arith, (c .before .before .before .before .before .before .before .before .before .before .before .before .before .if3) .left)) _ _ ((c .before .before .before .before .before .before .before .before .before .before .before .slot-at2) .ensures) ((c .before .before .before .before .before .before .before .before .before .slot-at3) .ensures) _ ((c .before .before .before .before .before .before .if4) .left)
-    ((c .before .before .before .before .store64) .ensures ∙ payloads-are _ _ ((c .before .before .before .before .before .before .before .before .before .before .before .slot-at2) .result)) (omega (arith, (c .before .before .before .before .before .before .before .before .before .before .before .slot-at2) .ok))))
+returns-5 c =
+    let at-store64 = c .before .before .before .before in
+    let at-if4 = at-store64 .before .before in
+    let at-slot-at3 = at-if4 .before .before .before in
+    let at-slot-at2 = at-slot-at3 .before .before in
+    let at-if3 = at-slot-at2 .before .before in
+    let at-if2 = at-if3 .before .before in
+    let at-slot-at = at-if2 .before .before in
+    let at-if1 = at-slot-at .before .before in
+    let start = at-if1 .before .before .before .before in
+    λ m f k. inl (rw (c .moved .ensures) (tstore-is _ _ _ _ f k m (at-if1 .if1 .left) _ (at-slot-at .slot-at .ensures)
+    (is-pointer (kind-at _ _ _ _ (start .pre .1 .1) (omega (arith, at-if1 .if1 .left)) (at-slot-at .slot-at .ensures)) (at-if2 .if2 .left))
+    (omega (arith, at-if3 .if3 .left)) _ _ (at-slot-at2 .slot-at2 .ensures) (at-slot-at3 .slot-at3 .ensures) _ (at-if4 .if4 .left)
+    (at-store64 .store64 .ensures ∙ payloads-are _ _ (at-slot-at2 .slot-at2 .result)) (omega (arith, at-slot-at2 .slot-at2 .ok))))
 
 pub tstore-spec : {M : Type 1} → statement M
 tstore-spec =

@@ -4,7 +4,7 @@ use mathlib.Core.Bool.{false}
 use borrow.Author.Needs.{needs}
 use Rattle.values.specs.Values.{gives}
 use Rattle.values.proofs.Cases.{int-apart, long-apart, double-apart, pointer-apart}
-use Rattle.values.proofs.Order.{cmp-unlike, cmp-ints, cmp-longs, cmp-doubles, cmp-nan, cmp-pointers}
+use Rattle.values.proofs.Order.{cmp-unlike, cmp-ints, cmp-longs, cmp-doubles, cmp-nan, cmp-across, cmp-pointers}
 use Rattle.values.proofs.comparison.cmp_values.Statement.{statement}
 use Rattle.values.proofs.comparison.cmp_values.Tie as tie
 
@@ -69,29 +69,34 @@ returns-5 c =
     let start = c .before .before .before .before in
     cmp-unlike false (pointer-apart (start .args .b) (c .before .before .a4 .given .1) (c .match5 .keys2)) refl
 
+returns-6 : tie.Need-returns-6
+returns-6 c =
+    let at-b4 = c .before .before in
+    cmp-across false (at-b4 .before .before .before .a4 .given .1) (at-b4 .b4 .given .1) (c .if2 .taken) refl
+
 cmp64-requires-2 : tie.Need-cmp64-requires-2
 cmp64-requires-2 c κs = search needs
 
-returns-6 : tie.Need-returns-6
-returns-6 c =
+returns-7 : tie.Need-returns-7
+returns-7 c =
     let at-a = c .before .before .before .before .before in
     cmp-ints false (at-a .a .given .1) (c .before .before .b .given .1) (ap (gives 3) (c .cmp32 .ensures))
 
-returns-7 : tie.Need-returns-7
-returns-7 c =
+returns-8 : tie.Need-returns-8
+returns-8 c =
     let at-a2 = c .before .before .before .before .before in
     cmp-longs false (at-a2 .a2 .given .1) (c .before .before .b2 .given .1) (ap (gives 3) (c .cmp64 .ensures))
 
-returns-8 : tie.Need-returns-8
-returns-8 c =
+returns-9 : tie.Need-returns-9
+returns-9 c =
     let at-b3 = c .before .before .before .before in
     cmp-doubles false (at-b3 .before .before .before .a3 .given .1) (at-b3 .b3 .given .1) (sym (c .before .before .unordered .ensures) ∙ c .before .if1 .left)
     (ap (gives 3) (c .compare .ensures))
 
-returns-9 : tie.Need-returns-9
-returns-9 c =
-    let at-a4 = c .before .before .before .before .before in
-    cmp-pointers false (at-a4 .a4 .given .1) (c .before .before .b4 .given .1) (ap (gives 3) (c .cmp642 .ensures))
+returns-10 : tie.Need-returns-10
+returns-10 c =
+    let at-b4 = c .before .before .before in
+    cmp-pointers false (at-b4 .before .before .before .a4 .given .1) (at-b4 .b4 .given .1) (c .before .if2 .left) (ap (gives 3) (c .cmp642 .ensures))
 
 pub cmp-values-spec : {M : Type 1} → statement M
 cmp-values-spec =
@@ -114,8 +119,9 @@ cmp-values-spec =
     enum-known-a-4
     enum-known-b-4
     returns-5
-    cmp64-requires-2
     returns-6
+    cmp64-requires-2
     returns-7
     returns-8
-    returns-9)
+    returns-9
+    returns-10)

@@ -4,7 +4,7 @@ use mathlib.Core.Bool.{true}
 use borrow.Author.Needs.{needs}
 use Rattle.values.specs.Values.{gives}
 use Rattle.values.proofs.Cases.{int-apart, long-apart, double-apart, pointer-apart}
-use Rattle.values.proofs.Order.{cmp-unlike, cmp-ints, cmp-longs, cmp-doubles, cmp-nan, cmp-pointers}
+use Rattle.values.proofs.Order.{cmp-unlike, cmp-ints, cmp-longs, cmp-doubles, cmp-nan, cmp-across, cmp-pointers}
 use Rattle.values.proofs.comparison.icmp_values.Statement.{statement}
 use Rattle.values.proofs.comparison.icmp_values.Tie as tie
 
@@ -69,29 +69,34 @@ returns-5 c =
     let start = c .before .before .before .before in
     cmp-unlike true (pointer-apart (start .args .b) (c .before .before .a4 .given .1) (c .match5 .keys2)) refl
 
+returns-6 : tie.Need-returns-6
+returns-6 c =
+    let at-b4 = c .before .before in
+    cmp-across true (at-b4 .before .before .before .a4 .given .1) (at-b4 .b4 .given .1) (c .if2 .taken) refl
+
 cmp64-requires : tie.Need-cmp64-requires
 cmp64-requires c κs = search needs
 
-returns-6 : tie.Need-returns-6
-returns-6 c =
+returns-7 : tie.Need-returns-7
+returns-7 c =
     let at-a = c .before .before .before .before .before in
     cmp-ints true (at-a .a .given .1) (c .before .before .b .given .1) (ap (gives 3) (c .icmp32 .ensures))
 
-returns-7 : tie.Need-returns-7
-returns-7 c =
+returns-8 : tie.Need-returns-8
+returns-8 c =
     let at-a2 = c .before .before .before .before .before in
     cmp-longs true (at-a2 .a2 .given .1) (c .before .before .b2 .given .1) (ap (gives 3) (c .icmp64 .ensures))
 
-returns-8 : tie.Need-returns-8
-returns-8 c =
+returns-9 : tie.Need-returns-9
+returns-9 c =
     let at-b3 = c .before .before .before .before in
     cmp-doubles true (at-b3 .before .before .before .a3 .given .1) (at-b3 .b3 .given .1) (sym (c .before .before .unordered .ensures) ∙ c .before .if1 .left)
     (ap (gives 3) (c .compare .ensures))
 
-returns-9 : tie.Need-returns-9
-returns-9 c =
-    let at-a4 = c .before .before .before .before .before in
-    cmp-pointers true (at-a4 .a4 .given .1) (c .before .before .b4 .given .1) (ap (gives 3) (c .cmp64 .ensures))
+returns-10 : tie.Need-returns-10
+returns-10 c =
+    let at-b4 = c .before .before .before in
+    cmp-pointers true (at-b4 .before .before .before .a4 .given .1) (at-b4 .b4 .given .1) (c .before .if2 .left) (ap (gives 3) (c .cmp64 .ensures))
 
 pub icmp-values-spec : {M : Type 1} → statement M
 icmp-values-spec =
@@ -114,8 +119,9 @@ icmp-values-spec =
     enum-known-a-4
     enum-known-b-4
     returns-5
-    cmp64-requires
     returns-6
+    cmp64-requires
     returns-7
     returns-8
-    returns-9)
+    returns-9
+    returns-10)

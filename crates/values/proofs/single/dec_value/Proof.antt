@@ -1,7 +1,7 @@
 -- `values::single::dec_value` meets its contract. Assumes nothing.
 use borrow.Author.Needs.{needs}
 use Rattle.rules.specs.Operations.{bumped, computed, onWords, onDoubles}
-use Rattle.values.proofs.Cases.{int-kind, long-kind, double-kind, pointer-kind}
+use Rattle.values.proofs.Cases.{int-kind, long-kind, double-kind, pointer-told}
 use Rattle.values.proofs.single.dec_value.Statement.{statement}
 use Rattle.values.proofs.single.dec_value.Tie as tie
 
@@ -36,7 +36,7 @@ unfolding bumped computed onDoubles
 returns-3 c = λ s k e. let f = double-kind s k e (c .before .a3 .given .1) in rw (f .1, f .0)
 
 returns-4 : tie.Need-returns-4
-returns-4 c = λ s k e. rw (pointer-kind s k e (c .enum-told .given .1) .0)
+returns-4 c = λ s k e. rw (pointer-told s k e (c .enum-told .given .1))
 
 pub dec-value-spec : {M : Type 1} → statement M
 dec-value-spec =

@@ -1,7 +1,7 @@
 -- `values::single::not_value` meets its contract. Assumes nothing.
 use borrow.Author.Needs.{needs}
 use Rattle.rules.specs.Operations.{complemented}
-use Rattle.values.proofs.Cases.{int-kind, long-kind, double-kind, pointer-kind}
+use Rattle.values.proofs.Cases.{int-kind, long-kind, double-kind, pointer-told}
 use Rattle.values.proofs.single.not_value.Statement.{statement}
 use Rattle.values.proofs.single.not_value.Tie as tie
 
@@ -35,7 +35,7 @@ returns-3 : tie.Need-returns-3
 returns-3 c = λ s k e. let f = double-kind s k e (c .enum-told .given .1) in rw (f .0)
 
 returns-4 : tie.Need-returns-4
-returns-4 c = λ s k e. rw (pointer-kind s k e (c .enum-told2 .given .1) .0)
+returns-4 c = λ s k e. rw (pointer-told s k e (c .enum-told2 .given .1))
 
 pub not-value-spec : {M : Type 1} → statement M
 not-value-spec =

@@ -1,7 +1,7 @@
 -- `values::single::toi_value` meets its contract. Assumes nothing.
 use Rattle.rules.specs.declared.Num.the-variants.{Int as int}
 use Rattle.values.proofs.Conversions.{raised, truncated, low-cut, kept}
-use Rattle.values.proofs.Cases.{int-kind, long-kind, double-kind, pointer-kind}
+use Rattle.values.proofs.Cases.{int-kind, long-kind, double-kind, pointer-told}
 use mathlib.Core.Bool.{false}
 use Rattle.rules.specs.Operations.{converted, unfit}
 use borrow.Author.Needs.{needs}
@@ -43,7 +43,7 @@ returns-4 : tie.Need-returns-4
 returns-4 c = λ s k n e. let f = double-kind s k e ((c .before .before .before .before .before .a3) .given .1) in rw ((c .low2) .ensures, (c .before .before .before .truncate) .ensures .1, low-cut) (truncated ((c .before .before .before .before .before .before .before .args) .raises) s (f .0) (f .1) false (rw (← (c .before .before .before .truncate) .ensures .0) ((c .before .if1) .left)))
 
 returns-5 : tie.Need-returns-5
-returns-5 c = λ s k n e. rw (pointer-kind s k e ((c .enum-told) .given .1) .0)
+returns-5 c = λ s k n e. rw (pointer-told s k e ((c .enum-told) .given .1))
 
 pub toi-value-spec : {M : Type 1} → statement M
 toi-value-spec =

@@ -1,7 +1,7 @@
 -- `values::single::tol_value` meets its contract. Assumes nothing.
 use Rattle.rules.specs.declared.Num.the-variants.{Long as long}
 use Rattle.values.proofs.Conversions.{raised, truncated, kept}
-use Rattle.values.proofs.Cases.{int-kind, long-kind, double-kind, pointer-kind}
+use Rattle.values.proofs.Cases.{int-kind, long-kind, double-kind, pointer-told}
 use mathlib.Core.Bool.{true}
 use Rattle.rules.specs.Operations.{converted, unfit}
 use borrow.Author.Needs.{needs}
@@ -41,7 +41,7 @@ returns-4 : tie.Need-returns-4
 returns-4 c = λ s k e. let f = double-kind s k e ((c .before .before .before .before .a3) .given .1) in rw ((c .before .before .truncate) .ensures .1) (truncated ((c .before .before .before .before .before .before .args) .raises) s (f .0) (f .1) true (rw (← (c .before .before .truncate) .ensures .0) ((c .if1) .left)))
 
 returns-5 : tie.Need-returns-5
-returns-5 c = λ s k e. rw (pointer-kind s k e ((c .enum-told) .given .1) .0)
+returns-5 c = λ s k e. rw (pointer-told s k e ((c .enum-told) .given .1))
 
 pub tol-value-spec : {M : Type 1} → statement M
 tol-value-spec =

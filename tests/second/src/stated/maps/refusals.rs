@@ -157,7 +157,18 @@ fn pointers() -> Vec<StatedMap> {
         ("", &["*int", "*long", "*double"][..]),
         (
             "edition 4; structure int; structure double;",
-            &["*int", "*long", "*double", "*10", "*11"],
+            &[
+                "*int",
+                "*long",
+                "*double",
+                "*10",
+                "*11",
+                "gc*int",
+                "gc*long",
+                "gc*double",
+                "gc*10",
+                "gc*11",
+            ],
         ),
     ] {
         for ty in types {
@@ -172,6 +183,8 @@ fn pointers() -> Vec<StatedMap> {
     }
     let returned = "edition 4; structure int; entry: function *10 (*10): load 0; ret";
     all.push(unrun(returned, &[u64::MAX], 1, 13));
+    let managed = "edition 4; structure int; entry: function gc*10 (gc*10): load 0; ret";
+    all.push(unrun(managed, &[u64::MAX], 1, 13));
     all
 }
 
