@@ -1,5 +1,5 @@
 /*
- * limpetskein.h: for C, the check of a module, the run of one of its bodies, the map of one of its functions over a row
+ * limpetskein.h: for C, the check of a module, of the whole or of the one body that was edited, the run of one of its bodies, the map of one of its functions over a row
  * of pixels, the writer of modules, the compiler of formula lines, and the conversion of modules between editions 3
  * and 4.
  *
@@ -13,8 +13,8 @@
  * What the caller owes:
  *   - A slice is a pointer and a number of bytes. All of them can be read and, where the pointer
  *     is not const, written. With length 0 the pointer may be null.
- *   - A slice that is written overlaps no other slice, and neither body, steps, height, rows nor written.
- *   - body, steps, height, rows and written are not null, are aligned and do not overlap each other.
+ *   - A slice that is written overlaps no other slice, and neither body, first, steps, height, rows nor written.
+ *   - body, first, steps, height, rows and written are not null, are aligned and do not overlap each other.
  *   - Nothing else writes these bytes during the call.
  *
  * Numbers are little endian. Bodies are numbered as in the module's function section.
@@ -40,6 +40,7 @@ extern "C" {
 #define LIMPETSKEIN_MOST_STRUCTURES 16 /* of edition 4; the others have none */
 #define LIMPETSKEIN_MOST_CODE 16384 /* bytes */
 #define LIMPETSKEIN_ROOM_PER_LABEL 64 /* bytes of checking room */
+#define LIMPETSKEIN_LONGEST_RECORD 137 /* bytes of the record of a module's bodies: 9, and one for each function */
 #define LIMPETSKEIN_MOST_SLOTS 4096   /* a larger lent stack is used up to here */
 #define LIMPETSKEIN_MOST_CELLS 4096   /* and a larger lent heap */
 
@@ -83,14 +84,15 @@ extern "C" {
 #define LIMPETSKEIN_NULL 0xFFFFFFFFFFFFFFFFull
 
 /*
- * Answers. A call gives the first in number order that holds; of a formula line and of a conversion 16 comes last, and
- * the number of a map's first row that does not finish comes behind what is refused before any row.
+ * Answers. A call gives the first in number order that holds; of a formula line and of a conversion 16 comes last, of a
+ * check with a record 16 comes behind 10 and before 11, of the check of a body 11 comes behind 12 and 45, and the number
+ * of a map's first row that does not finish comes behind what is refused before any row.
  */
 enum {
-    LIMPETSKEIN_DONE = 0, /* check: accepted. run: finished. map: every row finished. write, formula and conversions:
+    LIMPETSKEIN_DONE = 0, /* checks: accepted. run: finished. map: every row finished. write, formula and conversions:
                              written */
 
-    /* The module can't be read: check, run, map and conversions. 2 and 4 to 9 also: these tables are no module:
+    /* The module can't be read: checks, run, map and conversions. 2 and 4 to 9 also: these tables are no module:
        write. */
     LIMPETSKEIN_TOO_SHORT = 1,     /* under 48 bytes; under 56 in edition 4 */
     LIMPETSKEIN_OTHER_EDITION = 2, /* the edition is none of 1, 3 and 4; a conversion: it is not the one that is
@@ -106,11 +108,14 @@ enum {
     LIMPETSKEIN_BAD_CODE = 8,      /* an unknown opcode, or an instruction crossing its body's end */
     LIMPETSKEIN_BAD_LABEL = 9,     /* a label with no such owner, or not on an instruction start of it */
 
-    /* Check only. */
+    /* Checks only. */
     LIMPETSKEIN_ROOM_TOO_SHORT = 10, /* checking room under 64 bytes per label */
-    LIMPETSKEIN_NO_TYPING = 11,      /* some body has no consistent typing; *body is the first */
+    LIMPETSKEIN_NO_TYPING = 11,      /* some body has no consistent typing; *body is the first. Check of a body: by the
+                                        record some body has none; *first is the first */
+    LIMPETSKEIN_RECORD_DIFFERS = 45, /* check of a body: a count, offset or length other than this module's record has,
+                                        or a byte over 1 */
 
-    /* Run and map only: it did not start. */
+    /* Run and map only: it did not start. 12 also: the check of a body. */
     LIMPETSKEIN_NO_SUCH_FUNCTION = 12,
     LIMPETSKEIN_BAD_ARGUMENTS = 13, /* not 8 payload bytes per type byte, other types than declared, an int with
                                        upper bits, a pointer parameter, managed or not, or arguments for the entry; map:
@@ -118,8 +123,8 @@ enum {
                                        or, at its row, an int with upper bits */
     LIMPETSKEIN_OTHER_PROFILE = 17, /* the function was made for another profile */
 
-    /* Write, formula and conversions. */
-    LIMPETSKEIN_OUTPUT_TOO_SHORT = 16, /* there is a module to write, and the output is shorter than it */
+    /* Write, formula and conversions, and the check with a record. */
+    LIMPETSKEIN_OUTPUT_TOO_SHORT = 16, /* there is a module, or a record, to write, and the output is shorter than it */
 
     /* To edition 3 only. */
     LIMPETSKEIN_NOT_IN_EDITION_3 = 18, /* a profile that is not 0, a structure, or a type byte or opcode that edition 3
@@ -174,6 +179,43 @@ enum {
  *            CA to D9 and C0, for a managed one); zeros elsewhere, and all zero if not reached. The rest is unchanged.
  */
 uint32_t limpetskein_check(const uint8_t *module, size_t module_len, uint8_t *room, size_t room_len, uint32_t *body);
+
+/*
+ * Checks a module as limpetskein_check does, and writes a record of its bodies: 0 to 10, 16, 11, in this order.
+ *
+ *   record    9 bytes and one for each function; LIMPETSKEIN_LONGEST_RECORD serve every module.
+ *   *body     written with 11 only, as by limpetskein_check.
+ *   *written  written with 0 only: the record's length. With 11 the record is as long.
+ *
+ * The room after the call is as limpetskein_check leaves it, with 16 unchanged. The record after the call:
+ *   1 to 10, 16  unchanged.
+ *   0, 11        two words, the count of bodies (functions + 1) and 8; then a byte for each body, the entry's first, 1 if
+ *                it has a typing, else 0, with 11 also for those behind *body. The rest is unchanged.
+ */
+uint32_t limpetskein_check_recording(const uint8_t *module, size_t module_len, uint8_t *room, size_t room_len,
+                                     uint8_t *record, size_t record_len, uint32_t *body, uint64_t *written);
+
+/*
+ * Checks one body of a module, beside a record: 0 to 9, 12, 45, 11, in this order. It needs no room and writes no label
+ * records.
+ *
+ *   body    its number, or LIMPETSKEIN_ENTRY.
+ *   record  of the module's exact length, as limpetskein_check_recording wrote it for the module before the edit, or as
+ *           this call left it then.
+ *   *first  written with 11 only: the first body whose byte is 0 now, often another than the one that was named.
+ *
+ * The record after the call:
+ *   1 to 9, 12, 45  unchanged.
+ *   0, 11           the named body's byte is 1 if it has a typing, else 0. All other bytes are unchanged.
+ *
+ * The other bodies are not looked at: the record is believed. The answer and *first are those of limpetskein_check, given
+ * room, if the record is one of the module before the edit, and the two modules have the same edition, constant types,
+ * structures, signatures and other bodies, their labels the same by number and place within the body. Constants' payloads
+ * and functions' profiles may differ. The record is then one of the new module, so the next edit may follow. After any
+ * other change, as of the count of functions or constants, a full check is due.
+ */
+uint32_t limpetskein_check_body(const uint8_t *module, size_t module_len, uint32_t body, uint8_t *record,
+                                size_t record_len, uint32_t *first);
 
 /*
  * Runs a body of a module, checked or not: 0 to 9, 12, 13, 15, 17, 20 to 39, 44, 50.

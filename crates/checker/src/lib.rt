@@ -1,6 +1,6 @@
 // The checker: whether every body of a module has a consistent typing, and what it gives at the labels.
 mod bodies;
-mod walk;
+pub mod walk;
 
 ghost use mathlib.Core.Path.{_≡_};
 ghost use Prim.Native.Nat.{_*_, _≤_, _<_};
@@ -18,7 +18,7 @@ use rules::CheckAnswer;
 const ROOM_TOO_SHORT: u32 = 10;
 
 // With a blank table for the places, and the code in keys.
-fn check_with(
+pub fn check_with(
     file: &[u8],
     c: Sections,
     code: &[u8],

@@ -17,7 +17,7 @@ use records::Transfer;
 const ENTRY: usize = 0xffff_ffff;
 
 // A walk is refused, ends at nodes, or goes on at a place.
-pub(crate) enum Turn {
+pub enum Turn {
     Breaks,
     Ends,
     Goes(usize),
@@ -45,7 +45,7 @@ fn arrive(
 }
 
 // The walk comes to place q of a body that ends at e. A node there is the next body's.
-pub(crate) fn land(
+pub fn land(
     file: &[u8],
     c: Sections,
     table: &[u16],
@@ -140,7 +140,7 @@ fn follow(
 
 // From place p on, up to the next nodes; false where the body has no typing. From the entry's end nothing follows, a function's
 // end has no flow. The code is lent in keys.
-pub(crate) fn walk(
+pub fn walk(
     file: &[u8],
     c: Sections,
     code: &[u8],

@@ -23,7 +23,7 @@ const NO_TYPING: u64 = 11;
 const NOT_IN_GRAMMAR: u64 = 41;
 
 // A number alone on a line.
-fn number_text(n: u64, out: &mut [u8]) -> usize
+pub(crate) fn number_text(n: u64, out: &mut [u8]) -> usize
     requires { ⌜ 21 ≤ length (now out) ⌝ }
     ensures { λ r. ⌜ Fills (Program.refusedLine n) (now (out .exit)) r ⌝ }
 {

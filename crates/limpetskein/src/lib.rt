@@ -1,12 +1,14 @@
-// The public library: the check of any bytes, the run of any body of any bytes, the call of a function for rows, the writer of modules,
+// The public library: the check of any bytes, with a record of its bodies, or of one body beside such a record, the run of any body of any bytes, the call of a function for rows, the writer of modules,
 // the conversions between editions 3 and 4, and the compiler of formula lines.
 ghost use Rattle.rules.specs.Tables.{tables};
 ghost use Rattle.promises.specs.Promises.{lentOf, lentHeapOf, CheckKeeps, RunKeeps};
 ghost use Rattle.rules.specs.Grammar.{StopsAt};
+ghost use Rattle.promises.specs.RecordingPromises.{RecordingKeeps, RecheckKeeps};
 ghost use Rattle.promises.specs.WritePromises.{WriteKeeps};
 ghost use Rattle.promises.specs.FormulaPromises.{FormulaKeeps};
 ghost use Rattle.promises.specs.ConvertPromises.{UpKeeps, DownKeeps};
 use rules::CheckAnswer;
+use rules::RecordingAnswer;
 use rules::RunAnswer;
 use rules::WriteAnswer;
 
@@ -19,6 +21,20 @@ pub fn check(file: &[u8], room: &mut [u8]) -> CheckAnswer
     ensures { λ r. ⌜ CheckKeeps (now (file .entry)) (now (room .entry)) r (now (room .exit)) ⌝ }
 {
     checking::check(file, room)
+}
+
+// The check of any bytes in the lent room, which writes a record of which bodies have a typing into `beside`.
+pub fn check_recording(file: &[u8], room: &mut [u8], beside: &mut [u8]) -> RecordingAnswer
+    ensures { λ r. ⌜ RecordingKeeps (now (file .entry)) (now (room .entry)) (now (beside .entry)) r (now (room .exit)) (now (beside .exit)) ⌝ }
+{
+    rechecking::check_recording(file, room, beside)
+}
+
+// The check of one body of any bytes, beside a record whose byte for it is set. ffffffff names the entry.
+pub fn check_body(file: &[u8], body: u32, beside: &mut [u8]) -> CheckAnswer
+    ensures { λ r. ⌜ RecheckKeeps (now (file .entry)) body (now (beside .entry)) r (now (beside .exit)) ⌝ }
+{
+    rechecking::check_body(file, body, beside)
 }
 
 // The run of a body of any bytes on the lent arguments, for a scan of this profile, on the lent slots and heap: cells, and entries

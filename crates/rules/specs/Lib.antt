@@ -14,6 +14,7 @@ pub mod Machine
 pub mod Typing
 pub mod Check
 pub mod Answers
+pub mod Recording
 pub mod Host
 pub mod Program
 pub mod Demand3
@@ -23,6 +24,7 @@ pub mod Saved
 pub mod Converting
 pub mod Converted
 pub mod Mapping
+pub mod Rechecked
 pub mod Files
 pub mod Grammar
 pub mod Reading
@@ -38,6 +40,7 @@ pub mod Heaps
 pub mod Writings
 pub mod Profiles
 pub mod Maps
+pub mod Recordings
 pub mod Formulas
 pub mod Typings
 pub mod Values

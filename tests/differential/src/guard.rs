@@ -17,6 +17,7 @@ pub enum Call {
     Formula,
     Convert,
     Map,
+    Record,
 }
 
 /// Before the first case: calls on slices of over 2^32 bytes.
@@ -78,6 +79,7 @@ fn report(what: &str) {
         Some(Call::Formula) => ("formula", "line", "--formula"),
         Some(Call::Convert) => ("conversion", "module", "--conversion"),
         Some(Call::Map) => ("map", "rows", "--rows"),
+        Some(Call::Record) => ("check with a record", "records", "--records"),
         Some(Call::Run) => ("run", "module", "--case"),
         _ => ("check", "module", "--case"),
     };

@@ -1,7 +1,8 @@
 //! The library under test, through its C interface.
 
 use second::memory::{
-    CheckMemory, ConvertMemory, FormulaMemory, Lent, MapMemory, RunMemory, Start, WriteMemory,
+    BodyMemory, CheckMemory, ConvertMemory, FormulaMemory, Lent, MapMemory, RecordingMemory,
+    RunMemory, Start, WriteMemory,
 };
 use second::opcode::Edition;
 use second::reader::ENTRY;
@@ -100,6 +101,28 @@ extern "C" {
         blocks: *mut u8,
         blocks_len: usize,
         rows: *mut u64,
+    ) -> u32;
+
+    #[cfg(not(without_records))]
+    pub fn limpetskein_check_recording(
+        module: *const u8,
+        module_len: usize,
+        room: *mut u8,
+        room_len: usize,
+        record: *mut u8,
+        record_len: usize,
+        body: *mut u32,
+        written: *mut u64,
+    ) -> u32;
+
+    #[cfg(not(without_records))]
+    pub fn limpetskein_check_body(
+        module: *const u8,
+        module_len: usize,
+        body: u32,
+        record: *mut u8,
+        record_len: usize,
+        first: *mut u32,
     ) -> u32;
 }
 
@@ -252,6 +275,46 @@ impl Subject for Library {
                 &raw mut memory.rows,
             )
         }
+    }
+
+    #[cfg(without_records)]
+    fn check_recording(&mut self, _: &mut RecordingMemory) -> u32 {
+        unreachable!("records are left out")
+    }
+
+    #[cfg(not(without_records))]
+    fn check_recording(&mut self, memory: &mut RecordingMemory) -> u32 {
+        let module = self.pointer(&mut memory.module);
+        let room = self.pointer(&mut memory.room);
+        let record = self.pointer(&mut memory.record);
+        // SAFETY: pointers and lengths are those of separate live buffers.
+        unsafe {
+            limpetskein_check_recording(
+                module,
+                memory.module.len(),
+                room,
+                memory.room.len(),
+                record,
+                memory.record.len(),
+                &raw mut memory.body,
+                &raw mut memory.written,
+            )
+        }
+    }
+
+    #[cfg(without_records)]
+    fn check_body(&mut self, _: u32, _: &mut BodyMemory) -> u32 {
+        unreachable!("records are left out")
+    }
+
+    #[cfg(not(without_records))]
+    fn check_body(&mut self, body: u32, memory: &mut BodyMemory) -> u32 {
+        let (module_len, record_len) = (memory.module.len(), memory.record.len());
+        let module = self.pointer(&mut memory.module);
+        let record = self.pointer(&mut memory.record);
+        let first = &raw mut memory.first;
+        // SAFETY: pointers and lengths are those of separate live buffers.
+        unsafe { limpetskein_check_body(module, module_len, body, record, record_len, first) }
     }
 }
 

@@ -3,10 +3,11 @@
 //! of runs. With `--checks`, only checks are compared, first with what is stated of them, then on
 //! generated cases; with `--writes`, writes in the same way; with `--formulas`, formula lines, and
 //! the check and the runs of what they are written as; with `--conversions`, conversions between
-//! editions 3 and 4, the way back, and the runs of what they give; with `--rows`, calls on rows.
+//! editions 3 and 4, the way back, and the runs of what they give; with `--rows`, calls on rows; with
+//! `--records`, full checks that write a record and checks of a body, along chains of edits.
 //!
-//! `differential [--checks | --writes | --formulas | --conversions | --rows] [--edition N] [--seed N]
-//! [--seconds N | --cases N] [--from N] [--most N]`
+//! `differential [--checks | --writes | --formulas | --conversions | --rows | --records] [--edition N]
+//! [--seed N] [--seconds N | --cases N] [--from N] [--most N]`
 
 mod checks;
 mod conversions;
@@ -14,6 +15,8 @@ mod formulas;
 mod guard;
 mod huge;
 mod library;
+#[cfg(not(without_records))]
+mod records;
 mod rounds;
 #[cfg(not(without_rows))]
 mod rows;
@@ -27,6 +30,8 @@ use second::compare::compare;
 use second::gen::case::Case;
 use second::gen::conversions::ConvertCase;
 use second::gen::lines::LineCase;
+#[cfg(not(without_records))]
+use second::gen::records::RecordCase;
 #[cfg(not(without_rows))]
 use second::gen::rows::MapCase;
 use second::gen::tables::WriteCase;
@@ -36,17 +41,15 @@ use second::subject::Second;
 
 fn main() {
     rounds::start();
-    if args::has("--writes") {
-        return compare_writes();
-    }
-    if args::has("--formulas") {
-        return compare_formulas();
-    }
-    if args::has("--conversions") {
-        return compare_conversions();
-    }
-    if args::has("--rows") {
-        return compare_rows();
+    let others: [(&str, fn()); 5] = [
+        ("--writes", compare_writes),
+        ("--formulas", compare_formulas),
+        ("--conversions", compare_conversions),
+        ("--rows", compare_rows),
+        ("--records", compare_records),
+    ];
+    if let Some((_, compare)) = others.iter().find(|(name, _)| args::has(name)) {
+        return compare();
     }
     let check = huge::differs("check", |module, len| {
         let mut body = 0;
@@ -130,6 +133,25 @@ fn compare_rows() {
 #[cfg(without_rows)]
 fn compare_rows() {
     eprintln!("linked with an archive that has no call on rows");
+    std::process::exit(2);
+}
+
+#[cfg(not(without_records))]
+fn compare_records() {
+    let before = records::huge_differ() + records::not_as_stated();
+    let records = Comparison {
+        subject: "library's records",
+        make: RecordCase::new,
+        compare: records::differs,
+        describe: |case: &RecordCase| (case.kind, case.describe()),
+        edition: |case: &RecordCase| edition_of(case.first()),
+    };
+    rounds::run(&records, before);
+}
+
+#[cfg(without_records)]
+fn compare_records() {
+    eprintln!("linked with an archive that has no checks with records");
     std::process::exit(2);
 }
 

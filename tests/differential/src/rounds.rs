@@ -34,6 +34,7 @@ pub fn start() {
         "--formulas",
         "--conversions",
         "--rows",
+        "--records",
         "--edition",
         "--seed",
         "--cases",
@@ -49,6 +50,8 @@ pub fn start() {
         Call::Convert
     } else if args::has("--rows") {
         Call::Map
+    } else if args::has("--records") {
+        Call::Record
     } else if args::has("--checks") {
         Call::Check
     } else {

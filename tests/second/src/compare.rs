@@ -1,4 +1,6 @@
-//! Two subjects side by side on one case.
+//! Two subjects side by side on one case. `records` has checks with records.
+
+pub mod records;
 
 use crate::gen::case::{Case, RunCall};
 use crate::gen::conversions::ConvertCase;
@@ -238,6 +240,7 @@ pub fn map_difference(a: &MapMemory, b: &MapMemory) -> String {
     text + &slice_difference("blocks", &a.blocks, &b.blocks)
 }
 
+/// Where two lent slices or their guard bytes differ, in words.
 fn slice_difference(name: &str, a: &Lent, b: &Lent) -> String {
     match a.first_difference(b) {
         None => String::new(),

@@ -8,6 +8,7 @@ use crate::formula::split;
 use crate::gen::case::{Case, RunCall};
 use crate::gen::conversions::ConvertCase;
 use crate::gen::lines::LineCase;
+use crate::gen::records::{RecordCall, RecordCase, RecordStep};
 use crate::gen::rows::MapCase;
 use crate::gen::tables::WriteCase;
 use crate::heap::{address, Address, Part};
@@ -16,6 +17,7 @@ use crate::managed_edges::{self, Before};
 use crate::opcode::{Edition, Op};
 use crate::possible::{BY_MANAGED, IN_A_CELL};
 use crate::profile_edges::{self, is_an_outcome};
+use crate::record_edges;
 use crate::row_edges;
 use crate::rules::Rules;
 use crate::subject::{checked_number, Second, Subject};
@@ -37,6 +39,12 @@ pub struct Coverage {
     /// Where the row is that ended a call with this number.
     pub row_places: Counts<(Edition, u32, &'static str)>,
     pub row_edges: Counts<(Edition, &'static str)>,
+    /// Full checks that write records, and checks of a body.
+    pub recordings: Counts<(Edition, u32)>,
+    pub bodies: Counts<(Edition, u32)>,
+    pub record_edges: Counts<(Edition, &'static str)>,
+    /// Checks of a body that are not what the full check gives, though A10 promises it.
+    pub unkept: u64,
     pub formulas: Counts<u32>,
     pub line_edges: Counts<&'static str>,
     /// Lines by generator: all, and accepted ones.
@@ -137,6 +145,36 @@ impl Coverage {
         }
         for edge in row_edges::of_map(case, answer, &memory) {
             count(&mut self.row_edges, (edition, edge));
+        }
+    }
+
+    pub fn add_records(&mut self, case: &RecordCase) {
+        for step in &case.steps {
+            self.add_step(step, case.shift);
+        }
+    }
+
+    fn add_step(&mut self, step: &RecordStep, shift: usize) {
+        let mut second = Second(Rules::PLAIN);
+        let edition = edition_of(&step.module);
+        let edges = match &step.call {
+            RecordCall::Full(room) => {
+                let mut memory = step.full_memory(room, shift);
+                let answer = second.check_recording(&mut memory);
+                count(&mut self.recordings, (edition, answer));
+                record_edges::of_full(step, answer, &memory)
+            }
+            RecordCall::Body(body) => {
+                let mut memory = step.body_memory(shift);
+                let answer = second.check_body(*body, &mut memory);
+                count(&mut self.bodies, (edition, answer));
+                let otherwise = step.otherwise(answer, &memory, &mut second);
+                self.unkept += u64::from(step.promised && otherwise.is_some());
+                record_edges::of_body(step, *body, answer, &memory, otherwise.is_some())
+            }
+        };
+        for edge in edges {
+            count(&mut self.record_edges, (edition, edge));
         }
     }
 

@@ -1,11 +1,12 @@
-//! The desk's commands: a formula line written as a module, the run of a function, and the
-//! conversion of a module.
+//! The desk's commands: a formula line written as a module, the run of a function, the
+//! conversion of a module, and the checks that keep a record beside a module.
 
 use crate::check::{check, Checked, RECORD};
 use crate::conversion::converted;
 use crate::formula::{module, place};
 use crate::opcode::Edition;
-use crate::reader::MAX_LABELS;
+use crate::reader::{ENTRY, MAX_FUNCTIONS, MAX_LABELS};
+use crate::recording::{check_body, check_recording, length};
 use crate::rules::Rules;
 use crate::show::{ran, MOST_READ};
 use crate::types::INT;
@@ -19,6 +20,14 @@ pub enum Left {
     Refused(String),
     /// Status 2, and some line on standard error.
     Usage,
+    /// Status 3, and some line on standard error: a file is not there.
+    Missing,
+}
+
+/// What a check that keeps a record leaves; the record is kept with 0 and with 11.
+pub struct Kept {
+    pub left: Left,
+    pub record: Option<Vec<u8>>,
 }
 
 /// `formula LINE`: the module; or the number and, for 41, the place.
@@ -55,6 +64,45 @@ pub fn convert(rules: Rules, to: Edition, input: &[u8]) -> Left {
     match converted(rules, to, &input[..input.len().min(MOST_READ)]) {
         Ok(file) => Left::Printed(file),
         Err(number) => Left::Refused(format!("{number}\n")),
+    }
+}
+
+/// `check --record RECORD FILE`: the full check, in enough room.
+pub fn check_whole(rules: Rules, input: &[u8]) -> Kept {
+    let file = &input[..input.len().min(MOST_READ)];
+    let mut room = vec![0; RECORD * MAX_LABELS as usize];
+    let mut record = vec![0; length(MAX_FUNCTIONS)];
+    let (mut body, mut written) = (0, 0);
+    let number = check_recording(rules, file, &mut room, &mut record, &mut body, &mut written);
+    let count = u32::from_le_bytes([record[0], record[1], record[2], record[3]]);
+    record.truncate(length(count.saturating_sub(1)));
+    kept(number, body, record)
+}
+
+/// `check --body N --record RECORD FILE`.
+pub fn check_one(rules: Rules, input: &[u8], body: u32, record: &[u8]) -> Kept {
+    let file = &input[..input.len().min(MOST_READ)];
+    let mut record = record.to_vec();
+    let mut first = 0;
+    let number = check_body(rules, file, body, &mut record, &mut first);
+    kept(number, first, record)
+}
+
+fn kept(number: u32, body: u32, record: Vec<u8>) -> Kept {
+    let left = match number {
+        0 => Left::Printed(b"0\n".to_vec()),
+        11 => Left::Refused(format!("11 {body}\n")),
+        _ => Left::Refused(format!("{number}\n")),
+    };
+    let record = matches!(number, 0 | 11).then_some(record);
+    Kept { left, record }
+}
+
+/// A body by its number, or `entry`.
+pub fn body(word: &str) -> Option<u32> {
+    match word {
+        "entry" => Some(ENTRY),
+        _ => decimal(word),
     }
 }
 

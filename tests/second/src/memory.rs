@@ -128,3 +128,21 @@ pub struct MapMemory {
     pub blocks: Lent,
     pub rows: u64,
 }
+
+/// Everything lent to a full check that writes a record, and its out-parameters.
+#[derive(Clone, Debug, PartialEq, Eq)]
+pub struct RecordingMemory {
+    pub module: Lent,
+    pub room: Lent,
+    pub record: Lent,
+    pub body: u32,
+    pub written: u64,
+}
+
+/// Everything lent to a check of one body, and its out-parameter.
+#[derive(Clone, Debug, PartialEq, Eq)]
+pub struct BodyMemory {
+    pub module: Lent,
+    pub record: Lent,
+    pub first: u32,
+}

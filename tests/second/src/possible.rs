@@ -264,6 +264,74 @@ pub fn row_edges(edition: Edition) -> Vec<&'static str> {
     edges
 }
 
+/// The answers of a full check that writes a record, and of a check of a body.
+pub const RECORDING_ANSWERS: [u32; 13] = [0, 1, 2, 3, 4, 5, 6, 7, 8, 9, 10, 11, 16];
+pub const BODY_ANSWERS: [u32; 13] = [0, 1, 2, 3, 4, 5, 6, 7, 8, 9, 11, 12, 45];
+
+/// What checks with records must reach in every edition, by name, as in `record_edges`; each clause
+/// of 45 where no other holds.
+pub const RECORD_EDGES: [&str; 47] = [
+    "10 and a record too short",
+    "16 by one byte, else 0",
+    "16 by one byte, else 11",
+    "16 by no record",
+    "0, record exact",
+    "0, record longer",
+    "11, record exact",
+    "11, record longer",
+    "11, bodies with a typing behind the first without",
+    "11, another without a typing behind the first",
+    "11 with label records",
+    "0 with label records",
+    "128 functions recorded",
+    "the reader's refusal and a bad record",
+    "12 and a bad record",
+    "12 and a good record",
+    "12 by the count of functions",
+    "45 by the count",
+    "45 by the count's upper bytes",
+    "45 by the offset",
+    "45 by the offset's upper bytes",
+    "45 by a byte more",
+    "45 by a byte less",
+    "45 by no record",
+    "45 by the entry's byte",
+    "45 by the last body's byte",
+    "45 by the named body's byte",
+    "45 by another body's byte",
+    "45 by a byte of 2",
+    "45 by a byte of 255",
+    "entry named",
+    "first function named",
+    "last function named",
+    "only the entry there",
+    "a byte from 0 to 1",
+    "a byte from 1 to 0",
+    "a byte that stays 0",
+    "a byte that stays 1",
+    "11 for the named body",
+    "11 for a body before it",
+    "11 for a body behind it",
+    "11 where the named body has a typing",
+    "0 after an edit, kept",
+    "11 after an edit, kept",
+    "constants changed, kept",
+    "a wrong record, 0 instead of 11",
+    "a wrong record, 11 instead of 0",
+];
+
+/// What profiles add in edition 4.
+pub const PROFILE_RECORD_EDGES: [&str; 1] = ["profiles changed, kept"];
+
+/// All edges of records in an edition.
+pub fn record_edges(edition: Edition) -> Vec<&'static str> {
+    let mut edges = RECORD_EDGES.to_vec();
+    if edition.has_profiles() {
+        edges.extend(PROFILE_RECORD_EDGES);
+    }
+    edges
+}
+
 /// Can this answer be given where this is the edition word? (Those of words that are no edition
 /// are counted as edition 3's.)
 pub fn answer_of(edition: Edition, number: u32) -> bool {

@@ -321,6 +321,47 @@ pub enum Fault {
     HeapKept,
     RefusedRowClears,
     NoRowsClear,
+    RecordShortFirst,
+    RecordShortBeforeRoom,
+    RecordShortKept,
+    RecordShortCut,
+    RecordShortWritesRoom,
+    RecordShortWritesRecord,
+    RecordLongRefused,
+    RecordRoomKept,
+    RecordWithZeroOnly,
+    RecordZerosAfterFirst,
+    RecordKeptAfterFirst,
+    RecordLengthWithEleven,
+    RecordLengthLent,
+    RecordRestCleared,
+    RecordWithoutEntry,
+    RecordOffsetZero,
+    RecordEntryLast,
+    BodyRecordFirst,
+    BodyRecordBeforeName,
+    EntryIsZero,
+    EntryUnnamed,
+    PastIsEntry,
+    CountUnlooked,
+    CountLowByte,
+    OffsetUnlooked,
+    OffsetLowByte,
+    LongerRecordTaken,
+    OverOneTaken,
+    ByteTwoTaken,
+    LastByteUnlooked,
+    NamedByteUnlooked,
+    BadRecordSet,
+    OldOneBelieved,
+    OldZeroBelieved,
+    NamedByteKept,
+    OthersJudged,
+    FirstBeforeUpdate,
+    LastZeroNamed,
+    NamedFirst,
+    NamedOnly,
+    FirstByPlace,
 }
 
 /// The wrong variants of reader, check and run, each with its name and what is wrong.
@@ -1859,6 +1900,211 @@ pub const ROW_FAULTS: [(Fault, &str, &str); 26] = [
     ),
 ];
 
+/// The wrong variants of records: the full check that writes one, then the check of a body.
+pub const RECORD_FAULTS: [(Fault, &str, &str); 41] = [
+    (
+        Fault::RecordShortFirst,
+        "record-16-first",
+        "a record under 9 bytes is 16 before the reader's refusals",
+    ),
+    (
+        Fault::RecordShortBeforeRoom,
+        "16-before-10",
+        "record too short before room too short",
+    ),
+    (
+        Fault::RecordShortKept,
+        "16-after-11",
+        "11 where the record is too short, which stays",
+    ),
+    (
+        Fault::RecordShortCut,
+        "11-cuts-record",
+        "11 where the record is too short, which is written as far as it goes",
+    ),
+    (
+        Fault::RecordShortWritesRoom,
+        "16-writes-room",
+        "16 leaves the room as the check does",
+    ),
+    (
+        Fault::RecordShortWritesRecord,
+        "16-writes-record",
+        "16 writes the record as far as it goes",
+    ),
+    (
+        Fault::RecordLongRefused,
+        "longer-record-16",
+        "a record longer than needed is 16",
+    ),
+    (
+        Fault::RecordRoomKept,
+        "recording-keeps-room",
+        "no label records with the record",
+    ),
+    (
+        Fault::RecordWithZeroOnly,
+        "record-with-0-only",
+        "the record is written with 0 only",
+    ),
+    (
+        Fault::RecordZerosAfterFirst,
+        "zeros-after-first",
+        "bodies behind the first without typing are 0",
+    ),
+    (
+        Fault::RecordKeptAfterFirst,
+        "kept-after-first",
+        "bytes behind the first body without typing stay",
+    ),
+    (
+        Fault::RecordLengthWithEleven,
+        "length-with-11",
+        "the length is given with 11 too",
+    ),
+    (
+        Fault::RecordLengthLent,
+        "length-of-record",
+        "the lent record's length is given",
+    ),
+    (
+        Fault::RecordRestCleared,
+        "record-rest-cleared",
+        "what is lent past the record is cleared",
+    ),
+    (
+        Fault::RecordWithoutEntry,
+        "count-without-entry",
+        "the count is that of functions",
+    ),
+    (
+        Fault::RecordOffsetZero,
+        "offset-0",
+        "the offset counts from itself",
+    ),
+    (
+        Fault::RecordEntryLast,
+        "entry-last",
+        "the entry's byte is the last",
+    ),
+    (
+        Fault::BodyRecordFirst,
+        "45-first",
+        "a record under 9 bytes is 45 before the reader's refusals",
+    ),
+    (
+        Fault::BodyRecordBeforeName,
+        "45-before-12",
+        "a bad record before no such body",
+    ),
+    (
+        Fault::EntryIsZero,
+        "entry-is-0",
+        "body 0 is the entry, 1 function 0",
+    ),
+    (
+        Fault::EntryUnnamed,
+        "entry-is-12",
+        "the entry can't be named",
+    ),
+    (
+        Fault::PastIsEntry,
+        "past-is-entry",
+        "a number past the functions names the entry",
+    ),
+    (
+        Fault::CountUnlooked,
+        "count-unlooked",
+        "a record of another count is taken",
+    ),
+    (
+        Fault::CountLowByte,
+        "count-low-byte",
+        "the count's low byte alone is looked at",
+    ),
+    (
+        Fault::OffsetUnlooked,
+        "offset-unlooked",
+        "a record of another offset is taken",
+    ),
+    (
+        Fault::OffsetLowByte,
+        "offset-low-byte",
+        "the offset's low byte alone is looked at",
+    ),
+    (
+        Fault::LongerRecordTaken,
+        "longer-record-taken",
+        "a longer record is taken",
+    ),
+    (
+        Fault::OverOneTaken,
+        "over-1-taken",
+        "bytes over 1 are taken as 1",
+    ),
+    (Fault::ByteTwoTaken, "byte-2-taken", "bytes over 2 are 45"),
+    (
+        Fault::LastByteUnlooked,
+        "last-byte-unlooked",
+        "the last body's byte may be over 1",
+    ),
+    (
+        Fault::NamedByteUnlooked,
+        "named-byte-unlooked",
+        "the named body's byte may be over 1",
+    ),
+    (
+        Fault::BadRecordSet,
+        "45-sets-byte",
+        "the byte is set before a byte over 1 is seen",
+    ),
+    (
+        Fault::OldOneBelieved,
+        "old-1-believed",
+        "a body whose byte is 1 is not judged",
+    ),
+    (
+        Fault::OldZeroBelieved,
+        "old-0-believed",
+        "a body whose byte is 0 is not judged",
+    ),
+    (
+        Fault::NamedByteKept,
+        "named-byte-kept",
+        "the named body's byte stays",
+    ),
+    (
+        Fault::OthersJudged,
+        "others-judged",
+        "all bodies' bytes are set",
+    ),
+    (
+        Fault::FirstBeforeUpdate,
+        "first-before-update",
+        "the first 0 before the update is told",
+    ),
+    (
+        Fault::LastZeroNamed,
+        "last-0-named",
+        "the last body whose byte is 0 is told",
+    ),
+    (
+        Fault::NamedFirst,
+        "named-first",
+        "the named body is told where it has no typing",
+    ),
+    (
+        Fault::NamedOnly,
+        "named-only",
+        "0 where the named body has a typing",
+    ),
+    (
+        Fault::FirstByPlace,
+        "first-by-place",
+        "the first body is told by its place in the record",
+    ),
+];
+
 /// Which rules hold: the paper's, or the paper's with one fault.
 #[derive(Clone, Copy, Debug, PartialEq, Eq)]
 pub struct Rules {
@@ -1884,6 +2130,7 @@ impl Rules {
             .chain(&CONVERSION_FAULTS)
             .chain(&FORMULA_FAULTS)
             .chain(&ROW_FAULTS)
+            .chain(&RECORD_FAULTS)
             .find(|(_, n, _)| *n == name)
             .map(|&(fault, _, _)| Rules::with(fault))
     }

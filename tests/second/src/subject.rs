@@ -7,9 +7,11 @@ use crate::heap::LentHeap;
 use crate::machine::{Unwatched, Watch};
 use crate::map::{map, MapCall};
 use crate::memory::{
-    CheckMemory, ConvertMemory, FormulaMemory, MapMemory, RunMemory, Start, WriteMemory,
+    BodyMemory, CheckMemory, ConvertMemory, FormulaMemory, MapMemory, RecordingMemory, RunMemory,
+    Start, WriteMemory,
 };
 use crate::opcode::Edition;
+use crate::recording::{check_body, check_recording};
 use crate::rules::Rules;
 use crate::run::{run_watched, Call, LentStack, Ran};
 use crate::writer::{write, Tables};
@@ -32,6 +34,13 @@ pub trait Subject {
 
     /// A run on each row: the paper's number; `rows` is written with every answer.
     fn map(&mut self, start: Start, memory: &mut MapMemory) -> u32;
+
+    /// A full check that writes a record: the paper's number; `body` is written with 11 only,
+    /// `written` with 0 only.
+    fn check_recording(&mut self, memory: &mut RecordingMemory) -> u32;
+
+    /// A check of one body: the paper's number; `first` is written with 11 only.
+    fn check_body(&mut self, body: u32, memory: &mut BodyMemory) -> u32;
 }
 
 /// The second program with these rules.
@@ -87,6 +96,22 @@ impl Subject for Second {
         };
         let (file, out) = (memory.module.slice(), memory.out.slice_mut());
         map(self.0, file, call, out, stack, heap, &mut memory.rows)
+    }
+
+    fn check_recording(&mut self, memory: &mut RecordingMemory) -> u32 {
+        check_recording(
+            self.0,
+            memory.module.slice(),
+            memory.room.slice_mut(),
+            memory.record.slice_mut(),
+            &mut memory.body,
+            &mut memory.written,
+        )
+    }
+
+    fn check_body(&mut self, body: u32, memory: &mut BodyMemory) -> u32 {
+        let (file, record) = (memory.module.slice(), memory.record.slice_mut());
+        check_body(self.0, file, body, record, &mut memory.first)
     }
 }
 

@@ -2,7 +2,7 @@
 //! past a lent slice, an out-parameter written that must stay, an input changed, a crash.
 
 /// The names that `STANDIN_FAULT` knows besides those of the wrong variants.
-pub const NAMES: [&str; 16] = [
+pub const NAMES: [&str; 21] = [
     "misuse-past-room",
     "misuse-before-types",
     "misuse-body-written",
@@ -19,6 +19,11 @@ pub const NAMES: [&str; 16] = [
     "misuse-past-payloads",
     "misuse-rows-written",
     "misuse-arguments-changed",
+    "misuse-past-record",
+    "misuse-before-record",
+    "misuse-first-written",
+    "misuse-body-changes-module",
+    "misuse-body-crash",
 ];
 
 /// # Safety
@@ -157,6 +162,39 @@ pub unsafe fn after_map(
         "misuse-arguments-changed" if arguments_len > 0 && out_len > 0 => *arguments ^= 1,
         "misuse-module-changed" if module_len > 0 && out_len > 0 => *module ^= 1,
         "misuse-crash" if out_len > 200 => std::process::abort(),
+        _ => {}
+    }
+}
+
+/// # Safety
+/// As for the full check that writes a record; and there are bytes around the slices.
+pub unsafe fn after_recording(
+    fault: &str,
+    (record, record_len): (*mut u8, usize),
+    written: *mut u64,
+) {
+    match fault {
+        "misuse-past-record" if record_len > 0 => *record.add(record_len) = 0,
+        "misuse-before-record" if record_len > 0 => *record.sub(1) = 0,
+        "misuse-length-written" => *written = record_len as u64,
+        _ => {}
+    }
+}
+
+/// # Safety
+/// As for the check of a body; and there are bytes around the slices.
+pub unsafe fn after_body(
+    fault: &str,
+    (module, module_len): (*mut u8, usize),
+    (record, record_len): (*mut u8, usize),
+    (number, first): (u32, *mut u32),
+) {
+    match fault {
+        "misuse-past-record" if record_len > 0 => *record.add(record_len) = 0,
+        "misuse-before-record" if record_len > 0 => *record.sub(1) = 0,
+        "misuse-first-written" if number == 0 => *first = 0,
+        "misuse-body-changes-module" if module_len > 0 && number == 11 => *module ^= 1,
+        "misuse-body-crash" if record_len > 100 => std::process::abort(),
         _ => {}
     }
 }

@@ -1,13 +1,14 @@
 //! Compares the desk's commands of a program with the second program's: `formula LINE` on the
 //! samples and on generated lines, `run [--profile N] FILE FUNCTION [INT...]` on the samples, on
 //! the modules that come of lines, and on generated ones, `convert 4` and `convert 3` on the
-//! samples and on generated modules; and what is said to bad usage.
+//! samples and on generated modules, `check [--body N] --record RECORD FILE` on these too, with the
+//! record that is kept; and what is said to bad usage.
 //!
 //! `commands <executable> <samples> [--seed N] [--seconds N | --cases N] [--from N] [--most N]`
 
 use second::args;
 use second::conversion::TARGETS;
-use second::desk::{self, Left};
+use second::desk::{self, Kept, Left};
 use second::formula;
 use second::gen::case::Case;
 use second::gen::conversions::ConvertCase;
@@ -49,6 +50,7 @@ fn main() {
     let files = desk.samples(Path::new(samples));
     let cases = desk.generated();
     let _ = std::fs::remove_file(&desk.scratch);
+    let _ = std::fs::remove_file(desk.record());
     println!(
         "commands: {files} samples, {cases} cases, {} calls, {} differences",
         desk.calls, desk.differences
@@ -119,6 +121,110 @@ impl Desk {
         ] {
             self.compare("usage", &words, &Left::Usage);
         }
+        self.check_usage(&file);
+    }
+
+    /// Bad usage of `check`, and files that are not there.
+    fn check_usage(&mut self, file: &OsString) {
+        let record = self.record();
+        let with = |words: &[&str]| -> Vec<OsString> {
+            let words = words.iter().map(|word| match *word {
+                "FILE" => file.clone(),
+                "RECORD" => record.clone().into(),
+                _ => OsString::from(word),
+            });
+            std::iter::once("check".into()).chain(words).collect()
+        };
+        for words in [
+            with(&[]),
+            with(&["FILE"]),
+            with(&["--record", "FILE"]),
+            with(&["--body", "0", "FILE"]),
+            with(&["--body", "0", "--record", "FILE"]),
+            with(&["--record", "RECORD", "FILE", "FILE"]),
+            with(&["--recorded", "RECORD", "FILE"]),
+        ] {
+            self.compare("usage", &words, &Left::Usage);
+        }
+        let _ = std::fs::remove_file(&record);
+        for words in [
+            with(&["--record", "RECORD", "no such file"]),
+            with(&["--body", "0", "--record", "RECORD", "FILE"]),
+        ] {
+            self.compare("a file that is not there", &words, &Left::Missing);
+        }
+        std::fs::write(&record, [0; 9]).expect("a file for the record");
+        for body in ["x", "", "-1", "4294967296", "entries"] {
+            let words = with(&["--body", body, "--record", "RECORD", "FILE"]);
+            self.compare("usage", &words, &Left::Usage);
+        }
+    }
+
+    /// The file for records.
+    fn record(&self) -> PathBuf {
+        self.scratch.with_extension("rec")
+    }
+
+    /// A full check that keeps a record; then a check of the entry beside the record with its last
+    /// byte turned.
+    fn checks(&mut self, place: &str, path: &Path, file: &[u8]) -> Option<Vec<u8>> {
+        let _ = std::fs::remove_file(self.record());
+        let words = [
+            "check".into(),
+            "--record".into(),
+            self.record().into(),
+            path.into(),
+        ];
+        let whole = desk::check_whole(Rules::PLAIN, file);
+        self.compare_kept(place, &words, &whole, None);
+        let record = whole.record?;
+        self.check_beside(place, path, file, ("entry", ENTRY), &turned(&record));
+        Some(record)
+    }
+
+    /// Checks of the entry, of the first function and of one that is not there, each beside the
+    /// record as it is, with its last byte turned, and cut short.
+    fn bodies(&mut self, place: &str, path: &Path, file: &[u8], record: &[u8]) {
+        let short = &record[..record.len() - 1];
+        for beside in [record, &turned(record), short] {
+            for body in [("entry", ENTRY), ("0", 0), ("200", 200)] {
+                self.check_beside(place, path, file, body, beside);
+            }
+        }
+    }
+
+    fn check_beside(
+        &mut self,
+        place: &str,
+        path: &Path,
+        file: &[u8],
+        body: (&str, u32),
+        beside: &[u8],
+    ) {
+        std::fs::write(self.record(), beside).expect("a file for the record");
+        let mut words: Vec<OsString> = ["check", "--body", body.0, "--record"]
+            .map(Into::into)
+            .into();
+        words.extend([self.record().into(), path.into()]);
+        let one = desk::check_one(Rules::PLAIN, file, body.1, beside);
+        self.compare_kept(place, &words, &one, Some(beside));
+    }
+
+    /// What is said, and the record after it: what is kept, or what was there.
+    fn compare_kept(
+        &mut self,
+        place: &str,
+        words: &[OsString],
+        kept: &Kept,
+        before: Option<&[u8]>,
+    ) {
+        self.compare(place, words, &kept.left);
+        let wanted = kept.record.as_deref().or(before);
+        let found = std::fs::read(self.record()).ok();
+        if found.as_deref() != wanted && self.differences < self.most {
+            self.differences += 1;
+            println!("DIFFERENCE at {place}: the record is {found:?}, not {wanted:?}");
+        }
     }
 
     /// More bytes than are read: what is past one more than the longest module does not count.
@@ -176,6 +282,7 @@ impl Desk {
                 }
                 self.profiles(path);
                 self.convert("sample", path, &file, other(&file));
+                self.checks("sample", path, &file);
                 self.runs(path);
             }
         }
@@ -280,6 +387,10 @@ impl Desk {
             .collect();
         let profile = (!rng.one_in(4)).then(|| named(&mut rng, own));
         self.run_of(place, &case.module, (profile, function), &ints);
+        let path = self.scratch.clone();
+        if let Some(record) = self.checks(place, &path, &case.module) {
+            self.bodies(place, &path, &case.module, &record);
+        }
     }
 
     fn run_of(&mut self, place: &str, file: &[u8], start: Start, ints: &[u32]) {
@@ -336,9 +447,10 @@ impl Desk {
             Left::Refused(line) => {
                 output.is_empty() && errors == line.as_bytes() && status == Some(1)
             }
-            Left::Usage => {
+            Left::Usage | Left::Missing => {
                 let line = errors.len() > 1 && errors.ends_with(b"\n");
-                output.is_empty() && line && status == Some(2)
+                let number = if *wanted == Left::Usage { 2 } else { 3 };
+                output.is_empty() && line && status == Some(number)
             }
         };
         if same {
@@ -380,6 +492,7 @@ fn shown(left: &Left) -> String {
         Left::Printed(bytes) => format!("output {}", shortened(bytes)),
         Left::Refused(line) => format!("status 1, errors {}", shortened(line.as_bytes())),
         Left::Usage => "status 2 and a line on standard error".to_string(),
+        Left::Missing => "status 3 and a line on standard error".to_string(),
     }
 }
 
@@ -431,4 +544,13 @@ fn called(
             (None, Vec::new(), Vec::new())
         }
     }
+}
+
+/// A record with its last byte turned.
+fn turned(record: &[u8]) -> Vec<u8> {
+    let mut record = record.to_vec();
+    if let Some(byte) = record.last_mut() {
+        *byte ^= 1;
+    }
+    record
 }

@@ -8,26 +8,61 @@ use second::coverage::Coverage;
 use second::gen::case::Case;
 use second::gen::conversions::ConvertCase;
 use second::gen::lines::LineCase;
+use second::gen::records::RecordCase;
 use second::gen::rows::MapCase;
 use second::gen::tables::WriteCase;
 use second::opcode::{Edition, EDITIONS};
 use second::possible::{
     answer_of, at_range_edges, conversion_answers, exceptions, executions, map_answers, reasons,
-    row_edges, row_numbers, CHECK_ANSWERS, CONVERSION_EDGES, FORMULA_ANSWERS, HEAP_EDGES,
-    LINE_EDGES, MANAGED_EDGES, PROFILE_EDGES, ROW_PLACES, RUN_ANSWERS, WRITE_ANSWERS,
+    record_edges, row_edges, row_numbers, BODY_ANSWERS, CHECK_ANSWERS, CONVERSION_EDGES,
+    FORMULA_ANSWERS, HEAP_EDGES, LINE_EDGES, MANAGED_EDGES, PROFILE_EDGES, RECORDING_ANSWERS,
+    ROW_PLACES, RUN_ANSWERS, WRITE_ANSWERS,
 };
 use std::collections::BTreeMap;
 
 /// Conversions have fewer edges: one for so many cases is enough.
 const CONVERSIONS: u64 = 6;
 
-/// And one call on rows, which is many runs, for so many.
+/// And one call on rows, which is many runs, or one chain of edits, for so many.
 const MAPS: u64 = 4;
 
 fn main() {
     args::expect(&["--seed", "--cases", "--full"]);
     let seed = args::number("--seed", 1);
     let cases = args::number("--cases", 60_000);
+    let coverage = gathered(seed, cases);
+    println!("coverage of {cases} cases from seed {seed}");
+    let full = args::has("--full");
+    let mut missing = kinds(&coverage) + lines(&coverage) + answers(&coverage);
+    for edition in EDITIONS {
+        missing += answers_of(&coverage, edition)
+            + executed(&coverage, edition, full)
+            + raised(&coverage, edition, full)
+            + at_edges(&coverage, edition, full)
+            + refused(&coverage, edition, full)
+            + converted(&coverage, edition)
+            + mapped(&coverage, edition)
+            + recorded(&coverage, edition);
+    }
+    println!(
+        "runs of accepted modules that break demand 3: {}",
+        coverage.broken
+    );
+    println!(
+        "formula lines that come out otherwise: {}",
+        coverage.misread
+    );
+    println!("conversions that come out otherwise: {}", coverage.unlike);
+    let unkept = coverage.unkept;
+    println!("checks of a body that are not the full check's: {unkept}");
+    println!("possible but not reached: {missing}");
+    if missing + coverage.broken + coverage.misread + coverage.unlike + unkept > 0 {
+        std::process::exit(1);
+    }
+}
+
+/// What all generated cases reach.
+fn gathered(seed: u64, cases: u64) -> Coverage {
     let mut coverage = Coverage::default();
     for number in 0..cases {
         coverage.add(&Case::new(seed, number));
@@ -39,32 +74,9 @@ fn main() {
     }
     for number in 0..cases / MAPS {
         coverage.add_map(&MapCase::new(seed, number));
+        coverage.add_records(&RecordCase::new(seed, number));
     }
-    println!("coverage of {cases} cases from seed {seed}");
-    let full = args::has("--full");
-    let mut missing = kinds(&coverage) + lines(&coverage) + answers(&coverage);
-    for edition in EDITIONS {
-        missing += answers_of(&coverage, edition)
-            + executed(&coverage, edition, full)
-            + raised(&coverage, edition, full)
-            + at_edges(&coverage, edition, full)
-            + refused(&coverage, edition, full)
-            + converted(&coverage, edition)
-            + mapped(&coverage, edition);
-    }
-    println!(
-        "runs of accepted modules that break demand 3: {}",
-        coverage.broken
-    );
-    println!(
-        "formula lines that come out otherwise: {}",
-        coverage.misread
-    );
-    println!("conversions that come out otherwise: {}", coverage.unlike);
-    println!("possible but not reached: {missing}");
-    if missing + coverage.broken + coverage.misread + coverage.unlike > 0 {
-        std::process::exit(1);
-    }
+    coverage
 }
 
 /// Well-typed programs must all be accepted; what is not counts as missing.
@@ -150,6 +162,32 @@ fn converted(coverage: &Coverage, edition: Edition) -> u64 {
         missing += row(&title, counted);
     }
     missing
+}
+
+/// The answers of both checks with records, and their edges.
+fn recorded(coverage: &Coverage, edition: Edition) -> u64 {
+    let word = edition.word();
+    let counted = |numbers: &[u32], counts: &BTreeMap<(Edition, u32), u64>| {
+        let numbers = numbers.iter().filter(|&&n| answer_of(edition, n));
+        let counts = numbers.map(|&n| {
+            let count = counts.get(&(edition, n)).copied();
+            (n.to_string(), count.unwrap_or(0))
+        });
+        counts.collect::<Vec<_>>().into_iter()
+    };
+    let full = counted(&RECORDING_ANSWERS, &coverage.recordings);
+    let bodies = counted(&BODY_ANSWERS, &coverage.bodies);
+    let edges = record_edges(edition).into_iter().map(|edge| {
+        let count = coverage.record_edges.get(&(edition, edge)).copied();
+        (edge.to_string(), count.unwrap_or(0))
+    });
+    row(
+        &format!("answers of checks with a record, edition {word}:"),
+        full,
+    ) + row(
+        &format!("answers of checks of a body, edition {word}:"),
+        bodies,
+    ) + row(&format!("edges of records, edition {word}:"), edges)
 }
 
 /// The answers of calls on rows, the places of the rows that end them, and their edges.

@@ -1,22 +1,24 @@
 //! Tests the tests: every deliberately wrong variant of the second program must be found by
 //! comparing it with the plain one, on generated cases, or on generated tables for those of the
-//! writer, lines for those of the formula, modules to be converted for those of conversions, and
-//! rows for those of rows.
+//! writer, lines for those of the formula, modules to be converted for those of conversions, rows for
+//! those of rows, and chains of edits for those of records.
 //!
 //! `faults [--seed N] [--cases N] [--show]`: at most N cases for each variant.
 
 use second::args;
+use second::compare::records::compare_records;
 use second::compare::{
     compare, compare_conversions, compare_formulas, compare_maps, compare_writes,
 };
 use second::gen::case::Case;
 use second::gen::conversions::ConvertCase;
 use second::gen::lines::LineCase;
+use second::gen::records::RecordCase;
 use second::gen::rows::MapCase;
 use second::gen::tables::WriteCase;
 use second::rules::{
     Fault, Rules, CONVERSION_FAULTS, FAULTS, FORMULA_FAULTS, HEAP_FAULTS, MANAGED_FAULTS,
-    PROFILE_FAULTS, RANGE_FAULTS, ROW_FAULTS, WRITER_FAULTS,
+    PROFILE_FAULTS, RANGE_FAULTS, RECORD_FAULTS, ROW_FAULTS, WRITER_FAULTS,
 };
 use second::subject::Second;
 
@@ -69,12 +71,24 @@ fn main() {
         }
     });
     let written = WRITER_FAULTS.len() + FORMULA_FAULTS.len() + CONVERSION_FAULTS.len();
-    let all = variants.len() + written + ROW_FAULTS.len();
+    let all = variants.len() + written + ROW_FAULTS.len() + RECORD_FAULTS.len();
     let missed = missed + missed_writers + missed_formulas + missed_conversions + missed_rows;
+    let missed = missed + missed_records(seed, limit);
     println!("{all} wrong variants, {missed} missed");
     if missed > 0 {
         std::process::exit(1);
     }
+}
+
+/// How many wrong variants of records are not found.
+fn missed_records(seed: u64, limit: u64) -> usize {
+    search(&RECORD_FAULTS, limit, |number| {
+        let case = RecordCase::new(seed, number);
+        move |wrong: &mut Second| {
+            let difference = compare_records(&case, &mut Second(Rules::PLAIN), wrong);
+            difference.map(|text| (number + 1, case.kind, text))
+        }
+    })
 }
 
 /// Compares each variant on cases up to the first that tells it, and prints a line for each;

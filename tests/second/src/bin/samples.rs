@@ -79,7 +79,7 @@ fn wanted() -> BTreeMap<String, Vec<u8>> {
                 put(MODULE, file);
             }
             Left::Refused(line) => put("refused", line.into_bytes()),
-            Left::Usage => {}
+            Left::Usage | Left::Missing => {}
         }
     }
     files.insert("README.md".to_string(), readme().into_bytes());

@@ -1,7 +1,8 @@
 //! Shows a generated case, generated tables, a generated formula line, a generated conversion, a
-//! generated call on rows, or a module or a line that is given, and the second program's answers.
+//! generated call on rows, generated checks with a record, or a module or a line that is given, and the
+//! second program's answers.
 //!
-//! `show [--seed N] --case N`, `--write N`, `--formula N`, `--conversion N` or `--rows N`,
+//! `show [--seed N] --case N`, `--write N`, `--formula N`, `--conversion N`, `--rows N` or `--records N`,
 //! `show --module HEX`, `show --line LINE`
 
 use second::args;
@@ -12,6 +13,7 @@ use second::formula::split;
 use second::gen::case::Case;
 use second::gen::conversions::ConvertCase;
 use second::gen::lines::LineCase;
+use second::gen::records::{RecordCall, RecordCase, RecordStep};
 use second::gen::rows::MapCase;
 use second::gen::tables::WriteCase;
 use second::hex;
@@ -28,6 +30,7 @@ fn main() {
         "--formula",
         "--conversion",
         "--rows",
+        "--records",
         "--module",
         "--line",
     ]);
@@ -44,19 +47,22 @@ fn main() {
         return;
     }
     let seed = args::number("--seed", 1);
-    if args::value("--write").is_some() {
-        return show_write(seed, args::number("--write", 0));
+    let others: [(&str, fn(u64, u64)); 5] = [
+        ("--write", show_write),
+        ("--formula", show_formula),
+        ("--conversion", show_conversion),
+        ("--rows", show_rows),
+        ("--records", show_records),
+    ];
+    for (name, show) in others {
+        if args::value(name).is_some() {
+            return show(seed, args::number(name, 0));
+        }
     }
-    if args::value("--formula").is_some() {
-        return show_formula(seed, args::number("--formula", 0));
-    }
-    if args::value("--conversion").is_some() {
-        return show_conversion(seed, args::number("--conversion", 0));
-    }
-    if args::value("--rows").is_some() {
-        return show_rows(seed, args::number("--rows", 0));
-    }
-    let number = args::number("--case", 0);
+    show_case(seed, args::number("--case", 0));
+}
+
+fn show_case(seed: u64, number: u64) {
     let case = Case::new(seed, number);
     println!("case {number} of seed {seed} ({})", case.kind);
     println!("module: {}", hex::encode(&case.module));
@@ -122,6 +128,35 @@ fn show_rows(seed: u64, number: u64) {
     println!("  payloads {}", hex::encode(memory.payloads.slice()));
     println!("  heap {}", hex::encode(memory.heap.slice()));
     println!("  blocks {}", hex::encode(memory.blocks.slice()));
+}
+
+fn show_records(seed: u64, number: u64) {
+    let case = RecordCase::new(seed, number);
+    println!("records {number} of seed {seed} ({})", case.kind);
+    for (n, step) in case.steps.iter().enumerate() {
+        println!("step {n}: {}", step.describe());
+        show_module(&step.module);
+        show_step(step, case.shift);
+    }
+}
+
+fn show_step(step: &RecordStep, shift: usize) {
+    let mut second = Second(Rules::PLAIN);
+    match &step.call {
+        RecordCall::Full(room) => {
+            let mut memory = step.full_memory(room, shift);
+            let answer = second.check_recording(&mut memory);
+            let (body, written) = (memory.body, memory.written);
+            println!("full check: {answer}, body {body:08X}, length {written}");
+            println!("  record {}", hex::encode(memory.record.slice()));
+        }
+        RecordCall::Body(body) => {
+            let mut memory = step.body_memory(shift);
+            let answer = second.check_body(*body, &mut memory);
+            println!("check of {body:08X}: {answer}, first {:08X}", memory.first);
+            println!("  record {}", hex::encode(memory.record.slice()));
+        }
+    }
 }
 
 fn show_line(line: &[u8], names: [u32; 3]) {

@@ -1,6 +1,7 @@
 //! The small program, of the second program: a module on standard input, its output on
 //! standard output. And the desk's commands: `small formula LINE`,
-//! `small run [--profile N] FILE FUNCTION [INT...]`, `small convert 4`, `small convert 3`.
+//! `small run [--profile N] FILE FUNCTION [INT...]`, `small convert 4`, `small convert 3`,
+//! `small check [--body N] --record RECORD FILE`.
 //!
 //! `--fault NAME` first: a wrong variant.
 
@@ -29,6 +30,7 @@ fn main() {
         },
         Some("run") => run(rules, &words[1..]).unwrap_or(Left::Usage),
         Some("convert") => convert(rules, &words[1..]).unwrap_or(Left::Usage),
+        Some("check") => check(rules, &words[1..]).unwrap_or(Left::Usage),
         _ => Left::Usage,
     };
     match left {
@@ -44,9 +46,13 @@ fn main() {
         }
         Left::Usage => {
             eprintln!(
-                "usage: small [formula LINE | run [--profile N] FILE FUNCTION [INT...] | convert 4 | convert 3]"
+                "usage: small [formula LINE | run [--profile N] FILE FUNCTION [INT...] | convert 4 | convert 3 | check [--body N] --record RECORD FILE]"
             );
             std::process::exit(2);
+        }
+        Left::Missing => {
+            eprintln!("small: no such file");
+            std::process::exit(3);
         }
     }
 }
@@ -67,6 +73,33 @@ fn convert(rules: Rules, words: &[OsString]) -> Option<Left> {
     };
     let to = desk::target(word.to_str()?)?;
     Some(desk::convert(rules, to, &input()))
+}
+
+fn check(rules: Rules, words: &[OsString]) -> Option<Left> {
+    let (body, words) = match words {
+        [option, word, rest @ ..] if option == "--body" => {
+            (Some(desk::body(word.to_str()?)?), rest)
+        }
+        _ => (None, words),
+    };
+    let [option, record, file] = words else {
+        return None;
+    };
+    if option != "--record" {
+        return None;
+    }
+    let Ok(input) = std::fs::read(file) else {
+        return Some(Left::Missing);
+    };
+    let kept = match (body, std::fs::read(record)) {
+        (None, _) => desk::check_whole(rules, &input),
+        (Some(_), Err(_)) => return Some(Left::Missing),
+        (Some(body), Ok(bytes)) => desk::check_one(rules, &input, body, &bytes),
+    };
+    if let Some(bytes) = kept.record {
+        std::fs::write(record, bytes).expect("the record can be written");
+    }
+    Some(kept.left)
 }
 
 fn run(rules: Rules, words: &[OsString]) -> Option<Left> {

@@ -205,7 +205,7 @@ fn random_bytes(rng: &mut Rng) -> Vec<u8> {
 }
 
 /// A room that is enough, or now and then not quite.
-fn room(rng: &mut Rng, module: &[u8]) -> Vec<u8> {
+pub(super) fn room(rng: &mut Rng, module: &[u8]) -> Vec<u8> {
     let labels = read(Rules::PLAIN, module).map_or(2, |m| m.labels as usize);
     let needed = RECORD * labels;
     let len = match rng.below(12) {

@@ -1,4 +1,4 @@
-//! Seeded generators of modules, calls, tables, formula lines, conversions and rows.
+//! Seeded generators of modules, calls, tables, formula lines, conversions, rows and records.
 
 pub mod body;
 pub mod calls;
@@ -6,6 +6,7 @@ pub mod case;
 pub mod constants;
 pub mod conversions;
 pub mod damage;
+pub mod edits;
 pub mod expression;
 pub mod flow;
 pub mod heap;
@@ -18,6 +19,7 @@ pub mod near;
 pub mod pointers;
 pub mod profiles;
 pub mod recipes;
+pub mod records;
 pub mod rng;
 pub mod rows;
 pub mod shapes;

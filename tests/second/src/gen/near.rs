@@ -98,7 +98,7 @@ fn remove(rng: &mut Rng, program: &mut Program) {
 }
 
 /// Keeps labels on their instructions after an insertion or a removal.
-fn move_labels(program: &mut Program, owner: u32, index: usize, by: isize) {
+pub(super) fn move_labels(program: &mut Program, owner: u32, index: usize, by: isize) {
     for mark in &mut program.labels {
         if mark.owner == owner && mark.index > index {
             mark.index = mark.index.saturating_add_signed(by);

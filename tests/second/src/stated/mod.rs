@@ -1,7 +1,7 @@
 //! Checks with their answers stated: module, room before, and what the paper says of number,
 //! body and the whole room afterwards. They are written out from the paper, not computed.
-//! `runs`, `writes`, `formulas`, `conversions` and `maps` have the same for runs, writes, formula
-//! lines, conversions and calls on rows.
+//! `runs`, `writes`, `formulas`, `conversions`, `maps` and `records` have the same for runs, writes,
+//! formula lines, conversions, calls on rows and checks with records.
 
 mod bodies;
 mod calls;
@@ -14,6 +14,7 @@ mod joins;
 mod labels;
 mod managed;
 pub mod maps;
+pub mod records;
 mod refusals;
 pub mod runs;
 pub mod structures;

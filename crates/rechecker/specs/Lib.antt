@@ -1,0 +1,2 @@
+-- What the check with a record and the check of one body promise.
+pub mod Flags

@@ -1,0 +1,1 @@
+// The record beside a module and the check of one body, and what is proved of them: all in specs/.
