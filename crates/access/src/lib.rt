@@ -1,4 +1,6 @@
 // Instructions over the lent heap, where the machine has none at hand. The shelf is lent in four words, as frames are.
+#![tactic(auto)]
+
 ghost use Rattle.std.specs.Prelude.{◌≡◌, false, ◌<◌};
 ghost use Rattle.rules.specs.ModuleFile.{structures_in, read, refusal};
 ghost use Rattle.rules.specs.Stack.{slots_of};

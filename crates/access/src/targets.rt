@@ -19,7 +19,7 @@ use state::Registers;
 pub(crate) const NULL: u64 = 0xffff_ffff_ffff_ffff;
 
 // A slot; a whole structure of so many fields, in the heap; a number of a type, in a cell; or the exception that the pointer raises.
-#[derive(Drop)]
+#[derive(Clone, Copy)]
 pub(crate) enum Aim {
     Slot(usize),
     Whole(usize),
@@ -28,14 +28,14 @@ pub(crate) enum Aim {
 }
 
 // Where a number stands.
-#[derive(Drop)]
+#[derive(Clone, Copy)]
 pub(crate) enum Spot {
     OnStack(usize),
     InHeap(usize),
 }
 
 // A number, where it stands and what it holds; or the exception that the pointer raises.
-#[derive(Drop)]
+#[derive(Clone, Copy)]
 pub(crate) enum Named {
     At(Spot, Slot),
     Nowhere(u32),

@@ -1,4 +1,6 @@
 // `add` to `sar` on two values, a function for each; a is the deeper operand.
+#![tactic(auto)]
+
 ghost use Rattle.std.specs.Prelude.{◌≡◌};
 ghost use Rattle.rules.specs.declared.Binary.TheVariants.{Arith};
 ghost use Rattle.rules.specs.declared.Operator.TheVariants.{Add, Sub, Mul, Imul, Div, Idiv, Mod, Imod, And, Or, Xor, Shl, Sal, Shr, Sar};

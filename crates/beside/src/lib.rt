@@ -1,4 +1,6 @@
 // The record beside a module: count and offset, then a byte for each body, the entry first.
+#![tactic(auto)]
+
 ghost use Rattle.std.specs.Prelude.{◌≡◌, ◌+◌, ◌-◌, ◌^◌, ◌≤◌, ◌<◌, length, set, ltb};
 ghost use Rattle.rules.specs.Bytes.{byte, some_below};
 ghost use Rattle.rules.specs.Tables.{body_of, body_number};

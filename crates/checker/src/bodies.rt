@@ -13,7 +13,7 @@ use format::Sections;
 use nodes::list::Waiting;
 
 // All bodies have a typing, or this one is the first that has none.
-#[derive(Drop)]
+#[derive(Clone, Copy)]
 pub(crate) enum Verdict {
     Typed,
     Untyped(usize),

@@ -1,4 +1,6 @@
 // The checker: whether every body of a module has a consistent typing, and what it gives at the labels.
+#![tactic(auto)]
+
 mod bodies;
 pub mod walk;
 

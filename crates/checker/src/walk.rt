@@ -15,7 +15,7 @@ use records::Transfer;
 const ENTRY: usize = 0xffff_ffff;
 
 // A walk is refused, ends at nodes, or goes on at a place.
-#[derive(Drop)]
+#[derive(Clone, Copy)]
 pub enum Turn {
     Breaks,
     Ends,

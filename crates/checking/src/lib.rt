@@ -1,4 +1,6 @@
 // The public call `check`, with its promise.
+#![tactic(auto)]
+
 ghost use Rattle.promises.specs.Promises.{CheckKeeps};
 
 use rules::CheckAnswer;

@@ -6,7 +6,7 @@ ghost use Rattle.tracks.specs.Walks.{mark_of, Arrived};
 ghost use Rattle.climb.specs.Waits.{Sizes, spread_to, FirstIs, LastIs, Bounded, Roomy, Narrowed, PickedIs};
 
 // The node to walk from next, or none waits.
-#[derive(Drop)]
+#[derive(Clone, Copy)]
 pub enum Picked {
     Node(usize),
     Nothing,

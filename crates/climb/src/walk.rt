@@ -19,7 +19,7 @@ use keys::Decoded;
 use reader::entries::{FoundFunction, FoundLabel};
 
 // A place, how many locals there are, where the operands begin, and the height; both counted from the frame's first slot.
-#[derive(Drop)]
+#[derive(Clone, Copy)]
 pub struct Spot {
     pub at: usize,
     pub locals: usize,
@@ -28,14 +28,14 @@ pub struct Spot {
 }
 
 // The walk ends, or goes on.
-#[derive(Drop)]
+#[derive(Clone, Copy)]
 pub enum Turn {
     Ends,
     Goes(Spot),
 }
 
 // How many slots a function takes and gives.
-#[derive(Drop)]
+#[derive(Clone, Copy)]
 pub struct Signature {
     pub params: usize,
     pub results: usize,

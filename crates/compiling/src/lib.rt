@@ -1,4 +1,6 @@
 // The public calls `formula` and `formula_stop`, with their promises.
+#![tactic(auto)]
+
 ghost use Rattle.rules.specs.Grammar.{StopsAt};
 ghost use Rattle.promises.specs.FormulaPromises.{FormulaKeeps};
 

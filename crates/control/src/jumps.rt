@@ -20,7 +20,7 @@ use values::Value;
 // ---- places
 
 // A label's place.
-#[derive(Drop)]
+#[derive(Clone, Copy)]
 enum FoundPlace {
     At(usize),
     Nothing,
@@ -61,7 +61,7 @@ pub fn jmp(file: &[u8], c: Sections, code: &[u8], r: Registers, f: &[u16]) -> Pr
 // ---- branches: the int that is tested leaves the stack, whether the branch is taken or not
 
 // The int on top and the place of the label, or the exception.
-#[derive(Drop)]
+#[derive(Clone, Copy)]
 enum Popped {
     Int(u32, usize),
     Refused(u32),

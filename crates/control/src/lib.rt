@@ -1,4 +1,6 @@
 // The instructions that move between places and frames: `jmp` and the conditional branches; `call`, `ret`, and the first frame.
+#![tactic(auto)]
+
 ghost use Rattle.std.specs.Prelude.{◌≡◌, ◌<◌};
 
 pub mod calls;

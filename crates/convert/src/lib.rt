@@ -1,5 +1,7 @@
 // The conversions of a module file between editions 3 and 4: other function records and another header; constants, labels, code
 // and entry stay.
+#![tactic(auto)]
+
 ghost use Rattle.std.specs.Prelude.{◌≡◌, true, false, ◌+◌, ◌*◌, ◌≤◌, length};
 ghost use Rattle.rules.specs.Bytes.{some_below};
 ghost use Rattle.rules.specs.Tables.{unknown_edition};

@@ -1,4 +1,6 @@
 // The public calls `to_edition_4` and `to_edition_3`, with their promises.
+#![tactic(auto)]
+
 ghost use Rattle.promises.specs.ConvertPromises.{UpKeeps, DownKeeps};
 
 use rules::WriteAnswer;

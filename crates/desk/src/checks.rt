@@ -10,7 +10,7 @@ use rules::{CheckAnswer, RecordingAnswer};
 const NO_TYPING: u32 = 11;
 
 // An answer's number, and how many bytes of the buffer its line has.
-#[derive(Drop)]
+#[derive(Clone, Copy)]
 pub struct Said {
     pub number: u32,
     pub text: usize,

@@ -114,7 +114,7 @@ pub fn report(input: &[u8], out: &mut [u8]) -> usize
 }
 
 // What a buffer holds: a module, for standard output, or a refusal, for standard error.
-#[derive(Drop)]
+#[derive(Clone, Copy)]
 pub enum Compiled {
     Module(usize),
     Refusal(usize),

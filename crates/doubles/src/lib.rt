@@ -1,4 +1,6 @@
 // Doubles: from patterns and back, their order, and conversions from and to whole numbers.
+#![tactic(auto)]
+
 ghost use Rattle.std.specs.Prelude.{◌≡◌, ◌-◌, ◌^◌, ◌≤◌, not, ◌||◌};
 ghost use Rattle.std.specs.Float.Ieee as Ieee;
 ghost use Rattle.rules.specs.Words.{order_of, neg_of};
@@ -72,7 +74,7 @@ pub fn tod_long(a: u64) -> f64
 }
 
 // A double cut toward zero: whether the whole number is in range, and its pattern, or the one with only the top bit set.
-#[derive(Drop)]
+#[derive(Clone, Copy)]
 pub struct Truncated {
     pub fits: bool,
     pub pattern: u64,

@@ -1,4 +1,6 @@
 // Formula lines, compiled to modules of one function.
+#![tactic(auto)]
+
 ghost use Rattle.std.specs.Prelude.{◌≡◌, ◌≤◌, length};
 ghost use Rattle.rules.specs.Writing.{file_of, delivered, wrote};
 ghost use Rattle.rules.specs.Formula.{formula};

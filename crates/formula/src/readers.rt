@@ -9,7 +9,7 @@ use crate::tokens::Follow;
 use crate::{emit, tokens};
 
 // The place in the line, the bytes of code and the constants written so far, and the most operands so far.
-#[derive(Drop)]
+#[derive(Clone, Copy)]
 pub struct Cursor {
     pub at: usize,
     pub code: usize,
@@ -18,7 +18,7 @@ pub struct Cursor {
 }
 
 // No part of the grammar within 16 brackets; or read up to here.
-#[derive(Drop)]
+#[derive(Clone, Copy)]
 pub enum Answer {
     Bad,
     Read(Cursor),

@@ -7,7 +7,7 @@ ghost use Rattle.formula.specs.Scans.{Legal, Moves, ScanIs};
 use crate::tokens::is_digit;
 
 // Where a line stops making sense, or how deep the brackets of one in the grammar go.
-#[derive(Drop)]
+#[derive(Clone, Copy)]
 pub enum Scan {
     Stops(usize),
     Deepest(usize),
@@ -15,7 +15,7 @@ pub enum Scan {
 
 // Where the pass stands: the factors that must come, 1 or 0; the value of the number so far; the brackets that are open, and the most that
 // were. The value is 0 where a factor must come, and `FULL` where no digit may follow.
-#[derive(Drop)]
+#[derive(Clone, Copy)]
 pub struct State {
     pub wanted: usize,
     pub value: u64,
@@ -27,7 +27,7 @@ pub struct State {
 const FULL: u64 = 4294967296;
 
 // One byte more: it can't stand there, or the pass goes on.
-#[derive(Drop)]
+#[derive(Clone, Copy)]
 pub enum Next {
     Refused,
     To(State),

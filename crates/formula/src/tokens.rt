@@ -4,21 +4,21 @@ ghost use Rattle.rules.specs.Reading.{is_digit};
 ghost use Rattle.formula.specs.Tokens.{Skipped, Grown, PastZeros, Counted, name_of, AfterMinuses, ProductFollow, SumFollow, CloseFollow};
 
 // Digits read: their value, and the place after them. A number over 4294967295 has any value over it.
-#[derive(Drop)]
+#[derive(Clone, Copy)]
 pub struct Numeral {
     pub value: u64,
     pub at: usize,
 }
 
 // Minuses read: how many, and the place after them and the spaces that follow.
-#[derive(Drop)]
+#[derive(Clone, Copy)]
 pub struct Minuses {
     pub count: usize,
     pub at: usize,
 }
 
 // The sign that goes on with a part: its opcode, and the place after it and the spaces that follow.
-#[derive(Drop)]
+#[derive(Clone, Copy)]
 pub enum Follow {
     Nothing,
     Sign(u8, usize),

@@ -1,1 +1,3 @@
 // The grammar of formula lines and what is proved of it: all in specs/.
+#![tactic(auto)]
+

@@ -1,4 +1,6 @@
 // Decoding: the key of the instruction at a place of the code, and the word behind it.
+#![tactic(auto)]
+
 pub mod edition1;
 
 ghost use Rattle.std.specs.Prelude.{◌≡◌, ◌+◌, ◌≤◌, length};
@@ -6,7 +8,7 @@ ghost use Rattle.rules.specs.Bytes.{word};
 ghost use Rattle.keys.specs.Keys.{decoded};
 
 // A decoded instruction: its key; or the end of its body.
-#[derive(Drop)]
+#[derive(Clone, Copy)]
 pub enum Decoded {
     Instruction(u8),
     End,

@@ -1,5 +1,7 @@
 // The public library: the check of any bytes, with a record of its bodies, or of one body beside such a record, the stack that a module needs, the run of any body of any bytes, the call of a function for rows, the writer of modules,
 // the conversions between editions 3 and 4, and the compiler of formula lines.
+#![tactic(auto)]
+
 ghost use Rattle.rules.specs.Tables.{tables};
 ghost use Rattle.promises.specs.Promises.{lent_of, lent_heap_of, CheckKeeps, RunKeeps};
 ghost use Rattle.rules.specs.Grammar.{StopsAt};

@@ -1,4 +1,6 @@
 // The run from any state.
+#![tactic(auto)]
+
 ghost use Rattle.std.specs.Prelude.{◌≡◌, ◌<◌, length};
 ghost use Rattle.rules.specs.ModuleFile.{read, refusal};
 ghost use Rattle.format.specs.Layout.{Packed};
@@ -24,7 +26,7 @@ pub fn left(number: u32) -> bool
 }
 
 // How a run ended: its number, the steps left of the allowance, and the registers then.
-#[derive(Drop)]
+#[derive(Clone, Copy)]
 pub struct Ended {
     pub number: u32,
     pub rest: u64,

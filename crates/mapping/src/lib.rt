@@ -1,4 +1,6 @@
 // The public call `map`, with its promise.
+#![tactic(auto)]
+
 ghost use Rattle.promises.specs.Promises.{lent_of, lent_heap_of};
 ghost use Rattle.promises.specs.MapPromises.{MapKeeps};
 

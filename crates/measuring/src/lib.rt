@@ -1,4 +1,6 @@
 // The public call `need`, with its promise.
+#![tactic(auto)]
+
 ghost use Rattle.promises.specs.NeedPromises.{NeedKeeps};
 
 use rules::NeedAnswer;

@@ -1,1 +1,3 @@
 // The stack that an accepted module needs: theorems, all in specs/.
+#![tactic(auto)]
+

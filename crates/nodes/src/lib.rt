@@ -1,4 +1,6 @@
 // Where walks start: the labelled places and the starts of bodies, with their records.
+#![tactic(auto)]
+
 pub mod finish;
 pub mod list;
 pub mod room;

@@ -5,7 +5,7 @@ ghost use Rattle.std.specs.Prelude.{◌≡◌, ◌<◌, ◌≤◌};
 ghost use Rattle.nodes.specs.Nodes.{Whole, count_of, done_of, appended, advanced, waiting_in};
 
 // The first node that waits for a walk, or none does.
-#[derive(Drop)]
+#[derive(Clone, Copy)]
 pub enum Waiting {
     Node(usize),
     Nothing,

@@ -14,7 +14,7 @@ use state::{Progress, Registers};
 use values::Value;
 
 // The two top operands as values of one type, or the exception that they raise.
-#[derive(Drop)]
+#[derive(Clone, Copy)]
 enum Operands {
     Alike(Value, Value),
     Refused(u32),

@@ -8,7 +8,7 @@ use state::{Progress, Registers};
 use values::{Computed, Value};
 
 // The slot that the pointer on top names and the value in it, or the exception that it raises.
-#[derive(Drop)]
+#[derive(Clone, Copy)]
 enum Pointee {
     At(usize, Value),
     Nowhere(u32),

@@ -1,4 +1,6 @@
 // The check that leaves a record beside the module, one byte a body, and the check of one body beside such a record.
+#![tactic(auto)]
+
 mod body;
 mod flags;
 mod recording;

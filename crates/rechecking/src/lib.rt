@@ -1,4 +1,6 @@
 // The public calls `check_recording` and `check_body`, with their promises.
+#![tactic(auto)]
+
 ghost use Rattle.promises.specs.RecordingPromises.{RecordingKeeps, RecheckKeeps};
 
 use rules::{CheckAnswer, RecordingAnswer};

@@ -1,4 +1,6 @@
 // The stack that an accepted module needs: the check, the walks by heights, the needs over the calls, the report.
+#![tactic(auto)]
+
 mod calls;
 mod report;
 

@@ -1,5 +1,7 @@
 // A function on each row of lent payloads: the module is opened once, the words of frames are cleared once, and the machine runs
 // each row on the same slots. Slots are cleared after the last row only: no run depends on what they held.
+#![tactic(auto)]
+
 ghost use Rattle.std.specs.Prelude.{◌≡◌, true, ◌+◌, ◌*◌, ◌/◌, ◌<◌, ◌≤◌, length};
 ghost use Rattle.rules.specs.Instructions.{ty_of};
 ghost use Rattle.rules.specs.Mapping.{takes_numbers};
@@ -101,7 +103,7 @@ fn put_value(out: &mut [u8], i: usize, p: &[u8], height: usize)
 // ---- a row
 
 // How a row's run ended, and whether it used the heap.
-#[derive(Drop)]
+#[derive(Clone, Copy)]
 struct RowEnd {
     ended: Ended,
     used: bool,

@@ -1,4 +1,6 @@
 // The public call `run`, with its promise.
+#![tactic(auto)]
+
 ghost use Rattle.promises.specs.Promises.{lent_of, lent_heap_of, RunKeeps};
 
 use rules::RunAnswer;

@@ -1,4 +1,6 @@
 // The run of a body by number on lent arguments: refusals, the arguments in their slots, the first frame, the heap, the answer.
+#![tactic(auto)]
+
 ghost use Rattle.std.specs.Prelude.{◌≡◌, ◌+◌, ◌-◌, ◌*◌, ◌<◌, ◌≤◌, min, length, replicate};
 ghost use Rattle.rules.specs.Answers as Answers;
 ghost use Rattle.rules.specs.Instructions.{ty_of};
@@ -163,7 +165,7 @@ pub fn copy_arguments(args: &[u8], kinds: &[u8], n: usize, p: &mut [u8], t: &mut
 // ---- bodies
 
 // A body's places go from start up to end. body is the function's number, 65535 for the entry.
-#[derive(Drop)]
+#[derive(Clone, Copy)]
 struct BodyRecord {
     body: usize,
     start: usize,
@@ -171,7 +173,7 @@ struct BodyRecord {
     params: usize,
 }
 
-#[derive(Drop)]
+#[derive(Clone, Copy)]
 enum FoundBody {
     Record(BodyRecord),
     Nothing,

@@ -1,4 +1,6 @@
 // The public call `write`, with its promise.
+#![tactic(auto)]
+
 ghost use Rattle.rules.specs.Tables.{tables};
 ghost use Rattle.promises.specs.WritePromises.{WriteKeeps};
 

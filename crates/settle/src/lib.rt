@@ -1,8 +1,10 @@
 // Need and frames of all bodies, from a table of their own heights and calls.
+#![tactic(auto)]
+
 ghost use Rattle.std.specs.Prelude.{◌≡◌, suc, ◌+◌, ◌*◌, ◌<◌, ◌≤◌, max, length};
 ghost use Rattle.settle.specs.Graph.{offset_at, NextCall, Joined, Callees, Low, Sizes, Settled, Open, Visited, Reached, mark_of, unseen, Ended};
 
-#[derive(Drop)]
+#[derive(Clone, Copy)]
 pub struct Pair {
     pub need: u32,
     pub frames: u32,

@@ -459,7 +459,7 @@ module _ (s : List ℕ) (b : AreBytes s) (e : refusal s ≡ 0) where
       let ll : length (labels_in s) ≡ 8 * labels s = labels_length s e in
       let ln : length (code_in s) ≡ code_length s = code_length_lem s e in
       let lz : length (structures_in s) ≡ 12 * structures s = structures_length s e in
-      rw (constant_count_lem s e, function_count_lem s e, label_count_lem s e, structure_count_lem s e, lc, lf, ll, ln, lz, p.whole, p.zero_word, p.constants_at_lem, p.functions_at_lem, p.labels_at, p.code_at_lem, p.total)
+      rw (constant_count_lem s e, function_count_lem s e, label_count_lem s e, structure_count_lem s e, lc, lf, ll, ln, lz, p.whole, p.zero_word, p.constants_at_lem, p.functions_at_lem, p.labels_at_lem, p.code_at_lem, p.total)
       (ap (λ x. edition s ∷ length s ∷ constants s ∷ constants_at s ∷ functions s ∷ functions_at s ∷ labels s ∷ labels_at s ∷ code_length s ∷ code_at s ∷ entry_length s ∷ 0 ∷ x) last_words)
 
   header_back : words (numbers (tables_in s)) ≡ take (constants_at s) s

@@ -1,4 +1,6 @@
 // The machine's state as the code keeps it: registers, frames as words, slots in lent bytes.
+#![tactic(auto)]
+
 ghost use Rattle.std.specs.Prelude.{◌≡◌, ◌+◌, ◌*◌, ◌<◌, ◌≤◌, length};
 ghost use Rattle.rules.specs.Stack.{slot_at};
 ghost use Rattle.state.specs.Slots.{payloads_with, types_with};
@@ -8,7 +10,7 @@ use rules::Slot;
 
 // The running frame, and the slots in use. stop is its body's end, floor where its operands begin, frame where its words begin.
 // The words have its body, first slot, count of locals and locals.
-#[derive(Drop)]
+#[derive(Clone, Copy)]
 pub struct Registers {
     pub place: usize,
     pub stop: usize,
@@ -18,7 +20,7 @@ pub struct Registers {
 }
 
 // What an instruction does: the run goes on, the host's own call has returned, or the run is over with a number.
-#[derive(Drop)]
+#[derive(Clone, Copy)]
 pub enum Progress {
     Goes(Registers),
     Finishes(Registers),

@@ -1,4 +1,6 @@
 // One instruction judged by types alone, on the lists of a record: the checker's transfer function.
+#![tactic(auto)]
+
 ghost use Rattle.std.specs.Prelude.{◌≡◌, Bool, List, ℕ, ◌+◌, ◌^◌, ◌<◌, ◌≤◌, eqb};
 ghost use Rattle.rules.specs.declared.Condition.{Condition};
 ghost use Rattle.rules.specs.declared.Instruction.TheVariants.{Push, Jmp, Branch, Call, Ret, New, Flea};
@@ -52,7 +54,7 @@ fn push_constant(file: &[u8], c: Sections, k: u32, q: usize, st: &mut [u8]) -> T
 // ---- labels
 
 // A label's place.
-#[derive(Drop)]
+#[derive(Clone, Copy)]
 enum FoundPlace {
     At(usize),
     Nothing,

@@ -1,4 +1,6 @@
 // Values of slots, and what operations on them give.
+#![tactic(auto)]
+
 ghost use Rattle.std.specs.Prelude.{◌≡◌};
 ghost use Rattle.values.specs.Values.{value_of, kind_of_value, payload_of, slot_of};
 
@@ -18,7 +20,7 @@ pub(crate) const DOUBLE_UNORDERED: u32 = 35;
 pub(crate) const CONVERT_OUTOFRANGE: u32 = 44;
 
 // An int, a long, a double with its number, or a pointer with its address; true: a managed one.
-#[derive(Drop)]
+#[derive(Clone, Copy)]
 pub enum Value {
     Int(u32),
     Long(u64),
@@ -27,7 +29,7 @@ pub enum Value {
 }
 
 // The value that replaces the operands, or the exception that they raise.
-#[derive(Drop)]
+#[derive(Clone, Copy)]
 pub enum Computed {
     Yields(Value),
     Raises(u32),

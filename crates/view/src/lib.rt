@@ -1,4 +1,6 @@
 // An opened module: a view of the lent file and its counts.
+#![tactic(auto)]
+
 ghost use Rattle.std.specs.Prelude.{◌≡◌};
 ghost use Rattle.rules.specs.ModuleFile.{read};
 ghost use Rattle.format.specs.Layout.{Packed};
@@ -8,7 +10,7 @@ use format::Sections;
 use reader::entries::{FoundConstant, FoundFunction, FoundLabel};
 
 // The file's bytes stay the lender's; the counts are those that `reader::open` gives of them.
-#[derive(Drop)]
+#[derive(Clone, Copy)]
 pub struct Module<'a> {
     pub bytes: &'a [u8],
     pub counts: Sections,

@@ -1,4 +1,6 @@
 // Arithmetic on words of 32 bits (int) and 64 bits (long), as patterns.
+#![tactic(auto)]
+
 ghost use Rattle.std.specs.Prelude.{◌≡◌, ◌-◌, ◌*◌, ◌/◌, ◌%◌, ◌^◌, bit_and, bit_or, bit_xor, unsigned_abs};
 ghost use Rattle.std.specs.Bool.{xor};
 ghost use Rattle.std.specs.Int.Signed.{non_neg};

@@ -1,4 +1,6 @@
 // The module writer: from tables that are lent separately to a module file in a lent output.
+#![tactic(auto)]
+
 ghost use Rattle.std.specs.Prelude.{◌≡◌, ◌+◌, ◌<◌, ◌≤◌, ◌^◌, length};
 ghost use Rattle.rules.specs.Bytes.{words, written};
 ghost use Rattle.rules.specs.Tables.{tables, header_size};

@@ -1,0 +1,17 @@
+use Rattle.beside.proofs.Laws.{some_end}
+use Rattle.beside.proofs.Laws.{some_more, some_none}
+use Rattle.rules.specs.Bytes.{byte, some_below}
+use lib.Dec.{ltb}
+use Prim.Native.Nat.{ℕ, ◌+◌, ◌≤◌, ◌<◌, ◌-◌}
+use mathlib.Core.Path.{◌≡◌, refl, ◌∙◌, ap}
+use native.Mathlib.Omega.{arith}
+use Rattle.beside.proofs.high_byte.Goals as goal
+
+pub loop-i-init : goal.loop-i-init
+loop-i-init c = (omega arith, some_none _)
+
+pub loop-i-preserved : goal.loop-i-preserved
+loop-i-preserved c = (omega arith, some_more _ _ _ c.loop-i.invariant.1)
+
+pub returns : goal.returns
+returns c = some_end _ _ _ _ c.loop-i.invariant.1 (omega arith)

@@ -1,0 +1,15 @@
+-- The invariants and measures of `beside::high_byte`.
+use Rattle.beside.proofs.Laws.{some_end}
+use Rattle.beside.proofs.Laws.{some_more, some_none}
+use Rattle.rules.specs.Bytes.{byte, some_below}
+use lib.Dec.{ltb}
+use Prim.Native.Nat.{ℕ, ◌+◌, ◌≤◌, ◌<◌, ◌-◌}
+use mathlib.Core.Path.{◌≡◌, refl, ◌∙◌, ap}
+use native.Mathlib.Omega.{arith}
+use Rattle.beside.proofs.high_byte.Given as goal
+
+abbrev pub invariant-loop-i : goal.invariant-loop-i
+invariant-loop-i l = (l.i ≤ l.bodies) × (l.high ≡ some_below l.i (λ l.i. ltb 1 (byte l.beside (8 + l.i))))
+
+abbrev pub decreases-loop-i : goal.decreases-loop-i
+decreases-loop-i l = l.bodies - l.i

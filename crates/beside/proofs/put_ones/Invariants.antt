@@ -1,0 +1,14 @@
+-- The invariants and measures of `beside::put_ones`.
+use Rattle.beside.proofs.Laws.{oned_none, oned_more}
+use Rattle.beside.specs.Bodies.{oned}
+use lib.ListN.{length, length-set}
+use Prim.Native.Nat.{ℕ, ◌+◌, ◌≤◌, ◌<◌, ◌-◌}
+use mathlib.Core.Path.{◌≡◌, refl, ◌∙◌, ap}
+use native.Mathlib.Omega.{arith}
+use Rattle.beside.proofs.put_ones.Given as goal
+
+abbrev pub invariant-loop-i : goal.invariant-loop-i
+invariant-loop-i l = (l.i ≤ l.bodies) × (l.beside ≡ oned l.initial.beside l.i) × (length l.beside ≡ length l.initial.beside)
+
+abbrev pub decreases-loop-i : goal.decreases-loop-i
+decreases-loop-i l = l.bodies - l.i

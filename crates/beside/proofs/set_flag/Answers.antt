@@ -1,0 +1,6 @@
+use mathlib.Core.Path.{refl}
+use borrow.Author.Rules.{rules}
+use Rattle.beside.proofs.set_flag.Goals as goal
+
+pub returns : goal.returns
+returns c = rw c.bit.ensures refl

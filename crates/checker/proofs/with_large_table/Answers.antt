@@ -1,0 +1,7 @@
+use native.Mathlib.Omega.{arith}
+use Rattle.nodes.proofs.Copies.{zeros_at}
+use borrow.Author.Rules.{rules}
+use Rattle.checker.proofs.with_large_table.Goals as goal
+
+pub check_with-requires : goal.check_with-requires
+check_with-requires c = ((c.requires.packed.0, c.requires.packed.1, c.requires.packed.2), ((omega (arith, c.requires.packed.0.little_code), zeros_at 16385), c.requires.keyed))

@@ -1,0 +1,6 @@
+use Rattle.nodes.proofs.Copies.{zeros_at}
+use borrow.Author.Rules.{rules}
+use Rattle.checker.proofs.with_middle_table.Goals as goal
+
+pub check_with-requires : goal.check_with-requires
+check_with-requires c = ((c.requires.packed.0, c.requires.packed.1, c.requires.packed.2), ((c.requires.packed.3, zeros_at 4096), c.requires.keyed))

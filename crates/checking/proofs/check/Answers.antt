@@ -1,0 +1,7 @@
+-- The proof of `checking::check`.
+use borrow.Author.Rules.{rules}
+use Rattle.promises.specs.Promised.{check_keeps}
+use Rattle.checking.proofs.check.Goals as goal
+
+pub returns : goal.returns
+returns c = check_keeps _ _ _ _ c.check.ensures.check_is

@@ -1,0 +1,7 @@
+-- The proof of `compiling::formula`.
+use borrow.Author.Rules.{rules}
+use Rattle.promises.specs.FormulaPromised.{formula_keeps}
+use Rattle.compiling.proofs.formula.Goals as goal
+
+pub returns : goal.returns
+returns c = formula_keeps _ _ _ _ c.compile.ensures

@@ -1,0 +1,6 @@
+-- The proof of `control::calls::restored`.
+use borrow.Author.Rules.{rules}
+use Rattle.control.proofs.calls.restored.Goals as goal
+
+pub returns : goal.returns
+returns c = cc

@@ -1,0 +1,12 @@
+-- The proof of `control::jumps::branched`.
+use mathlib.Core.Path.{ap}
+use borrow.Author.Rules.{rules}
+use Rattle.state.specs.declared.Progress.TheVariants.{Goes}
+use Rattle.control.proofs.jumps.branched.Goals as goal
+
+pub returns-then-taken : goal.returns-then-taken
+returns-then-taken c = rw c.if-taken.true (ap Goes c.moved.ensures)
+
+pub returns : goal.returns
+returns c = let if1 = c.if-taken in
+    rw if1.false (ap Goes c.moved-2.ensures)

@@ -1,0 +1,35 @@
+-- The proof of `control::jumps::tested`.
+use native.Mathlib.Omega.{arith}
+use mathlib.Core.Path.{◌≡◌, sym, ap, ◌∙◌}
+use borrow.Author.Rules.{rules}
+use Rattle.control.proofs.JumpLaws.{branch_27, branch_21, branch_22, branch_goes, popped_int, popped_other}
+use Rattle.control.specs.Control.{place_of}
+use Rattle.control.specs.declared.jumps.FoundPlace.TheVariants.{Nothing}
+use Rattle.control.specs.declared.jumps.FoundPlace.{FoundPlace}
+use Rattle.control.proofs.jumps.tested.Goals as goal
+
+pub returns-in_default : goal.returns-in_default
+returns-in_default c = let target = c.target-to in
+    λ o cap k. let z : ◌≡◌ {A = FoundPlace} target.result Nothing = cc in
+    branch_27 cap _ _ _ _ k _ _ o (sym target.ensures ∙ ap place_of z)
+
+pub returns-then-h-r : goal.returns-then-h-r
+returns-then-h-r c = let target = c.target-to in
+    let to = c.to-1 in
+    λ o cap k. branch_21 cap _ _ _ _ k _ _ o _ (sym target.ensures ∙ ap place_of to.given.1) c.if-h-r.true
+
+pub returns-in_default-x : goal.returns-in_default-x
+returns-in_default-x c = let target = c.target-to in
+    let to = c.to-1 in
+    let if1 = c.if-h-r in
+    let slot_at = c.slot_at in
+    λ o cap k. branch_22 cap _ _ _ _ k _ _ o _ (sym target.ensures ∙ ap place_of to.given.1) _ if1.false slot_at.ensures (popped_other _ _ c.value_of-x.ensures c.in_default-x.keys2)
+
+pub returns : goal.returns
+returns c = let target = c.target-to in
+    let to = c.to-1 in
+    let if1 = c.if-h-r in
+    let slot_at = c.slot_at in
+    let value_of_lem = c.value_of-x in
+    let v = popped_int _ _ (sym value_of_lem.ensures ∙ c.in-Int.is) in
+    (omega (arith, if1.false), λ o cap k. rw v.1 (branch_goes cap _ _ _ _ k _ _ o _ (sym target.ensures ∙ ap place_of to.given.1) _ if1.false slot_at.ensures v.0))

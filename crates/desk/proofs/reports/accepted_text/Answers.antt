@@ -1,0 +1,13 @@
+use Rattle.desk.proofs.Lines.{as_long, height_low, accepted_fills}
+use borrow.Author.Rules.{rules}
+use Rattle.desk.proofs.reports.accepted_text.Reads as reads
+use Rattle.desk.proofs.reports.accepted_text.Lts as lts
+use Rattle.desk.proofs.reports.run_text.Reads as run-text-reads
+use Rattle.running.proofs.run.Reads as run-reads
+use Rattle.desk.proofs.reports.accepted_text.Goals as goal
+
+pub run_text-requires : goal.run_text-requires
+run_text-requires c = let called = c.run-answer in (as_long 32768 called.new.1.1.1.1.1.1.0 called.auto.1.1.1.1.1.1.0, as_long 4096 called.new.1.1.1.1.1.1.1.0 called.auto.1.1.1.1.1.1.1.0, c.requires, height_low _ _ _ _ _ _ _ _ _ called.ensures.same called.auto.1.1.1.1.1.1.1.0)
+
+pub returns : goal.returns
+returns c = accepted_fills _ _ _ _ _ _ _ _ _ _ c.run-answer.ensures.same c.run_text.ensures

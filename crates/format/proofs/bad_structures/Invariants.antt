@@ -1,0 +1,15 @@
+-- The invariants and measures of `format::bad_structures`.
+use Prim.Native.Nat.{◌≤◌, ◌-◌}
+use native.Mathlib.Omega.{arith}
+use mathlib.Core.Path.{◌≡◌, refl, sym, ◌∙◌}
+use mathlib.Core.Bool.{false}
+use Rattle.format.proofs.Gathered.{some_none, some_more, some_end, some_hit}
+use Rattle.rules.specs.Bytes.{some_below}
+use Rattle.rules.specs.Tables.{bad_structure, bad_structures}
+use Rattle.format.proofs.bad_structures.Given as goal
+
+abbrev pub invariant-loop-i : goal.invariant-loop-i
+invariant-loop-i l = (l.i ≤ l.n) × (false ≡ some_below l.i (bad_structure l.table))
+
+abbrev pub decreases-loop-i : goal.decreases-loop-i
+decreases-loop-i l = l.n - l.i

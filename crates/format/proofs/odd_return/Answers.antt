@@ -1,0 +1,12 @@
+-- The proof of `format::odd_return`.
+use mathlib.Core.Bool.{Bool, not, ◌&&◌}
+use mathlib.Core.Path.{ap}
+use borrow.Author.Rules.{rules}
+use Rattle.rules.specs.Tables.{differs, number_type, structure_type, managed_type}
+use Rattle.format.proofs.Tests.{or_assoc}
+use Rattle.format.proofs.odd_return.Goals as goal
+
+pub returns : goal.returns
+returns c =
+    let a = c.args in
+    rw (c.added_type-added.ensures, or_assoc (number_type a.t) (structure_type a.structures a.t) (managed_type a.types a.structures a.t))

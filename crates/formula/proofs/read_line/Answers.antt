@@ -1,0 +1,24 @@
+use Rattle.formula.proofs.LineLaws.{begin, line_bad, line_room, line_left, line_read}
+use Rattle.formula.specs.Readers.{SumIs}
+use native.Mathlib.Omega.{arith}
+use mathlib.Core.List.{[]}
+use mathlib.Core.Path.{subst}
+use borrow.Author.Rules.{rules}
+use Rattle.formula.proofs.read_line.Reads as reads
+use Rattle.formula.proofs.read_line.Lts as lts
+use Rattle.formula.proofs.readers.operated.Reads as operated-reads
+use Rattle.formula.proofs.readers.sum.Reads as sum-reads
+use Rattle.formula.proofs.tokens.skip.Reads as skip-reads
+use Rattle.formula.proofs.read_line.Goals as goal
+
+pub returns-in_default : goal.returns-in_default
+returns-in_default c = let a = c.args in line_bad a.line.now a.code.now a.pool.now c.skip-at.result c.skip-at.ensures c.requires.0 [] [] [] [] (subst (λ x. SumIs a.line.now a.code.now a.pool.now (begin c.skip-at.result) 0 0 c.sum-a.new.1.0 c.sum-a.new.1.1.0 x) c.in_default.is c.sum-a.ensures)
+
+pub returns-then-c-line : goal.returns-then-c-line
+returns-then-c-line c = let a = c.args in line_left a.line.now a.code.now a.pool.now c.skip-at.result c.skip-at.ensures c.requires.0 c.sum-a.new.1.0 c.sum-a.new.1.1.0 _ (subst (λ x. SumIs a.line.now a.code.now a.pool.now (begin c.skip-at.result) 0 0 c.sum-a.new.1.0 c.sum-a.new.1.1.0 x) c.in-Read.is c.sum-a.ensures) [] [] c.if-c-line.true
+
+pub operated-requires : goal.operated-requires
+operated-requires c = let a = c.args in line_room a.line.now a.code.now a.pool.now c.skip-at.result c.skip-at.ensures c.requires.0 c.sum-a.new.1.0 c.sum-a.new.1.1.0 _ (subst (λ x. SumIs a.line.now a.code.now a.pool.now (begin c.skip-at.result) 0 0 c.sum-a.new.1.0 c.sum-a.new.1.1.0 x) c.in-Read.is c.sum-a.ensures) c.requires.1
+
+pub returns : goal.returns
+returns c = let a = c.args in line_read a.line.now a.code.now a.pool.now c.skip-at.result c.skip-at.ensures c.requires.0 c.sum-a.new.1.0 c.sum-a.new.1.1.0 _ (subst (λ x. SumIs a.line.now a.code.now a.pool.now (begin c.skip-at.result) 0 0 c.sum-a.new.1.0 c.sum-a.new.1.1.0 x) c.in-Read.is c.sum-a.ensures) _ c.operated.result (omega arith) c.operated.ensures

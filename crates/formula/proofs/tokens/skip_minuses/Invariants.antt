@@ -1,0 +1,15 @@
+-- The invariants and measures of `formula::tokens::skip_minuses`.
+use Rattle.formula.proofs.TokenLaws.{minus_more}
+use Rattle.formula.specs.Tokens.{negatives}
+use Rattle.rules.specs.Reading.{factor}
+use lib.ListN.{length, drop}
+use native.Mathlib.Omega.{arith}
+use mathlib.Core.Path.{◌≡◌, ap}
+use Prim.Native.Nat.{ℕ, ◌+◌, ◌≤◌, ◌-◌}
+use Rattle.formula.proofs.tokens.skip_minuses.Given as goal
+
+abbrev pub invariant-loop-i : goal.invariant-loop-i
+invariant-loop-i l = (l.«at» + l.n ≤ l.i) × (l.i ≤ length l.s) × ((f : ℕ) → factor (l.n + f) (drop l.«at» l.s) ≡ negatives l.n (factor f (drop l.i l.s)))
+
+abbrev pub decreases-loop-i : goal.decreases-loop-i
+decreases-loop-i l = length l.s - l.i

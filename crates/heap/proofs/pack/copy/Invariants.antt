@@ -1,0 +1,12 @@
+-- The invariants and measures of `heap::pack::copy`.
+use Rattle.heap.proofs.Packing.{copied_none, copied_more, copied_all}
+use Rattle.heap.specs.Packs.{Copied}
+use Prim.Native.Nat.{◌≤◌, ◌-◌}
+use native.Mathlib.Omega.{arith}
+use Rattle.heap.proofs.pack.copy.Given as goal
+
+abbrev pub invariant-loop-i : goal.invariant-loop-i
+invariant-loop-i l = (l.i ≤ l.n) × Copied l.p l.initial.p l.a l.q l.b l.i
+
+abbrev pub decreases-loop-i : goal.decreases-loop-i
+decreases-loop-i l = l.n - l.i

@@ -1,0 +1,6 @@
+use Rattle.promises.specs.NeedPromised.{need_keeps}
+use borrow.Author.Rules.{rules}
+use Rattle.measuring.proofs.need.Goals as goal
+
+pub returns : goal.returns
+returns c = need_keeps _ _ _ _ _ _ c.report_needs.ensures

@@ -1,0 +1,14 @@
+use Rattle.moves.proofs.StackLaws.{copy_is}
+use Rattle.state.proofs.Families.{one_21}
+use borrow.Author.Rules.{rules}
+use Rattle.moves.proofs.stack.copy.Reads as reads
+use Rattle.moves.proofs.stack.copy.Lts as lts
+use Rattle.moves.proofs.stack.pushed.Reads as pushed-reads
+use Rattle.state.proofs.slot_at.Reads as slot-at-reads
+use Rattle.moves.proofs.stack.copy.Goals as goal
+
+pub returns-then-h-r : goal.returns-then-h-r
+returns-then-h-r c = λ m f k. one_21 _ _ _ _ f k m _ c.if-h-r.true
+
+pub returns : goal.returns
+returns c = λ m f k. copy_is _ _ _ _ f k m c.if-h-r.false _ c.slot_at-v.ensures _ _ _ (c.pushed.ensures f k)

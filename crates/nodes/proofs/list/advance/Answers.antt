@@ -1,0 +1,8 @@
+use mathlib.Core.Path.{ap}
+use Prim.Native.Nat.{ℕ, ◌+◌}
+use lib.ListN.{set}
+use borrow.Author.Rules.{rules}
+use Rattle.nodes.proofs.list.advance.Goals as goal
+
+pub returns : goal.returns
+returns c = ap (λ (n : ℕ). set c.args.marks.now 513 (n + 1)) c.wide-i.ensures

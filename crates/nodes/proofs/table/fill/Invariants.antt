@@ -1,0 +1,14 @@
+-- The invariants and measures of `nodes::table::fill`.
+use Rattle.nodes.proofs.Numbering.{Filled, filled_first, filled_next, filled_all, place_fits}
+use Rattle.rules.specs.ModuleFile.{labels}
+use lib.ListN.{length, length-set}
+use native.Mathlib.Omega.{arith}
+use mathlib.Core.Path.{◌≡◌, refl, ◌∙◌}
+use Prim.Native.Nat.{◌≤◌, ◌-◌}
+use Rattle.nodes.proofs.table.fill.Given as goal
+
+abbrev pub invariant-loop-i : goal.invariant-loop-i
+invariant-loop-i l = (l.i ≤ labels l.file) × Filled l.file l.i l.table × (length l.table ≡ length l.initial.table)
+
+abbrev pub decreases-loop-i : goal.decreases-loop-i
+decreases-loop-i l = l.i

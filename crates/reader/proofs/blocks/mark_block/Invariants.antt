@@ -1,0 +1,15 @@
+-- The invariants and measures of `reader::blocks::mark_block`.
+use Prim.Native.Nat.{◌-◌, ◌≤◌}
+use native.Mathlib.Omega.{arith}
+use mathlib.Core.Bool.{true≢false}
+use mathlib.Core.Path.{◌≡◌, refl, sym, ◌∙◌, ap}
+use lib.ListN.{length}
+use Rattle.reader.proofs.BareRuns.{length_marks, marks_none, marks_next, marks_out}
+use Rattle.reader.specs.Cut.{marks}
+use Rattle.reader.proofs.blocks.mark_block.Given as goal
+
+abbrev pub invariant-loop-i : goal.invariant-loop-i
+invariant-loop-i l = (l.starts ≡ marks l.initial.starts l.p l.i) × (length l.starts ≡ length l.initial.starts) × (l.i ≤ 16)
+
+abbrev pub decreases-loop-i : goal.decreases-loop-i
+decreases-loop-i l = 16 - l.i

@@ -1,0 +1,15 @@
+-- The invariants and measures of `reader::labels::bad_labels`.
+use Prim.Native.Nat.{◌≤◌, ◌-◌}
+use native.Mathlib.Omega.{arith}
+use mathlib.Core.List.{[]}
+use mathlib.Core.Path.{◌≡◌, refl}
+use Rattle.format.proofs.Gathered.{some_none, some_more, some_end}
+use Rattle.rules.specs.Bytes.{some_below}
+use Rattle.rules.specs.Tables.{bodies, bad_label, bad_labels}
+use Rattle.reader.proofs.labels.bad_labels.Given as goal
+
+abbrev pub invariant-loop-i : goal.invariant-loop-i
+invariant-loop-i l = (l.i ≤ l.count) × (l.bad ≡ some_below l.i (bad_label (bodies l.edition l.functions [] l.code l.entry) l.labels))
+
+abbrev pub decreases-loop-i : goal.decreases-loop-i
+decreases-loop-i l = l.count - l.i

@@ -1,0 +1,11 @@
+use Rattle.rechecker.proofs.Laws.{ready_new}
+use mathlib.Core.Path.{refl}
+use native.Mathlib.Omega.{arith}
+use borrow.Author.Rules.{rules}
+use Rattle.rechecker.proofs.flags.with_large_room.Goals as goal
+
+pub slice_bounds-flags-end : goal.slice_bounds-flags-end
+slice_bounds-flags-end c = refl
+
+pub flags-requires : goal.flags-requires
+flags-requires c = (ready_new _ _ _ _ _ _ 16384 c.requires.lends c.requires.tabled.0 (omega (arith, c.requires.lends.packed.few_labels)), (c.requires.lends, c.requires.tabled.1))

@@ -1,0 +1,11 @@
+use Rattle.nodes.proofs.Copies.{zeros_at}
+use mathlib.Core.Path.{◌≡◌, refl, sym, ◌∙◌, ap}
+use native.Mathlib.Omega.{arith}
+use borrow.Author.Rules.{rules}
+use Rattle.rechecker.proofs.flags.with_large_table.Goals as goal
+
+pub slice_bounds-with_table-end : goal.slice_bounds-with_table-end
+slice_bounds-with_table-end c = refl
+
+pub with_table-requires : goal.with_table-requires
+with_table-requires c = (c.requires.lends, ((omega (arith, c.requires.lends.packed.little_code), zeros_at 16385), c.requires.keyed))

@@ -1,0 +1,11 @@
+use Rattle.nodes.proofs.Copies.{zeros_at}
+use mathlib.Core.Path.{◌≡◌, refl, sym, ◌∙◌, ap}
+use native.Mathlib.Omega.{arith}
+use borrow.Author.Rules.{rules}
+use Rattle.rechecker.proofs.flags.with_middle_table.Goals as goal
+
+pub slice_bounds-with_table-end : goal.slice_bounds-with_table-end
+slice_bounds-with_table-end c = refl
+
+pub with_table-requires : goal.with_table-requires
+with_table-requires c = (c.requires.lends, ((c.requires.extent_bound.0, zeros_at 4096), c.requires.extent_bound.1))

@@ -1,0 +1,14 @@
+use Rattle.checker.proofs.Lent.{part_long, lent_first}
+use native.Mathlib.Omega.{arith}
+use borrow.Author.Rules.{rules}
+use Rattle.reporter.proofs.old_with_large_table.Reads as reads
+use Rattle.reporter.proofs.old_with_large_table.Lts as lts
+use Rattle.keys.proofs.edition1.translate.Reads as translate-reads
+use Rattle.reporter.proofs.with_large_table.Reads as with-large-table-reads
+use Rattle.reporter.proofs.old_with_large_table.Goals as goal
+
+pub translate-requires : goal.translate-requires
+translate-requires c = omega (arith, part_long _ _ c.requires.checkable.packed c.requires.file_value, c.requires.checkable.packed.little_code)
+
+pub with_large_table-requires : goal.with_large_table-requires
+with_large_table-requires c = record { checkable = c.requires.checkable; keyed = lent_first _ _ c.requires.checkable.packed c.requires.checkable.readable c.requires.file_value _ c.translate.ensures }

@@ -1,0 +1,13 @@
+use Rattle.promises.specs.Promised.{host_run_keeps, host_run_finished}
+use borrow.Author.Rules.{rules}
+use Rattle.running.proofs.host.host_run.Reads as reads
+use Rattle.running.proofs.host.host_run.Lts as lts
+use Rattle.running.proofs.host.stop.Reads as stop-reads
+use Rattle.running.proofs.run.Reads as run-reads
+use Rattle.running.proofs.host.host_run.Goals as goal
+
+pub returns-in_default : goal.returns-in_default
+returns-in_default c = host_run_keeps _ _ _ _ _ _ _ _ _ _ c.run-answer.ensures _ _ _ _ _ c.stop.ensures.0 c.stop.ensures.1 c.stop.ensures.2
+
+pub returns : goal.returns
+returns c = host_run_finished _ _ _ _ _ _ _ _ _ _ c.run-answer.ensures _ c.in-Finished.is _ _

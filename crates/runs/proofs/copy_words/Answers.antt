@@ -1,0 +1,20 @@
+-- The proof of `runs::copy_words`.
+use Prim.Native.Nat.{ℕ, ◌-◌, ◌≤◌, ◌<◌}
+use native.Mathlib.Omega.{arith}
+use mathlib.Core.Path.{◌≡◌, refl}
+use lib.ListN.{length, get_or, length-set}
+use Rattle.runs.proofs.Resumed.{copied_more}
+use Rattle.runs.proofs.copy_words.Goals as goal
+
+pub loop-i-init : goal.loop-i-init
+loop-i-init c = (omega arith, λ j l. absurd (omega arith), refl)
+
+pub loop-i-preserved : goal.loop-i-preserved
+loop-i-preserved c = let loop = c.loop-i in
+    (omega arith, copied_more loop.to c.args.from.now loop.i loop.invariant.1 (omega arith), simp length-set loop.invariant.2)
+
+pub shape_of-to : goal.shape_of-to
+shape_of-to c = c.loop-i.invariant.2
+
+pub returns : goal.returns
+returns c = λ i l. c.loop-i.invariant.1 i (omega arith)

@@ -1,0 +1,10 @@
+use Rattle.rules.specs.Tables.{tables}
+use Rattle.promises.specs.WritePromised.{write_keeps}
+use borrow.Author.Rules.{rules}
+use Rattle.saving.proofs.write.Reads as reads
+use Rattle.saving.proofs.write.Lts as lts
+use Rattle.writer.proofs.write.Reads as write-reads
+use Rattle.saving.proofs.write.Goals as goal
+
+pub returns : goal.returns
+returns c = write_keeps (tables c.args.edition c.args.constants.now c.args.functions.now c.args.labels.now c.args.structures.now c.args.code.now c.args.entry) c.args.out.now _ _ c.write.ensures
