@@ -33,8 +33,8 @@ mark_front c x =
 -- the digits in front, after others
 digits_begin : {p : List ℕ} {n : ℕ} → Numeral p n → (x : List ℕ) → (q : List ℕ) × (p ++ x ≡ q ++ (digits n x).1) × Numeral q (digits n x).0
 unfolding digits
-digits_begin {p} {n} d [] = (p, refl, d)
-digits_begin {p} {n} d (c ∷ x) = go (is_digit c) refl (λ h. digits_begin (next d h) x)
+digits_begin {p = p} {n = n} d [] = (p, refl, d)
+digits_begin {p = p} {n = n} d (c ∷ x) = go (is_digit c) refl (λ h. digits_begin {p = p ++ (c ∷ [])} {n = 10 * n + (c - 48)} (next d h) x)
   where
     go : (b : Bool) → is_digit c ≡ b → ((h : Digit c) → (q : List ℕ) × ((p ++ (c ∷ [])) ++ x ≡ q ++ (digits (10 * n + (c - 48)) x).1) × Numeral q (digits (10 * n + (c - 48)) x).0)
         → (q : List ℕ) × (p ++ (c ∷ x) ≡ q ++ (digits n (c ∷ x)).1) × Numeral q (digits n (c ∷ x)).0

@@ -20,7 +20,7 @@ byte_there k = byte_is _ _ _ _ (sym k.before.before.before.decode.ensures ∙ k.
 
 pub decode-decoded-requires : goal.decode-decoded-requires
 decode-decoded-requires c =
-    starts_inside _ _ _ c.requires.place_lt_stop.0.1.1
+    starts_inside _ _ _ c.requires.place_lt_stop.1.1
 
 pub returns-in_default : goal.returns-in_default
 returns-in_default c =

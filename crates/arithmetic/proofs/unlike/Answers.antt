@@ -11,8 +11,7 @@ use Rattle.arithmetic.proofs.unlike.Goals as goal
 pub returns-in_default : goal.returns-in_default
 unfolding unlike_of
 returns-in_default c =
-    let b = c.args.b in
-    rw (ne_eqb (kind_of_value b) 7 (λ e. apart 7 but_pointer b tt c.in_default.keys2 (sym e)), ne_eqb (kind_of_value b) 8 (λ e. apart 8 but_pointer b tt c.in_default.keys2 (sym e)))
+    rw (ne_eqb (kind_of_value c.args.b) 7 (λ e. apart 7 but_pointer c.args.b tt c.in_default.in_default-own.keys2 (sym e)), ne_eqb (kind_of_value c.args.b) 8 (λ e. apart 8 but_pointer c.args.b tt c.in_default.in_default-own.keys2 (sym e)))
 
 pub returns : goal.returns
 unfolding unlike_of

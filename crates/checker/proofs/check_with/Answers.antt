@@ -8,7 +8,7 @@ use borrow.Author.Rules.{rules}
 use Rattle.checker.proofs.check_with.Goals as goal
 
 pub bodies-verdict-requires : goal.bodies-verdict-requires
-bodies-verdict-requires c = ((c.requires.packed.0, c.requires.packed.1, c.fill.ensures), ((fits_first _ _ _ c.requires.packed.0 c.requires.packed.2, zeros_at 514, refl), c.requires.extent_in_bounds.1))
+bodies-verdict-requires c = record { packed = (c.requires.packed.0, c.requires.packed.1, c.fill.ensures); fits = (fits_first _ _ _ c.requires.packed.0 c.requires.packed.2, zeros_at 514, refl); keyed = c.requires.keyed }
 
 pub finish-requires : goal.finish-requires
 finish-requires c = record { packed = (c.requires.packed.0, c.requires.packed.1, c.fill.ensures); fits = (fits_grows _ _ _ _ _ (fits_first _ _ _ c.requires.packed.0 c.requires.packed.2) c.bodies-verdict.ensures.grows, search rules) }

@@ -31,5 +31,5 @@ overflow_add-result c = let m = stride_under _ c.word-functions.result c.functio
 pub returns : goal.returns
 unfolding not_packed
 returns c = let args = c.args in let s = args.file.now in
-    let o = offset_fourth args.edition args.structures_at_lem (word 4 s 52) (structures_at s) c.requires.offset_is in
+    let o = offset_fourth args.edition args.structures_at (word 4 s 52) (structures_at s) c.requires.offset_is in
     let e = c.requires.edition_is in let z = c.requires.structures_is in cc

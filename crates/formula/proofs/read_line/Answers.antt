@@ -12,13 +12,13 @@ use Rattle.formula.proofs.tokens.skip.Reads as skip-reads
 use Rattle.formula.proofs.read_line.Goals as goal
 
 pub returns-in_default : goal.returns-in_default
-returns-in_default c = let a = c.args in line_bad a.line.now a.code.now a.pool.now c.skip-at.result c.skip-at.ensures c.requires.0 [] [] [] [] (subst (λ x. SumIs a.line.now a.code.now a.pool.now (begin c.skip-at.result) 0 0 c.sum-a.new.1.0 c.sum-a.new.1.1.0 x) c.in_default.is c.sum-a.ensures)
+returns-in_default c = line_bad c.args.line.now c.args.code.now c.args.pool.now c.skip-at.result c.skip-at.ensures c.requires.0 [] [] [] [] (subst (λ x. SumIs c.args.line.now c.args.code.now c.args.pool.now (begin c.skip-at.result) 0 0 c.sum-a.new.code c.sum-a.new.pool x) c.in_default.is c.sum-a.ensures)
 
 pub returns-then-c-line : goal.returns-then-c-line
-returns-then-c-line c = let a = c.args in line_left a.line.now a.code.now a.pool.now c.skip-at.result c.skip-at.ensures c.requires.0 c.sum-a.new.1.0 c.sum-a.new.1.1.0 _ (subst (λ x. SumIs a.line.now a.code.now a.pool.now (begin c.skip-at.result) 0 0 c.sum-a.new.1.0 c.sum-a.new.1.1.0 x) c.in-Read.is c.sum-a.ensures) [] [] c.if-c-line.true
+returns-then-c-line c = line_left c.args.line.now c.args.code.now c.args.pool.now c.skip-at.result c.skip-at.ensures c.requires.0 c.sum-a.new.code c.sum-a.new.pool _ (subst (λ x. SumIs c.args.line.now c.args.code.now c.args.pool.now (begin c.skip-at.result) 0 0 c.sum-a.new.code c.sum-a.new.pool x) c.in-Read.is c.sum-a.ensures) [] [] c.if-c-line.true
 
 pub operated-requires : goal.operated-requires
-operated-requires c = let a = c.args in line_room a.line.now a.code.now a.pool.now c.skip-at.result c.skip-at.ensures c.requires.0 c.sum-a.new.1.0 c.sum-a.new.1.1.0 _ (subst (λ x. SumIs a.line.now a.code.now a.pool.now (begin c.skip-at.result) 0 0 c.sum-a.new.1.0 c.sum-a.new.1.1.0 x) c.in-Read.is c.sum-a.ensures) c.requires.1
+operated-requires c = line_room c.args.line.now c.args.code.now c.args.pool.now c.skip-at.result c.skip-at.ensures c.requires.0 c.sum-a.new.code c.sum-a.new.pool _ (subst (λ x. SumIs c.args.line.now c.args.code.now c.args.pool.now (begin c.skip-at.result) 0 0 c.sum-a.new.code c.sum-a.new.pool x) c.in-Read.is c.sum-a.ensures) c.requires.1
 
 pub returns : goal.returns
-returns c = let a = c.args in line_read a.line.now a.code.now a.pool.now c.skip-at.result c.skip-at.ensures c.requires.0 c.sum-a.new.1.0 c.sum-a.new.1.1.0 _ (subst (λ x. SumIs a.line.now a.code.now a.pool.now (begin c.skip-at.result) 0 0 c.sum-a.new.1.0 c.sum-a.new.1.1.0 x) c.in-Read.is c.sum-a.ensures) _ c.operated.result (omega arith) c.operated.ensures
+returns c = line_read c.args.line.now c.args.code.now c.args.pool.now c.skip-at.result c.skip-at.ensures c.requires.0 c.sum-a.new.code c.sum-a.new.pool _ (subst (λ x. SumIs c.args.line.now c.args.code.now c.args.pool.now (begin c.skip-at.result) 0 0 c.sum-a.new.code c.sum-a.new.pool x) c.in-Read.is c.sum-a.ensures) _ c.operated.result (omega arith) c.operated.ensures

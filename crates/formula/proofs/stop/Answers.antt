@@ -6,9 +6,7 @@ use Rattle.formula.specs.Scans.{ScanIs}
 use Rattle.formula.proofs.stop.Goals as goal
 
 pub returns-in-Stops : goal.returns-in-Stops
-returns-in-Stops c = let s = c.args.line.now in
-    (subst (λ x. ScanIs s x) c.in-Stops.is c.scan_line-found.ensures).1
+returns-in-Stops c = (subst (λ x. ScanIs c.args.line.now x) c.in-Stops.is c.scan_line-found.ensures).1
 
 pub returns-in-Deepest : goal.returns-in-Deepest
-returns-in-Deepest c = let s = c.args.line.now in
-    reads_stops s _ (subst (λ x. ScanIs s x) c.in-Deepest.is c.scan_line-found.ensures)
+returns-in-Deepest c = reads_stops c.args.line.now _ (subst (λ x. ScanIs c.args.line.now x) c.in-Deepest.is c.scan_line-found.ensures)

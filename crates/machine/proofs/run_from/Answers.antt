@@ -59,7 +59,7 @@ pub returns-then-rest-eq0 : goal.returns-then-rest-eq0
 returns-then-rest-eq0 c = let k = at_key _ _ _ _ (sym c.decode-decoded.ensures ∙ c.in-Instruction.is) in rw c.ending.ensures (used_up _ _ _ _ _ _ _ _ _ _ _ _ _ c.loop-key.invariant k.0 c.if-rest-eq0.true)
 
 pub step-a-requires : goal.step-a-requires
-step-a-requires c = let k = at_key _ _ _ _ (sym c.decode-decoded.ensures ∙ c.in-Instruction.is) in ((c.requires.packed.0, c.requires.packed.1, code_part c.args.file.now c.args.c.pool), ((k.0, stands _ c.loop-key.invariant.module_is.1 _ _ _ _ _ c.loop-key.invariant.fits _ _ c.requires.keyed.0 _ (code_part c.args.source.now c.args.from) k.0 _ k.1), (c.loop-key.invariant.fits.ready, computes _ c.loop-key.invariant.module_is.1 _ _ _ _ _ c.loop-key.invariant.fits k.0)))
+step-a-requires c = let k = at_key _ _ _ _ (sym c.decode-decoded.ensures ∙ c.in-Instruction.is) in record { packed = (c.requires.packed.0, c.requires.packed.1, code_part c.args.file.now c.args.c.pool); place_lt_stop = (k.0, stands _ c.loop-key.invariant.module_is.1 _ _ _ _ _ c.loop-key.invariant.fits _ _ c.requires.keyed.0 _ (code_part c.args.source.now c.args.from) k.0 _ k.1); ready = (c.loop-key.invariant.fits.ready, computes _ c.loop-key.invariant.module_is.1 _ _ _ _ _ c.loop-key.invariant.fits k.0) }
 
 pub overflow_sub-rest : goal.overflow_sub-rest
 overflow_sub-rest c = omega (arith, c.if-rest-eq0.false)

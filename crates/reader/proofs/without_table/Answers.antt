@@ -9,8 +9,8 @@ bad_code-bad-requires c = record { filled = c.requires; blank = blank 1 }
 
 pub returns-then-bad : goal.returns-then-bad
 unfolding first_of
-returns-then-bad c = simp (← c.bad_code-bad.ensures.value.0, c.if-bad.true)
+returns-then-bad c = simp (← c.bad_code-bad.ensures.value, c.if-bad.true)
 
 pub returns : goal.returns
 unfolding first_of
-returns c = simp (← c.bad_code-bad.ensures.value.0, c.if-bad.false)
+returns c = simp (← c.bad_code-bad.ensures.value, c.if-bad.false)

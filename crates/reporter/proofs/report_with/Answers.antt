@@ -10,7 +10,7 @@ use Rattle.reporter.proofs.report.accepted.Reads as accepted-reads
 use Rattle.reporter.proofs.report_with.Goals as goal
 
 pub accepted-requires : goal.accepted-requires
-accepted-requires c = (asks_after _ _ _ _ _ c.requires.checkable.packed c.requires.checkable.readable c.check_with-answer.ensures.tabled (omega (arith, c.requires.checkable.enough)) (rw c.in-Accepted.is at c.check_with-answer.ensures.check_is), c.requires.extent_in_bounds.1)
+accepted-requires c = (asks_after _ _ _ _ _ c.requires.checkable.packed c.requires.checkable.readable c.check_with-answer.ensures.tabled (omega (arith, c.requires.checkable.enough)) (rw c.in-Accepted.is at c.check_with-answer.ensures.check_is), c.requires.keyed)
 
 pub returns-in-Refused : goal.returns-in-Refused
 returns-in-Refused c = report_checked _ _ _ _ (Refused _) (rw c.in-Refused.is at c.check_with-answer.ensures.check_is)

@@ -7,4 +7,4 @@ use Rattle.reporter.proofs.report_with.Reads as report-with-reads
 use Rattle.reporter.proofs.with_large_table.Goals as goal
 
 pub report_with-requires : goal.report_with-requires
-report_with-requires c = (c.requires.checkable, ((omega (arith, c.requires.checkable.packed.little_code), zeros_at 16385), c.requires.keyed))
+report_with-requires c = record { checkable = c.requires.checkable; extent_in_bounds = (omega (arith, c.requires.checkable.packed.little_code), zeros_at 16385); keyed = c.requires.keyed }

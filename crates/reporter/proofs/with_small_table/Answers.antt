@@ -6,4 +6,4 @@ use Rattle.reporter.proofs.report_with.Reads as report-with-reads
 use Rattle.reporter.proofs.with_small_table.Goals as goal
 
 pub report_with-requires : goal.report_with-requires
-report_with-requires c = (c.requires.checkable.0, ((c.requires.checkable.1, zeros_at 512), c.requires.keyed))
+report_with-requires c = record { checkable = c.requires.checkable.0; extent_in_bounds = (c.requires.checkable.1, zeros_at 512); keyed = c.requires.keyed }

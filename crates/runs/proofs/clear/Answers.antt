@@ -12,10 +12,10 @@ pub loop-i-init : goal.loop-i-init
 loop-i-init c = (omega arith, refl, refl)
 
 pub loop-i-preserved : goal.loop-i-preserved
-loop-i-preserved c = let v = c.loop-i.invariant in (omega arith, ap (λ (l : List ℕ). set l c.loop-i.i 0) v.1 ∙ fill_more c.loop-i.i 0 c.args.s.now (omega arith), simp length-set v.2)
+loop-i-preserved c = (omega arith, ap (λ (l : List ℕ). set l c.loop-i.i 0) c.loop-i.invariant.1 ∙ fill_more c.loop-i.i 0 c.args.s.now (omega arith), simp length-set c.loop-i.invariant.2)
 
 pub shape_of-s : goal.shape_of-s
 shape_of-s c = c.loop-i.invariant.2
 
 pub returns : goal.returns
-returns c = let v = c.loop-i.invariant in let e : c.loop-i.i ≡ length c.args.s.now = omega arith in v.1 ∙ (rw (e, drop-length) (append-nil _))
+returns c = let e : c.loop-i.i ≡ length c.args.s.now = omega arith in c.loop-i.invariant.1 ∙ (rw (e, drop-length) (append-nil _))

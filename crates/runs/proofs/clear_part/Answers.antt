@@ -5,4 +5,4 @@ use Rattle.runs.proofs.clear_part.Goals as goal
 
 pub returns : goal.returns
 returns c =
-    cleared c.args.s.now c.clear.new.0 _ _ c.requires.0 c.requires.1 c.clear.ensures
+    cleared c.args.s.now c.clear.new.s _ _ c.requires.0 c.requires.1 c.clear.ensures

@@ -10,8 +10,7 @@ pub loop-i-init : goal.loop-i-init
 loop-i-init c = (omega arith, λ j l. absurd (omega arith), refl)
 
 pub loop-i-preserved : goal.loop-i-preserved
-loop-i-preserved c = let loop = c.loop-i in
-    (omega arith, copied_more loop.to c.args.from.now loop.i loop.invariant.1 (omega arith), simp length-set loop.invariant.2)
+loop-i-preserved c = (omega arith, copied_more c.loop-i.to c.args.from.now c.loop-i.i c.loop-i.invariant.1 (omega arith), simp length-set c.loop-i.invariant.2)
 
 pub shape_of-to : goal.shape_of-to
 shape_of-to c = c.loop-i.invariant.2

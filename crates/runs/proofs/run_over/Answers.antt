@@ -55,7 +55,7 @@ step-a-requires c =
     let waits = c.run_from-g.ensures.deferred yes in
     let there = (c.run_from-g.ensures.resumes (inr yes)).fits in
     let said = says _ c.requires.packed.1 _ _ _ _ _ there _ _ c.requires.packed.2 _ (code_part c.args.source.now c.args.from) waits.inside waits.instruction.instruction waits.instruction.found in
-    ((c.requires.packed.0, c.requires.packed.1), ((waits.inside, (_, said, waits.instruction.needs)), (((_, there.ready), there.fit.slots), c.loop-code.invariant.heap_ready)))
+    record { packed = (c.requires.packed.0, c.requires.packed.1); place_lt_stop = (waits.inside, (_, said, waits.instruction.needs)); ready_on = ((_, there.ready), there.fit.slots); heap_ready = c.loop-code.invariant.heap_ready }
 
 pub overflow_sub-rest : goal.overflow_sub-rest
 overflow_sub-rest c = omega (arith, (c.run_from-g.ensures.deferred (sym c.left-waits.ensures ∙ not-false _ c.if-not-waits.false-raw)).more)

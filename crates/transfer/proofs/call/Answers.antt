@@ -14,8 +14,7 @@ returns-in_default c = let z : ◌≡◌ {A = FoundFunction} c.function-found.re
 
 pub take_arguments-alike-requires : goal.take_arguments-alike-requires
 take_arguments-alike-requires c = let is = sym (ap (function_found _ _) c.in-Record.is) ∙ c.function-found.ensures in
-    let g = c.in-Record.f in
-    ((c.requires.packed.0, function_number _ c.requires.packed.1 _ g is _ c.requires.packed.0, function_few _ c.requires.packed.1 _ g is), (param_type _ c.requires.packed.1 _ g is, c.requires.holds))
+    record { packed = (c.requires.packed.0, function_number _ c.requires.packed.1 _ c.in-Record.f is _ c.requires.packed.0, function_few _ c.requires.packed.1 _ c.in-Record.f is); by_index = param_type _ c.requires.packed.1 _ c.in-Record.f is; holds = c.requires.holds }
 
 pub returns-then-not-alike : goal.returns-then-not-alike
 returns-then-not-alike c = let is = sym (ap (function_found _ _) c.in-Record.is) ∙ c.function-found.ensures in

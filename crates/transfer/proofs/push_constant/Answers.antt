@@ -9,21 +9,15 @@ use Rattle.transfer.proofs.Constants.{number_byte, constant_number, push_nothing
 use Rattle.transfer.proofs.push_constant.Goals as goal
 
 pub returns-in_default : goal.returns-in_default
-returns-in_default c = let constant = c.constant-found in
-    let z : ◌≡◌ {A = FoundConstant} constant.result Nothing = cc in
-    λ b. push_nothing _ b _ _ _ c.requires.holds (sym constant.ensures ∙ ap slot_in z)
+returns-in_default c = let z : ◌≡◌ {A = FoundConstant} c.constant-found.result Nothing = cc in
+    λ b. push_nothing _ b _ _ _ c.requires.holds (sym c.constant-found.ensures ∙ ap slot_in z)
 
 pub push_type-requires : goal.push_type-requires
-push_type-requires c = let constant = c.constant-found in
-    let found = c.found-1 in
-    let is = sym constant.ensures ∙ ap slot_in found.given.1 in
-    let n = constant_number _ c.requires.packed.1 _ found.given.0.0 (sym is) in
+push_type-requires c = let is = sym c.constant-found.ensures ∙ ap slot_in c.in-Constant.is in
+    let n = constant_number _ c.requires.packed.1 _ c.in-Constant.v (sym is) in
     (c.requires.holds, number_byte _ n.0 n.1)
 
 pub returns : goal.returns
-returns c = let constant = c.constant-found in
-    let found = c.found-1 in
-    let push-type = c.push_type in
-    let is = sym constant.ensures ∙ ap slot_in found.given.1 in
-    let n = constant_number _ c.requires.packed.1 _ found.given.0.0 (sym is) in
-    λ b. push_number (read c.args.file.now) b c.args.k _ c.args.st.now found.given.0.0 is n.0 n.1 _ _ push-type.ensures
+returns c = let is = sym c.constant-found.ensures ∙ ap slot_in c.in-Constant.is in
+    let n = constant_number _ c.requires.packed.1 _ c.in-Constant.v (sym is) in
+    λ b. push_number (read c.args.file.now) b c.args.k _ c.args.st.now c.in-Constant.v is n.0 n.1 _ _ c.push_type.ensures

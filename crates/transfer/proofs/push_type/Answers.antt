@@ -7,5 +7,4 @@ pub returns-then-st-ge32 : goal.returns-then-st-ge32
 returns-then-st-ge32 c = push_full c.args.t _ _ c.requires.0 c.if-st-ge32.true
 
 pub returns : goal.returns
-returns c = let push = c.push in
-    push_goes _ _ _ _ push.ensures
+returns c = push_goes _ _ _ _ c.push.ensures

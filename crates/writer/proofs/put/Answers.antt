@@ -21,11 +21,8 @@ shape_of-out c = omega (arith, c.out-1.given.1, c.out-2-1.given.1, c.out-3-1.giv
 
 pub returns : goal.returns
 unfolding file_of
-returns c = let a = c.args in
-    let at-header-size = c.header_size-constants_at in
-    let cs = a.constants.now in let fs = a.functions.now in let ls = a.labels.now in let zs = a.structures.now in let code = a.code.now in
-    let h = header_of (tables a.edition cs fs ls zs code a.entry) in
-    let size : at-header-size.result ≡ header_size a.edition = at-header-size.ensures.0 in
-    let l = header_length a.edition (length cs) (length fs) (length ls) (length code) (length zs) a.entry in
-    sections a.out.now h cs fs ls code zs _ _ _ _ _ _ at-header-size.result (l ∙ sym size) c.put_header.ensures c.put_section.ensures c.put_section-2.ensures c.put_section-3.ensures c.put_section-4.ensures c.put_section-5.ensures
-    ∙ ap (λ (x : ℕ). (h ++ (cs ++ (fs ++ (ls ++ (code ++ zs))))) ++ drop (x + length cs + length fs + length ls + length code + length zs) a.out.now) size
+returns c = let h = header_of (tables c.args.edition c.args.constants.now c.args.functions.now c.args.labels.now c.args.structures.now c.args.code.now c.args.entry) in
+    let size : c.header_size-constants_at.result ≡ header_size c.args.edition = c.header_size-constants_at.ensures.0 in
+    let l = header_length c.args.edition (length c.args.constants.now) (length c.args.functions.now) (length c.args.labels.now) (length c.args.code.now) (length c.args.structures.now) c.args.entry in
+    sections c.args.out.now h c.args.constants.now c.args.functions.now c.args.labels.now c.args.code.now c.args.structures.now _ _ _ _ _ _ c.header_size-constants_at.result (l ∙ sym size) c.put_header.ensures c.put_section.ensures c.put_section-2.ensures c.put_section-3.ensures c.put_section-4.ensures c.put_section-5.ensures
+    ∙ ap (λ (x : ℕ). (h ++ (c.args.constants.now ++ (c.args.functions.now ++ (c.args.labels.now ++ (c.args.code.now ++ c.args.structures.now))))) ++ drop (x + length c.args.constants.now + length c.args.functions.now + length c.args.labels.now + length c.args.code.now + length c.args.structures.now) c.args.out.now) size

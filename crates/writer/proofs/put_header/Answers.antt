@@ -27,11 +27,9 @@ put_pair-requires-then-edition-eq4 c = let z = fourth_size c.args.edition c.if-e
     (omega (arith, z, c.requires.0, c.out-1.given, c.out-2-1.given, c.out-3-1.given, c.out-4-1.given, c.out-5-1.given, c.out-6-1.given), omega arith, omega (arith, c.requires.2), omega (arith, c.requires.2, c.requires.0))
 
 pub returns-then-edition-eq4 : goal.returns-then-edition-eq4
-returns-then-edition-eq4 c = let a = c.args in
-    header_fourth a.out.now a.edition a.constants a.functions a.labels a.code a.structures a.entry _ c.function_count-function_count.ensures.0 c.if-edition-eq4.true c.requires.0 _ _
+returns-then-edition-eq4 c = header_fourth c.args.out.now c.args.edition c.args.constants c.args.functions c.args.labels c.args.code c.args.structures c.args.entry _ c.function_count-function_count.ensures.0 c.if-edition-eq4.true c.requires.0 _ _
     (six_pairs _ _ _ _ _ _ _ _ _ _ _ _ _ _ _ _ _ _ _ c.put_pair.ensures c.put_pair-2.ensures c.put_pair-3.ensures c.put_pair-4.ensures c.put_pair-5.ensures c.put_pair-6.ensures) c.put_pair-then-edition-eq4.ensures
 
 pub returns-else-edition-eq4 : goal.returns-else-edition-eq4
-returns-else-edition-eq4 c = let a = c.args in
-    header_plain a.out.now a.edition a.constants a.functions a.labels a.code a.structures a.entry _ c.function_count-function_count.ensures.0 c.if-edition-eq4.false c.requires.0 _
+returns-else-edition-eq4 c = header_plain c.args.out.now c.args.edition c.args.constants c.args.functions c.args.labels c.args.code c.args.structures c.args.entry _ c.function_count-function_count.ensures.0 c.if-edition-eq4.false c.requires.0 _
     (six_pairs _ _ _ _ _ _ _ _ _ _ _ _ _ _ _ _ _ _ _ c.put_pair.ensures c.put_pair-2.ensures c.put_pair-3.ensures c.put_pair-4.ensures c.put_pair-5.ensures c.put_pair-6.ensures)

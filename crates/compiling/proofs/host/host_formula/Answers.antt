@@ -4,5 +4,4 @@ use Rattle.promises.specs.FormulaPromised.{host_formula_keeps}
 use Rattle.compiling.proofs.host.host_formula.Goals as goal
 
 pub returns : goal.returns
-returns c = let at-write-number = c.write_number in
-    host_formula_keeps _ _ _ _ c.formula-answer.ensures _ _ _ at-write-number.ensures.0 at-write-number.ensures.1
+returns c = host_formula_keeps _ _ _ _ c.formula-answer.ensures _ _ _ c.write_number.ensures.0 c.write_number.ensures.1

@@ -21,26 +21,13 @@ pub param-requires : goal.param-requires
 param-requires c = record { packed = c.requires.packed.0; k_lt_functions = (c.requires.k_lt_functions.0, omega (arith, few_parameters (bodies_in c.args.file.now) (functions_good c.args.file.now c.requires.packed.1) c.args.k (omega (arith, c.requires.k_lt_functions.0, function_count_lem _ _ c.requires.packed.0)), c.requires.k_lt_functions.1)) }
 
 pub kind_of-wanted-requires : goal.kind_of-wanted-requires
-kind_of-wanted-requires c = let loop = c.loop-j in
-    rw c.param.ensures.0 (parameter_type (bodies_in _) (functions_good _ c.requires.packed.1) _ _ (omega (arith, c.requires.k_lt_functions.0, function_count_lem _ _ c.requires.packed.0)) (omega (arith, loop.invariant.0, c.loop-j-test, c.requires.k_lt_functions.1)))
+kind_of-wanted-requires c = rw c.param.ensures.0 (parameter_type (bodies_in _) (functions_good _ c.requires.packed.1) _ _ (omega (arith, c.requires.k_lt_functions.0, function_count_lem _ _ c.requires.packed.0)) (omega (arith, c.loop-j.invariant.0, c.loop-j-test, c.requires.k_lt_functions.1)))
 
 pub returns-then-t-base : goal.returns-then-t-base
-returns-then-t-base c = let loop = c.loop-j in
-    let param = c.param in
-    let kind-of = c.kind_of-wanted in
-    let loop = loop in
-    let kind-of = kind-of in
-    let param = param in
-    λ p. sym (loop.invariant.1 p ∙ kinds_other _ _ p _ _ loop.j (omega arith) (λ q. c.if-t-base.true (q ∙ sym (kind-of.ensures ∙ ap (λ (b : ℕ). kind_of (ty_of b)) param.ensures.0))))
+returns-then-t-base c = λ p. sym (c.loop-j.invariant.1 p ∙ kinds_other _ _ p _ _ c.loop-j.j (omega arith) (λ q. c.if-t-base.true (q ∙ sym (c.kind_of-wanted.ensures ∙ ap (λ (b : ℕ). kind_of (ty_of b)) c.param.ensures.0))))
 
 pub loop-j-preserved : goal.loop-j-preserved
-loop-j-preserved c = let loop = c.loop-j in
-    let param = c.param in
-    let kind-of = c.kind_of-wanted in
-    let loop = loop in
-    let kind-of = kind-of in
-    let param = param in
-    (omega arith, λ p. loop.invariant.1 p ∙ kinds_same _ _ p _ _ loop.j (omega arith) (c.if-t-base.false ∙ kind-of.ensures ∙ ap (λ (b : ℕ). kind_of (ty_of b)) param.ensures.0))
+loop-j-preserved c = (omega arith, λ p. c.loop-j.invariant.1 p ∙ kinds_same _ _ p _ _ c.loop-j.j (omega arith) (c.if-t-base.false ∙ c.kind_of-wanted.ensures ∙ ap (λ (b : ℕ). kind_of (ty_of b)) c.param.ensures.0))
 
 pub returns : goal.returns
 returns c = λ p. sym (c.loop-j.invariant.1 p ∙ kinds_end _ _ p _ _ c.loop-j.j (omega arith))

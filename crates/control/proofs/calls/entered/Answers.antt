@@ -24,7 +24,5 @@ word-requires c = let f = function_in_file c.args.file.now c.args.c c.requires.0
 
 pub returns : goal.returns
 unfolding function_of
-returns c = let s = c.args.file.now in
-    let q = c.requires.0.stride_is in
-    let a = function_first s c.args.c c.requires.0 c.args.k c.requires.1 in
-    let b = function_word s c.args.c c.requires.0 c.args.k 4 c.requires.1 (omega arith) in cc
+returns c = let a = function_first c.args.file.now c.args.c c.requires.0 c.args.k c.requires.1 in
+    let b = function_word c.args.file.now c.args.c c.requires.0 c.args.k 4 c.requires.1 (omega arith) in cc

@@ -15,10 +15,8 @@ bounds-f-a-3 c = simp length-set (omega arith)
 
 pub shape_of-f : goal.shape_of-f
 unfolding opened_in
-shape_of-f c = let bind-arguments = c.bind_arguments in
-    ap length bind-arguments.ensures ∙ length_opened c.args.f.now c.args.a c.args.body c.args.base c.args.n
+shape_of-f c = ap length c.bind_arguments.ensures ∙ length_opened c.args.f.now c.args.a c.args.body c.args.base c.args.n
 
 pub returns : goal.returns
 unfolding opened_in
-returns c = let bind-arguments = c.bind_arguments in
-    bind-arguments.ensures
+returns c = c.bind_arguments.ensures

@@ -28,8 +28,7 @@ pub returns-then-v-kind_of : goal.returns-then-v-kind_of
 returns-then-v-kind_of c = λ cap k. ret_22 cap _ _ _ _ k _ (omega (arith, function_count_lem _ _ c.requires.packed.0, c.requires.packed.0.few_functions)) c.in-Record.g (rw c.wide.ensures.0 at (sym (ap (function_found _ _) c.in-Record.is) ∙ c.function-found.ensures)) c.if-g-eq0.false _ c.if-h-r.false c.slot_at-v.ensures (λ e. c.if-v-kind_of.true (e ∙ sym c.kind_of.ensures))
 
 pub put_slot-requires : goal.put_slot-requires
-put_slot-requires c = let k = c.requires.prepared.0.1 in
-    (omega (arith, c.wide-base.ensures.0, k.low, k.high, k.payloads, c.if-h-r.false), omega (arith, c.wide-base.ensures.0, k.low, k.high, k.types, c.if-h-r.false))
+put_slot-requires c = (omega (arith, c.wide-base.ensures.0, c.requires.prepared.0.1.low, c.requires.prepared.0.1.high, c.requires.prepared.0.1.payloads, c.if-h-r.false), omega (arith, c.wide-base.ensures.0, c.requires.prepared.0.1.low, c.requires.prepared.0.1.high, c.requires.prepared.0.1.types, c.if-h-r.false))
 
 pub leave-requires-2 : goal.leave-requires-2
 leave-requires-2 c = (omega (arith, c.requires.prepared.0.1.words), c.requires.prepared.0.1.whole)

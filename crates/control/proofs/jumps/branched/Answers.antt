@@ -8,5 +8,4 @@ pub returns-then-taken : goal.returns-then-taken
 returns-then-taken c = rw c.if-taken.true (ap Goes c.moved.ensures)
 
 pub returns : goal.returns
-returns c = let if1 = c.if-taken in
-    rw if1.false (ap Goes c.moved-2.ensures)
+returns c = rw c.if-taken.false (ap Goes c.moved-2.ensures)

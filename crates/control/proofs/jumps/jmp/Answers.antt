@@ -8,11 +8,8 @@ use Rattle.control.specs.declared.jumps.FoundPlace.{FoundPlace}
 use Rattle.control.proofs.jumps.jmp.Goals as goal
 
 pub returns-in_default : goal.returns-in_default
-returns-in_default c = let target = c.target-to in
-    λ cap p t k. let z : ◌≡◌ {A = FoundPlace} target.result Nothing = cc in
-    jmp_27 cap _ p t _ k _ _ (sym target.ensures ∙ ap place_of z)
+returns-in_default c = λ cap p t k. let z : ◌≡◌ {A = FoundPlace} c.target-to.result Nothing = cc in
+    jmp_27 cap _ p t _ k _ _ (sym c.target-to.ensures ∙ ap place_of z)
 
 pub returns : goal.returns
-returns c = let target = c.target-to in
-    let to = c.to-1 in
-    λ cap p t k. rw c.moved.ensures (jmp_goes cap _ p t _ k _ _ _ (sym target.ensures ∙ ap place_of to.given.1))
+returns c = λ cap p t k. rw c.moved.ensures (jmp_goes cap _ p t _ k _ _ _ (sym c.target-to.ensures ∙ ap place_of c.in-At.is))

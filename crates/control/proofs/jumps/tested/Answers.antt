@@ -9,27 +9,15 @@ use Rattle.control.specs.declared.jumps.FoundPlace.{FoundPlace}
 use Rattle.control.proofs.jumps.tested.Goals as goal
 
 pub returns-in_default : goal.returns-in_default
-returns-in_default c = let target = c.target-to in
-    λ o cap k. let z : ◌≡◌ {A = FoundPlace} target.result Nothing = cc in
-    branch_27 cap _ _ _ _ k _ _ o (sym target.ensures ∙ ap place_of z)
+returns-in_default c = λ o cap k. let z : ◌≡◌ {A = FoundPlace} c.target-to.result Nothing = cc in
+    branch_27 cap _ _ _ _ k _ _ o (sym c.target-to.ensures ∙ ap place_of z)
 
 pub returns-then-h-r : goal.returns-then-h-r
-returns-then-h-r c = let target = c.target-to in
-    let to = c.to-1 in
-    λ o cap k. branch_21 cap _ _ _ _ k _ _ o _ (sym target.ensures ∙ ap place_of to.given.1) c.if-h-r.true
+returns-then-h-r c = λ o cap k. branch_21 cap _ _ _ _ k _ _ o _ (sym c.target-to.ensures ∙ ap place_of c.in-At.is) c.if-h-r.true
 
 pub returns-in_default-x : goal.returns-in_default-x
-returns-in_default-x c = let target = c.target-to in
-    let to = c.to-1 in
-    let if1 = c.if-h-r in
-    let slot_at = c.slot_at in
-    λ o cap k. branch_22 cap _ _ _ _ k _ _ o _ (sym target.ensures ∙ ap place_of to.given.1) _ if1.false slot_at.ensures (popped_other _ _ c.value_of-x.ensures c.in_default-x.keys2)
+returns-in_default-x c = λ o cap k. branch_22 cap _ _ _ _ k _ _ o _ (sym c.target-to.ensures ∙ ap place_of c.in-At.is) _ c.if-h-r.false c.slot_at.ensures (popped_other _ _ c.value_of-x.ensures c.in_default-x.in_default-x-own.keys2)
 
 pub returns : goal.returns
-returns c = let target = c.target-to in
-    let to = c.to-1 in
-    let if1 = c.if-h-r in
-    let slot_at = c.slot_at in
-    let value_of_lem = c.value_of-x in
-    let v = popped_int _ _ (sym value_of_lem.ensures ∙ c.in-Int.is) in
-    (omega (arith, if1.false), λ o cap k. rw v.1 (branch_goes cap _ _ _ _ k _ _ o _ (sym target.ensures ∙ ap place_of to.given.1) _ if1.false slot_at.ensures v.0))
+returns c = let v = popped_int _ _ (sym c.value_of-x.ensures ∙ c.in-Int.is) in
+    (omega (arith, c.if-h-r.false), λ o cap k. rw v.1 (branch_goes cap _ _ _ _ k _ _ o _ (sym c.target-to.ensures ∙ ap place_of c.in-At.is) _ c.if-h-r.false c.slot_at.ensures v.0))

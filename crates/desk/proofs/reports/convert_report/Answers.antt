@@ -4,7 +4,7 @@ use borrow.Author.Rules.{rules}
 use Rattle.desk.proofs.reports.convert_report.Goals as goal
 
 pub returns-in-Unwritten : goal.returns-in-Unwritten
-returns-in-Unwritten c = let a = c.args in conversion_refused a.up a.file.now a.out.now _ _ _ _ _ c.convert-answer.ensures c.in-Unwritten.is c.number_text.ensures
+returns-in-Unwritten c = conversion_refused c.args.up c.args.file.now c.args.out.now _ _ _ _ _ c.convert-answer.ensures c.in-Unwritten.is c.number_text.ensures
 
 pub returns-in-Written : goal.returns-in-Written
-returns-in-Written c = let a = c.args in conversion_written a.up a.file.now a.out.now _ _ _ c.convert-answer.ensures c.in-Written.is
+returns-in-Written c = conversion_written c.args.up c.args.file.now c.args.out.now _ _ _ c.convert-answer.ensures c.in-Written.is

@@ -4,7 +4,7 @@ use borrow.Author.Rules.{rules}
 use Rattle.formula.proofs.readers.completed.Goals as goal
 
 pub returns-then-op-eq0 : goal.returns-then-op-eq0
-returns-then-op-eq0 c = let a = c.args in none_waited a.code.now a.c a.op c.if-op-eq0.true
+returns-then-op-eq0 c = none_waited c.args.code.now c.args.c c.args.op c.if-op-eq0.true
 
 pub returns : goal.returns
-returns c = let a = c.args in one_waited a.code.now _ a.c c.operated.result a.op c.if-op-eq0.false c.operated.ensures
+returns c = one_waited c.args.code.now _ c.args.c c.operated.result c.args.op c.if-op-eq0.false c.operated.ensures

@@ -21,14 +21,12 @@ pub bounds-starts-p : goal.bounds-starts-p
 bounds-starts-p c = omega (arith, c.loop-i.invariant.1)
 
 pub loop-i-preserved : goal.loop-i-preserved
-loop-i-preserved c = let at-loop = c.loop-i in
-    let e = marks_next c.args.starts.now at-loop.starts c.args.p at-loop.i at-loop.invariant.0 in
+loop-i-preserved c = let e = marks_next c.args.starts.now c.loop-i.starts c.args.p c.loop-i.i c.loop-i.invariant.0 in
     (e, ap length e ∙ length_marks _ _ _, omega arith)
 
 pub shape_of-starts : goal.shape_of-starts
 shape_of-starts c = c.loop-i.invariant.1
 
 pub returns : goal.returns
-returns c = let at-loop = c.loop-i in
-    let n : at-loop.i ≡ 16 = omega arith in
-    record { starts_after = λ e. at-loop.invariant.0 ∙ ap (marks c.args.starts.now c.args.p) n; starts_unchanged = λ e. absurd (true≢false e) }
+returns c = let n : c.loop-i.i ≡ 16 = omega arith in
+    record { starts_after = λ e. c.loop-i.invariant.0 ∙ ap (marks c.args.starts.now c.args.p) n; starts_unchanged = λ e. absurd (true≢false e) }

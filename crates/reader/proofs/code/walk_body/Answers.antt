@@ -17,51 +17,33 @@ pub loop-p-init : goal.loop-p-init
 loop-p-init c = (c.requires.cut, refl, λ h. absurd (omega arith), omega arith, omega arith)
 
 pub skip-p-requires : goal.skip-p-requires
-skip-p-requires c = let at-loop = c.loop-p in
-    let at-opcode-size = c.opcode_size-size in
-    let at_mark = c.mark in
-    let s = c.args.code.now in let ed = c.args.edition in let p = at-loop.p in let z = at-opcode-size.result in let t = at-loop.starts in
-    let e = at-opcode-size.ensures.0 in
-    let m : at_mark.new.0 ≡ set t p 1 = at_mark.ensures in
-    let one : z ≡ 1 = ⊎_elim (λ w. w.0.taken) (λ w. absurd (omega arith)) c.if-size-eq1.branch in
-    record { from_le_to = (omega arith, omega arith, c.requires.from_le_to.2, c.requires.from_le_to.3); cut = subst (λ (x : List ℕ). Cut ed s (p + z) x) (sym m) (cut_step ed s p z t at-loop.invariant.0 e (omega arith)) }
+skip-p-requires c = let m : c.mark.new.starts ≡ set c.loop-p.starts c.loop-p.p 1 = c.mark.ensures in
+    let one : c.opcode_size-size.result ≡ 1 = ⊎_elim (λ w. w.0.taken) (λ w. absurd (omega arith)) c.if-size-eq1.branch in
+    record { from_le_to = (omega arith, omega arith, c.requires.from_le_to.2, c.requires.from_le_to.3); cut = subst (λ (x : List ℕ). Cut c.args.edition c.args.code.now (c.loop-p.p + c.opcode_size-size.result) x) (sym m) (cut_step c.args.edition c.args.code.now c.loop-p.p c.opcode_size-size.result c.loop-p.starts c.loop-p.invariant.0 c.opcode_size-size.ensures.0 (omega arith)) }
 
 pub loop-p-preserved-then-wait-eq0 : goal.loop-p-preserved-then-wait-eq0
-loop-p-preserved-then-wait-eq0 c = let at-loop = c.loop-p in
-    let at_mark = c.mark in
-    let at-skip = c.skip-p in
-    let t = at-loop.starts in let p = at-loop.p in
-    let m : at_mark.new.0 ≡ set t p 1 = at_mark.ensures in
-    (at-skip.ensures.1.1, at-skip.ensures.1.0 ∙ ap length m ∙ length-set t p 1 ∙ at-loop.invariant.1, λ h. absurd (omega arith), omega arith, omega arith)
+loop-p-preserved-then-wait-eq0 c = let m : c.mark.new.starts ≡ set c.loop-p.starts c.loop-p.p 1 = c.mark.ensures in
+    (c.skip-p.ensures.cut_2, c.skip-p.ensures.starts_len_unchanged ∙ ap length m ∙ length-set c.loop-p.starts c.loop-p.p 1 ∙ c.loop-p.invariant.1, λ h. absurd (omega arith), omega arith, omega arith)
 
 pub loop-p-preserved : goal.loop-p-preserved
-loop-p-preserved c = let at-loop = c.loop-p in
-    let at-opcode-size = c.opcode_size-size in
-    let at_mark = c.mark in
-    let s = c.args.code.now in let ed = c.args.edition in let p = at-loop.p in let z = at-opcode-size.result in let t = at-loop.starts in
-    let e = at-opcode-size.ensures.0 in
-    let m : at_mark.new.0 ≡ set t p 1 = at_mark.ensures in
-    let some : 0 < z = omega arith in (
-      subst (λ (x : List ℕ). Cut ed s (p + z) x) (sym m) (cut_step ed s p z t at-loop.invariant.0 e some),
-      ap length m ∙ length-set t p 1 ∙ at-loop.invariant.1,
-      λ h. crosses ed s p z c.args.to at-loop.invariant.0.begins e some c.loop-p-test.true h,
+loop-p-preserved c = let m : c.mark.new.starts ≡ set c.loop-p.starts c.loop-p.p 1 = c.mark.ensures in
+    let some : 0 < c.opcode_size-size.result = omega arith in (
+      subst (λ (x : List ℕ). Cut c.args.edition c.args.code.now (c.loop-p.p + c.opcode_size-size.result) x) (sym m) (cut_step c.args.edition c.args.code.now c.loop-p.p c.opcode_size-size.result c.loop-p.starts c.loop-p.invariant.0 c.opcode_size-size.ensures.0 some),
+      ap length m ∙ length-set c.loop-p.starts c.loop-p.p 1 ∙ c.loop-p.invariant.1,
+      λ h. crosses c.args.edition c.args.code.now c.loop-p.p c.opcode_size-size.result c.args.to c.loop-p.invariant.0.begins c.opcode_size-size.ensures.0 some c.loop-p-test.true h,
       omega arith,
       ⊎_elim (λ w. omega arith) (λ w. omega arith) c.if-size-eq1.branch,
     )
 
 pub shape_of-starts : goal.shape_of-starts
-shape_of-starts c = let at-loop = c.loop-p in
-    ⊎_elim (λ w. ap length w.1 ∙ at-loop.invariant.1) (λ w. ap length w.8 ∙ ap length w.2.ensures ∙ length-set at-loop.starts at-loop.p 1 ∙ at-loop.invariant.1)
+shape_of-starts c = ⊎_elim (λ w. ap length w.1 ∙ c.loop-p.invariant.1) (λ w. ap length w.8 ∙ ap length w.2.ensures ∙ length-set c.loop-p.starts c.loop-p.p 1 ∙ c.loop-p.invariant.1)
     c.loop-p-test.branch
 
 pub returns : goal.returns
-returns c = let at-loop = c.loop-p in
-    let s = c.args.code.now in let ed = c.args.edition in let p = at-loop.p in let to = c.args.to in let now = c.loop-p-test.starts in
-    let cut = at-loop.invariant.0 in
-    ⊎_elim
-    (λ w. (ap length w.1 ∙ at-loop.invariant.1, subst (λ (x : List ℕ). Walked (eqb p to) ed s to x) (sym w.1) (walked ed s p to at-loop.starts cut w.0.left at-loop.invariant.2)))
+returns c = ⊎_elim
+    (λ w. (ap length w.1 ∙ c.loop-p.invariant.1, subst (λ (x : List ℕ). Walked (eqb c.loop-p.p c.args.to) c.args.edition c.args.code.now c.args.to x) (sym w.1) (walked c.args.edition c.args.code.now c.loop-p.p c.args.to c.loop-p.starts c.loop-p.invariant.0 w.0.left c.loop-p.invariant.2)))
     (λ w. (
-      ap length w.8 ∙ ap length w.2.ensures ∙ length-set at-loop.starts p 1 ∙ at-loop.invariant.1,
-      stopped ed s p w.6.result to now cut.begins w.6.ensures.0 w.7.taken w.0.taken,
+      ap length w.8 ∙ ap length w.2.ensures ∙ length-set c.loop-p.starts c.loop-p.p 1 ∙ c.loop-p.invariant.1,
+      stopped c.args.edition c.args.code.now c.loop-p.p w.6.result c.args.to c.loop-p-test.starts c.loop-p.invariant.0.begins w.6.ensures.0 w.7.taken w.0.taken,
     ))
     c.loop-p-test.branch

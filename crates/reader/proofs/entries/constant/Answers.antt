@@ -13,7 +13,6 @@ use Rattle.reader.proofs.Pool.{pool_constant}
 use Rattle.reader.proofs.entries.constant.Goals as goal
 
 pub returns : goal.returns
-returns c = let s = c.args.file.now in let d = c.args.c in let k = c.args.k in
-    c.pooled.ensures
-    ∙ ap (λ (l : List ℕ). within (ltb k d.constants) (constant_of l k)) (take_all (length s - d.pool) (drop d.pool s) (simp length-drop (omega arith)))
-    ∙ pool_constant s d c.requires k
+returns c = c.pooled.ensures
+    ∙ ap (λ (l : List ℕ). within (ltb c.args.k c.args.c.constants) (constant_of l c.args.k)) (take_all (length c.args.file.now - c.args.c.pool) (drop c.args.c.pool c.args.file.now) (simp length-drop (omega arith)))
+    ∙ pool_constant c.args.file.now c.args.c c.requires c.args.k

@@ -13,9 +13,8 @@ use Rattle.reader.proofs.entries.function.Goals as goal
 
 pub returns-then-c-k : goal.returns-then-c-k
 unfolding module_of
-returns-then-c-k c = let s = c.args.file.now in
-    let n = function_count_lem s c.args.c (c.requires) in
-    let h : function_count (edition s) (functions_in s) ≤ c.args.k = omega arith in simp (le-ltb _ _ h)
+returns-then-c-k c = let n = function_count_lem c.args.file.now c.args.c (c.requires) in
+    let h : function_count (edition c.args.file.now) (functions_in c.args.file.now) ≤ c.args.k = omega arith in simp (le-ltb _ _ h)
 
 pub overflow_mul-at : goal.overflow_mul-at
 overflow_mul-at c = let f = function_in_file c.args.file.now c.args.c (c.requires) c.args.k c.if-c-k.false in let m = stride_small c.args.file.now c.args.c (c.requires) c.args.k c.if-c-k.false in omega arith
@@ -49,7 +48,6 @@ bounds-file-at-2 c = let f = function_in_file c.args.file.now c.args.c (c.requir
 
 pub returns : goal.returns
 unfolding module_of
-returns c = let s = c.args.file.now in let k = c.args.k in let d = c.args.c in
-    let n = function_count_lem s d (c.requires) in
-    let h : k < function_count (edition s) (functions_in s) = omega arith in
-    simp (lt-ltb _ _ h) (function_found_lem s d (c.requires) k _ _ _ _ c.if-c-k.false c.word-start.ensures.0 c.word-length.ensures.0 refl refl)
+returns c = let n = function_count_lem c.args.file.now c.args.c (c.requires) in
+    let h : c.args.k < function_count (edition c.args.file.now) (functions_in c.args.file.now) = omega arith in
+    simp (lt-ltb _ _ h) (function_found_lem c.args.file.now c.args.c (c.requires) c.args.k _ _ _ _ c.if-c-k.false c.word-start.ensures.0 c.word-length.ensures.0 refl refl)

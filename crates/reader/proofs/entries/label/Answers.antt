@@ -10,13 +10,11 @@ use Rattle.reader.proofs.entries.label.Goals as goal
 
 pub returns-then-c-k : goal.returns-then-c-k
 unfolding module_of
-returns-then-c-k c = let s = c.args.file.now in
-    let l = labels_length s c.args.c (c.requires) in
-    let h : label_count (labels_in s) ≤ c.args.k = omega arith in simp (le-ltb _ _ h)
+returns-then-c-k c = let l = labels_length c.args.file.now c.args.c (c.requires) in
+    let h : label_count (labels_in c.args.file.now) ≤ c.args.k = omega arith in simp (le-ltb _ _ h)
 
 pub returns : goal.returns
 unfolding module_of
-returns c = let s = c.args.file.now in let k = c.args.k in
-    let l = labels_length s c.args.c (c.requires) in
-    let h : k < label_count (labels_in s) = omega arith in
-    simp (lt-ltb _ _ h) (label_found s c.args.c (c.requires) k _ _ (omega arith) c.word-owner.ensures.0 c.word-place.ensures.0)
+returns c = let l = labels_length c.args.file.now c.args.c (c.requires) in
+    let h : c.args.k < label_count (labels_in c.args.file.now) = omega arith in
+    simp (lt-ltb _ _ h) (label_found c.args.file.now c.args.c (c.requires) c.args.k _ _ (omega arith) c.word-owner.ensures.0 c.word-place.ensures.0)

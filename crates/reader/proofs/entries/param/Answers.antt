@@ -29,10 +29,9 @@ bounds-file-at c = let f = function_in_file c.args.file.now c.args.c c.requires.
 
 pub returns : goal.returns
 unfolding function_of
-returns c = let s = c.args.file.now in let k = c.args.k in let j = c.args.j in let fs = functions_in s in let d = c.args.c in
-    let a : d.stride * k ≡ function_at (edition s) k = ap (λ (n : ℕ). n * k) c.requires.packed.stride_is in
-    let q : d.stride * k + (10 + j) ≡ function_at (edition s) k + 10 + j = omega arith in
-    let r : d.records + d.stride * k + (10 + j) ≡ d.records + d.stride * k + 10 + j = omega arith in
-    let e : get_or s (d.records + d.stride * k + 10 + j) 0 ≡ byte fs (function_at (edition s) k + 10 + j) =
-    sym (ap (byte fs) (sym q) ∙ function_byte s d c.requires.packed k (10 + j) c.requires.k_lt_functions.0 (omega arith) ∙ ap (byte s) r) in
-    (e, λ l. param_at fs (function_at (edition s) k + 10) (byte fs (function_at (edition s) k + 8)) j l ∙ ap (λ (b : ℕ). some (ty_of b)) (sym e))
+returns c = let fs = functions_in c.args.file.now in let a : c.args.c.stride * c.args.k ≡ function_at (edition c.args.file.now) c.args.k = ap (λ (n : ℕ). n * c.args.k) c.requires.packed.stride_is in
+    let q : c.args.c.stride * c.args.k + (10 + c.args.j) ≡ function_at (edition c.args.file.now) c.args.k + 10 + c.args.j = omega arith in
+    let r : c.args.c.records + c.args.c.stride * c.args.k + (10 + c.args.j) ≡ c.args.c.records + c.args.c.stride * c.args.k + 10 + c.args.j = omega arith in
+    let e : get_or c.args.file.now (c.args.c.records + c.args.c.stride * c.args.k + 10 + c.args.j) 0 ≡ byte fs (function_at (edition c.args.file.now) c.args.k + 10 + c.args.j) =
+    sym (ap (byte fs) (sym q) ∙ function_byte c.args.file.now c.args.c c.requires.packed c.args.k (10 + c.args.j) c.requires.k_lt_functions.0 (omega arith) ∙ ap (byte c.args.file.now) r) in
+    (e, λ l. param_at fs (function_at (edition c.args.file.now) c.args.k + 10) (byte fs (function_at (edition c.args.file.now) c.args.k + 8)) c.args.j l ∙ ap (λ (b : ℕ). some (ty_of b)) (sym e))

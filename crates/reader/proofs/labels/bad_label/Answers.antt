@@ -12,19 +12,14 @@ pub owned-mine-requires : goal.owned-mine-requires
 owned-mine-requires c = (c.requires.filled.fits.few_functions, c.requires.filled.counted)
 
 pub returns-then-not-mine : goal.returns-then-not-mine
-returns-then-not-mine c = let at-owned = c.owned-mine in
-    let B = bodies c.args.edition c.args.functions.now [] c.args.code.now c.args.entry in
-    not_owned B c.args.labels.now c.args.i _ _ c.word-owner.ensures.0 c.word-place.ensures.0 (sym at-owned.ensures ∙ not-true at-owned.result c.if-not-mine.true-raw)
+returns-then-not-mine c = let B = bodies c.args.edition c.args.functions.now [] c.args.code.now c.args.entry in
+    not_owned B c.args.labels.now c.args.i _ _ c.word-owner.ensures.0 c.word-place.ensures.0 (sym c.owned-mine.ensures ∙ not-true c.owned-mine.result c.if-not-mine.true-raw)
 
 pub bounds-starts-place : goal.bounds-starts-place
-bounds-starts-place c = let at-owned = c.owned-mine in
-    omega (arith, owned_inside c.args.edition _ _ _ _ c.requires.filled c.word-owner.result c.word-place.result (sym at-owned.ensures ∙ not-false at-owned.result c.if-not-mine.false-raw))
+bounds-starts-place c = omega (arith, owned_inside c.args.edition _ _ _ _ c.requires.filled c.word-owner.result c.word-place.result (sym c.owned-mine.ensures ∙ not-false c.owned-mine.result c.if-not-mine.false-raw))
 
 pub returns : goal.returns
-returns c = let at-owned = c.owned-mine in
-    let at-word = c.word-owner in
-    let at-word2 = c.word-place in
-    let B = bodies c.args.edition c.args.functions.now [] c.args.code.now c.args.entry in
-    let h = sym at-owned.ensures ∙ not-false at-owned.result c.if-not-mine.false-raw in
-    let l = owned_inside c.args.edition _ _ _ _ c.requires.filled at-word.result at-word2.result h in
-    owned_marked B c.args.labels.now c.args.i _ _ at-word.ensures.0 at-word2.ensures.0 h _ c.requires.i_in_bounds.1 (omega arith) (omega arith)
+returns c = let B = bodies c.args.edition c.args.functions.now [] c.args.code.now c.args.entry in
+    let h = sym c.owned-mine.ensures ∙ not-false c.owned-mine.result c.if-not-mine.false-raw in
+    let l = owned_inside c.args.edition _ _ _ _ c.requires.filled c.word-owner.result c.word-place.result h in
+    owned_marked B c.args.labels.now c.args.i _ _ c.word-owner.ensures.0 c.word-place.ensures.0 h _ c.requires.starts_exactly (omega arith) (omega arith)

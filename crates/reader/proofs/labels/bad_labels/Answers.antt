@@ -12,7 +12,7 @@ pub loop-i-init : goal.loop-i-init
 loop-i-init c = (omega arith, some_none _)
 
 pub bad_label-b-requires : goal.bad_label-b-requires
-bad_label-b-requires c = (c.requires.filled, ((omega arith, c.requires.code_in_bounds.0 (omega arith)), c.requires.code_in_bounds.1))
+bad_label-b-requires c = record { filled = c.requires.filled; i_in_bounds = (omega arith, c.requires.code_in_bounds (omega arith)); starts_exactly = c.requires.starts_exactly }
 
 pub loop-i-preserved : goal.loop-i-preserved
 loop-i-preserved c = (omega arith, some_more _ _ _ _ c.loop-i.invariant.1 c.bad_label-b.ensures)

@@ -18,9 +18,7 @@ pub word-len-requires : goal.word-len-requires
 word-len-requires c = let f = record_from c.args.edition _ c.args.owner _ _ c.function_size-size.ensures.0 c.requires.1 c.if-owner-n.true in let m = stride_under _ c.args.owner c.function_size-size.ensures.2 in omega arith
 
 pub returns-then-owner-n : goal.returns-then-owner-n
-returns-then-owner-n c = let n-is = c.requires.1 in
-    owns_function c.args.edition c.args.functions.now c.args.entry c.requires.0 _ c.args.owner c.args.place _ _ c.function_size-size.ensures.0 (omega (arith, c.if-owner-n.true)) c.word-start.ensures.0 c.word-len.ensures.0
+returns-then-owner-n c = owns_function c.args.edition c.args.functions.now c.args.entry c.requires.0 _ c.args.owner c.args.place _ _ c.function_size-size.ensures.0 (omega (arith, c.if-owner-n.true)) c.word-start.ensures.0 c.word-len.ensures.0
 
 pub returns : goal.returns
-returns c = let n-is = c.requires.1 in
-    owns_entry c.args.edition c.args.functions.now c.args.entry c.args.owner c.args.place (omega (arith, c.if-owner-n.false))
+returns c = owns_entry c.args.edition c.args.functions.now c.args.entry c.args.owner c.args.place (omega (arith, c.if-owner-n.false))

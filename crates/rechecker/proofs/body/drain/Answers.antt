@@ -27,7 +27,7 @@ pub returns-in_default : goal.returns-in_default
 returns-in_default c = drained _ _ _ _ _ _ c.requires.working _ _ c.loop-k.invariant.0 (sym c.first-found.ensures ∙ c.in_default.is)
 
 pub visit-whole-requires : goal.visit-whole-requires
-visit-whole-requires c = (draining_works _ _ _ _ _ _ c.requires.working _ _ c.loop-k.invariant.0, ((next_is _ _ _ _ _ _ c.requires.working _ _ c.loop-k.invariant.0 _ (sym c.first-found.ensures ∙ c.in-Node.is), c.loop-k.invariant.1 ∙ c.requires.st_len.0), c.requires.st_len.1))
+visit-whole-requires c = record { working = draining_works _ _ _ _ _ _ c.requires.working _ _ c.loop-k.invariant.0; next = (next_is _ _ _ _ _ _ c.requires.working _ _ c.loop-k.invariant.0 _ (sym c.first-found.ensures ∙ c.in-Node.is), c.loop-k.invariant.1 ∙ c.requires.st_len); keyed = c.requires.keyed }
 
 pub shape_of-room-then-not-whole : goal.shape_of-room-then-not-whole
 shape_of-room-then-not-whole c = c.visit-whole.ensures.grows.long ∙ c.loop-k.invariant.0.grows.long

@@ -7,7 +7,7 @@ use borrow.Author.Rules.{rules}
 use Rattle.rechecker.proofs.flags.judge.Goals as goal
 
 pub check_body-requires : goal.check_body-requires
-check_body-requires c = (fresh_works _ _ _ _ (replicate 514 0) c.requires.ready.0 _ c.requires.ready.1 (length-replicate {A = ℕ} 514 0) _ c.owner_of-owner.ensures.1 (zeros_at 514), (refl, c.requires.keyed))
+check_body-requires c = record { working = fresh_works _ _ _ _ (replicate 514 0) c.requires.ready.0 _ c.requires.ready.1 (length-replicate {A = ℕ} 514 0) _ c.owner_of-owner.ensures.1 (zeros_at 514); st_len = refl; keyed = c.requires.keyed }
 
 pub returns : goal.returns
 returns c = judged _ _ _ _ (replicate 514 0) c.requires.ready.0 _ c.requires.ready.1 (length-replicate {A = ℕ} 514 0) c.owner_of-owner.result c.owner_of-owner.ensures.1 _ _ _ c.check_body.ensures

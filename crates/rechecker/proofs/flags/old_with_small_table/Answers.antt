@@ -17,4 +17,4 @@ pub translate-requires : goal.translate-requires
 translate-requires c = omega (arith, part_long _ _ c.requires.lends.packed c.requires.file_value.0, c.requires.file_value.1)
 
 pub with_small_table-requires : goal.with_small_table-requires
-with_small_table-requires c = (c.requires.lends, (c.requires.file_value.1, lent_first _ _ c.requires.lends.packed c.requires.lends.readable c.requires.file_value.0 _ c.translate.ensures))
+with_small_table-requires c = record { lends = c.requires.lends; extent_bound = c.requires.file_value.1; keyed = lent_first _ _ c.requires.lends.packed c.requires.lends.readable c.requires.file_value.0 _ c.translate.ensures }

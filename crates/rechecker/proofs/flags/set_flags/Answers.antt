@@ -24,10 +24,10 @@ pub slice_bounds-code-end : goal.slice_bounds-code-end
 slice_bounds-code-end c = omega (arith, c.requires.packed.whole)
 
 pub with_small_table-requires : goal.with_small_table-requires
-with_small_table-requires c = (c.requires, (c.if-c-lt512-2.true, lent_file _ _ c.requires.packed c.requires.readable (λ e. c.if-edition-eq1.false (c.word-edition.ensures.0 ∙ e))))
+with_small_table-requires c = record { lends = c.requires; extent_bound = c.if-c-lt512-2.true; keyed = lent_file _ _ c.requires.packed c.requires.readable (λ e. c.if-edition-eq1.false (c.word-edition.ensures.0 ∙ e)) }
 
 pub with_middle_table-requires : goal.with_middle_table-requires
-with_middle_table-requires c = (c.requires, (c.if-c-lt4096.true, lent_file _ _ c.requires.packed c.requires.readable (λ e. c.if-edition-eq1.false (c.word-edition.ensures.0 ∙ e))))
+with_middle_table-requires c = record { lends = c.requires; extent_bound = c.if-c-lt4096.true; keyed = lent_file _ _ c.requires.packed c.requires.readable (λ e. c.if-edition-eq1.false (c.word-edition.ensures.0 ∙ e)) }
 
 pub with_large_table-requires : goal.with_large_table-requires
 with_large_table-requires c = record { lends = c.requires; keyed = lent_file _ _ c.requires.packed c.requires.readable (λ e. c.if-edition-eq1.false (c.word-edition.ensures.0 ∙ e)) }

@@ -8,4 +8,4 @@ pub slice_bounds-flags-end : goal.slice_bounds-flags-end
 slice_bounds-flags-end c = refl
 
 pub flags-requires : goal.flags-requires
-flags-requires c = (ready_new _ _ _ _ _ _ 16384 c.requires.lends c.requires.tabled.0 (omega (arith, c.requires.lends.packed.few_labels)), (c.requires.lends, c.requires.tabled.1))
+flags-requires c = record { ready = ready_new _ _ _ _ _ _ 16384 c.requires.lends c.requires.tabled (omega (arith, c.requires.lends.packed.few_labels)); lends = c.requires.lends; keyed = c.requires.keyed }

@@ -8,4 +8,4 @@ pub slice_bounds-with_table-end : goal.slice_bounds-with_table-end
 slice_bounds-with_table-end c = refl
 
 pub with_table-requires : goal.with_table-requires
-with_table-requires c = (c.requires.lends, ((omega (arith, c.requires.lends.packed.little_code), zeros_at 16385), c.requires.keyed))
+with_table-requires c = record { lends = c.requires.lends; extent_in_bounds = (omega (arith, c.requires.lends.packed.little_code), zeros_at 16385); keyed = c.requires.keyed }

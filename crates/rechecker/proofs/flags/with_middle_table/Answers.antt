@@ -8,4 +8,4 @@ pub slice_bounds-with_table-end : goal.slice_bounds-with_table-end
 slice_bounds-with_table-end c = refl
 
 pub with_table-requires : goal.with_table-requires
-with_table-requires c = (c.requires.lends, ((c.requires.extent_bound.0, zeros_at 4096), c.requires.extent_bound.1))
+with_table-requires c = record { lends = c.requires.lends; extent_in_bounds = (c.requires.extent_bound, zeros_at 4096); keyed = c.requires.keyed }

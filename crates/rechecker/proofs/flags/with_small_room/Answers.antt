@@ -8,4 +8,4 @@ pub slice_bounds-flags-end : goal.slice_bounds-flags-end
 slice_bounds-flags-end c = refl
 
 pub flags-requires : goal.flags-requires
-flags-requires c = (ready_new _ _ _ _ _ _ 512 c.requires.lends c.requires.tabled.0.0 (omega (arith, c.requires.tabled.0.1)), (c.requires.lends, c.requires.tabled.1))
+flags-requires c = record { ready = ready_new _ _ _ _ _ _ 512 c.requires.lends c.requires.tabled.0 (omega (arith, c.requires.tabled.1)); lends = c.requires.lends; keyed = c.requires.keyed }

@@ -4,4 +4,4 @@ use borrow.Author.Rules.{rules}
 use Rattle.rechecker.proofs.recording.with_large_table.Goals as goal
 
 pub record_with-requires : goal.record_with-requires
-record_with-requires c = (c.requires.recordable, ((omega (arith, c.requires.recordable.packed.little_code), zeros_at 16385), c.requires.keyed))
+record_with-requires c = record { recordable = c.requires.recordable; extent_in_bounds = (omega (arith, c.requires.recordable.packed.little_code), zeros_at 16385); keyed = c.requires.keyed }

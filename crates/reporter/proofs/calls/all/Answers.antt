@@ -15,7 +15,7 @@ pub loop-i-init : goal.loop-i-init
 loop-i-init c = (refl, omega arith, c.requires.filled, refl)
 
 pub row-most-requires : goal.row-most-requires
-row-most-requires c = ((row_ready c.args.file.now c.args.c c.args.table.now c.args.room.now c.requires.asks.0 c.loop-i.owner c.loop-i.i c.loop-i.invariant.0 c.loop-i.invariant.1, c.requires.asks.1), (row_room c.args.file.now c.args.c c.args.table.now c.args.room.now c.requires.asks.0 c.loop-i.owner c.loop-i.i c.loop-i.invariant.0 c.loop-i.invariant.1 _ _ _ _ c.loop-i.invariant.2, (c.requires.asks.0.shown, row_fresh c.args.file.now c.args.c c.args.table.now c.args.room.now c.requires.asks.0 c.loop-i.owner c.loop-i.i c.loop-i.invariant.0 c.loop-i.invariant.1 _ _ _ _ c.loop-i.invariant.2)))
+row-most-requires c = record { ready = (row_ready c.args.file.now c.args.c c.args.table.now c.args.room.now c.requires.asks.0 c.loop-i.owner c.loop-i.i c.loop-i.invariant.0 c.loop-i.invariant.1, c.requires.asks.1); i_bound = row_room c.args.file.now c.args.c c.args.table.now c.args.room.now c.requires.asks.0 c.loop-i.owner c.loop-i.i c.loop-i.invariant.0 c.loop-i.invariant.1 _ _ _ _ c.loop-i.invariant.2; shown = (c.requires.asks.0.shown, row_fresh c.args.file.now c.args.c c.args.table.now c.args.room.now c.requires.asks.0 c.loop-i.owner c.loop-i.i c.loop-i.invariant.0 c.loop-i.invariant.1 _ _ _ _ c.loop-i.invariant.2) }
 
 pub overflow_cast-own : goal.overflow_cast-own
 overflow_cast-own c = omega (arith, row_low c.args.file.now c.args.c c.args.table.now c.args.room.now c.requires.asks.0 c.loop-i.owner c.loop-i.i c.loop-i.invariant.0 c.loop-i.invariant.1 _ _ _ _ c.loop-i.invariant.2 _ _ _ _ c.row-most.ensures)

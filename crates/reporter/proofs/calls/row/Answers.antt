@@ -10,7 +10,7 @@ use Rattle.climb.proofs.heights.body.Reads as body-Reads
 use Rattle.reporter.proofs.calls.row.Goals as goal
 
 pub body-requires : goal.body-requires
-body-requires c = record { ready = (c.requires.ready.0, c.requires.ready.1); shown = (c.requires.i_bound.1.0, same_part (λ (r : List ℕ). Fresh c.args.file.now (body_of c.args.owner) c.args.marks.now c.args.grounds.now r) c.args.offsets.now c.args.i c.requires.i_bound.1.1) }
+body-requires c = record { ready = (c.requires.ready.0, c.requires.ready.1); shown = (c.requires.shown.0, same_part (λ (r : List ℕ). Fresh c.args.file.now (body_of c.args.owner) c.args.marks.now c.args.grounds.now r) c.args.offsets.now c.args.i c.requires.shown.1) }
 
 pub returns : goal.returns
-returns c = (c.body.new.1.1.1.1.1.1.0, row_is c.args.offsets.now c.body.new.1.1.1.1.1.1.0 c.args.i, c.body.ensures)
+returns c = (c.body.new.row, row_is c.args.offsets.now c.body.new.row c.args.i, c.body.ensures)
