@@ -109,4 +109,4 @@ returns-in-51 c =
 pub returns-in_default-key : goal.returns-in_default-key
 returns-in_default-key c =
     let start = begin c in
-    no_other _ _ _ _ (sym (byte_there c)) c.in_default-key.rest start.pre.1.0.1.1 start.pre.1.0.1.2
+    no_other _ _ _ _ (sym (byte_there c)) c.in_default-key.in_default-key-own.rest start.pre.1.0.1.1 start.pre.1.0.1.2

@@ -12,4 +12,4 @@ pub returns-in-98 : goal.returns-in-98
 returns-in-98 c = simp c.in-98.is
 
 pub returns-in_default : goal.returns-in_default
-returns-in_default c = unnamed c.args.c c.in_default.rest.0.0.1 c.in_default.rest.0.1 c.in_default.rest.1
+returns-in_default c = unnamed c.args.c c.in_default.in_default-own.rest.0.0.1 c.in_default.in_default-own.rest.0.1 c.in_default.in_default-own.rest.1
