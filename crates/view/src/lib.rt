@@ -16,8 +16,7 @@ pub struct Module<'a> {
     pub counts: Sections,
 }
 
-// Each accessor takes the view apart for a function of the reader: the borrow checker covers no function over a struct that
-// holds a reference, and so the work stands where it is covered.
+// Each accessor takes the view apart for a function of the reader.
 impl<'a> Module<'a> {
     // The view of a file that was opened with these counts.
     pub fn of(bytes: &'a [u8], counts: Sections) -> Module<'a>
@@ -51,7 +50,7 @@ impl<'a> Module<'a> {
     }
 }
 
-// The same on a lent file and its counts, for callers that hold no view: they are covered.
+// The same on a lent file and its counts, for callers that hold no view.
 pub fn constant(file: &[u8], c: Sections, k: usize) -> FoundConstant
     requires { Packed file.now c }
     ensures { slot_in result ≡ (read file.now).constant k }

@@ -18,7 +18,7 @@ put_slot-requires c =
 
 pub loop-i-preserved : goal.loop-i-preserved
 loop-i-preserved c =
-    (omega arith, copied_more _ _ _ _ _ _ _ _ _ c.loop-i.invariant.1 (omega arith) (omega arith) _ c.slot_at-v.ensures (omega (arith, c.slot_at-v.type-inv)) c.put_slot.ensures.0 c.put_slot.ensures.1)
+    (omega arith, copied_more _ _ _ _ _ _ _ _ _ c.loop-i.invariant.1 (omega arith) (omega arith) _ c.slot_at-v.ensures (omega (arith, c.slot_at-v.type_inv)) c.put_slot.ensures.0 c.put_slot.ensures.1)
 
 pub shape_of-p : goal.shape_of-p
 shape_of-p c = c.loop-i.invariant.1.same_payloads

@@ -38,4 +38,4 @@ overflow_add-h c =
 
 pub returns : goal.returns
 returns c =
-    λ m sh f k. rw (c.moved.ensures, ← c.operand-n.ensures) (new_is m _ _ f _ _ k _ _ _ _ _ c.requires.heap_ready sh _ _ (some_width _ _ _ c.size_of-width.ensures.0 c.if-width-eq0.false) c.new-grant.result c.kind_of.result c.kind_of.ensures _ _ _ _ _ c.if-cap-h.false (given_at_lem c.args.g.now c.args.managed c.size_of-width.result (size_in c.args.d.now c.operand-n.result) (slots_of c.args.p.now c.args.t.now c.args.r.height) c.shelf.ensures c.size_of-width.ensures.0 c.new-grant.ensures) c.keep.ensures.0 c.keep.ensures.1 c.put_slot.ensures.0 c.put_slot.ensures.1 (omega (arith, c.new-grant.type-inv)))
+    λ m sh f k. rw (c.moved.ensures, ← c.operand-n.ensures) (new_is m _ _ f _ _ k _ _ _ _ _ c.requires.heap_ready sh _ _ (some_width _ _ _ c.size_of-width.ensures.0 c.if-width-eq0.false) c.new-grant.result c.kind_of.result c.kind_of.ensures _ _ _ _ _ c.if-cap-h.false (given_at_lem c.args.g.now c.args.managed c.size_of-width.result (size_in c.args.d.now c.operand-n.result) (slots_of c.args.p.now c.args.t.now c.args.r.height) c.shelf.ensures c.size_of-width.ensures.0 c.new-grant.ensures) c.keep.ensures.0 c.keep.ensures.1 c.put_slot.ensures.0 c.put_slot.ensures.1 (omega (arith, c.new-grant.type_inv)))

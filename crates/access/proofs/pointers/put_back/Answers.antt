@@ -8,7 +8,7 @@ use Rattle.access.proofs.pointers.put_back.Goals as goal
 
 pub returns-in-Yields : goal.returns-in-Yields
 returns-in-Yields c =
-    rw c.in-Yields.is (ap Goes c.moved.ensures, rw (← c.payload_of.ensures) c.put.ensures, subst (λ (n : ℕ). n < 2 ^ 64) c.payload_of.ensures (omega (arith, c.payload_of.type-inv)))
+    rw c.in-Yields.is (ap Goes c.moved.ensures, rw (← c.payload_of.ensures) c.put.ensures, subst (λ (n : ℕ). n < 2 ^ 64) c.payload_of.ensures (omega (arith, c.payload_of.type_inv)))
 
 pub returns-in-Raises : goal.returns-in-Raises
 returns-in-Raises c =

@@ -28,7 +28,7 @@ overflow_add-r-in-At c =
 
 pub returns-else-v-old : goal.returns-else-v-old
 returns-else-v-old c =
-    λ m sh f k. rw c.moved.ensures (tstore_is m _ _ _ _ f _ _ _ _ _ k c.requires.heap_ready c.if-h-r.false _ _ c.slot_at-w.ensures c.slot_at-v.ensures _ _ (names_at _ _ _ _ _ _ _ _ _ _ c.number_of-x.ensures m sh _ _ c.in-At.is) _ _ c.if-v-old.false (omega (arith, c.slot_at-v.type-inv)) c.put.ensures)
+    λ m sh f k. rw c.moved.ensures (tstore_is m _ _ _ _ f _ _ _ _ _ k c.requires.heap_ready c.if-h-r.false _ _ c.slot_at-w.ensures c.slot_at-v.ensures _ _ (names_at _ _ _ _ _ _ _ _ _ _ c.number_of-x.ensures m sh _ _ c.in-At.is) _ _ c.if-v-old.false (omega (arith, c.slot_at-v.type_inv)) c.put.ensures)
 
 pub returns-in-Nowhere : goal.returns-in-Nowhere
 returns-in-Nowhere c =

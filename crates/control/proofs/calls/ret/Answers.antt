@@ -37,4 +37,4 @@ pub returns : goal.returns
 returns c = λ cap k. rw (c.leave-2.ensures, c.wide-base.ensures.0)
     (ret_value cap _ _ _ _ k _ (omega (arith, function_count_lem _ _ c.requires.packed.0, c.requires.packed.0.few_functions)) c.in-Record.g (rw c.wide.ensures.0 at (sym (ap (function_found _ _) c.in-Record.is) ∙ c.function-found.ensures)) c.if-g-eq0.false _ c.if-h-r.false c.slot_at-v.ensures _ _
     (⊎_elim (λ x. x.3.left ∙ x.1.ensures) (λ x. top_kind _ _ _ _ _ _ c.if-h-r.false c.slot_at-v.ensures c.requires.prepared.1 (returned _ c.requires.packed.1 _ c.in-Record.g (sym (ap (function_found _ _) c.in-Record.is) ∙ c.function-found.ensures) c.if-g-eq0.false) x.left) c.if-v-g.branch)
-    (rw c.wide-base.ensures.0 at c.put_slot.ensures.0) (rw c.wide-base.ensures.0 at c.put_slot.ensures.1) (omega (arith, c.slot_at-v.type-inv)))
+    (rw c.wide-base.ensures.0 at c.put_slot.ensures.0) (rw c.wide-base.ensures.0 at c.put_slot.ensures.1) (omega (arith, c.slot_at-v.type_inv)))

@@ -21,4 +21,4 @@ returns-then-v-old c = λ f k. assigned_22 _ _ _ _ f k _ c.if-h-r.false _ _ c.sl
 
 pub returns : goal.returns
 returns c = λ f k. rw c.moved.ensures (assigned_is _ _ _ _ f k _ c.if-h-r.false _ _ c.slot_at-v.ensures c.if-h-s.false c.slot_at-old.ensures _ c.if-v-old.false
-    (c.store64.ensures ∙ payloads_are _ _ c.slot_at-v.result) (omega (arith, c.slot_at-v.type-inv)))
+    (c.store64.ensures ∙ payloads_are _ _ c.slot_at-v.result) (omega (arith, c.slot_at-v.type_inv)))

@@ -21,4 +21,4 @@ pub returns : goal.returns
 returns c =
     λ m f k. inl (rw c.moved.ensures (tload_is _ _ _ _ f k m c.if-h-r.false _ c.slot_at-from.ensures _ _ _
     (is_pointer_lem (kind_at _ _ _ _ c.requires.place_lt_stop.1 (omega (arith, c.if-h-r.false)) c.slot_at-from.ensures) c.if-from-lt7.false)
-    (omega (arith, c.if-h-from.false)) c.slot_at-v.ensures c.put_slot.ensures.0 c.put_slot.ensures.1 (omega (arith, c.slot_at-v.type-inv))))
+    (omega (arith, c.if-h-from.false)) c.slot_at-v.ensures c.put_slot.ensures.0 c.put_slot.ensures.1 (omega (arith, c.slot_at-v.type_inv))))

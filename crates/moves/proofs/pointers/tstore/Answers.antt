@@ -41,4 +41,4 @@ returns c =
     λ m f k. inl (rw c.moved.ensures (tstore_is _ _ _ _ f k m c.if-h-r.false _ c.slot_at-to.ensures
     (is_pointer_lem (kind_at _ _ _ _ c.requires.place_lt_stop.1 (omega (arith, c.if-h-r.false)) c.slot_at-to.ensures) c.if-to-lt7.false)
     (omega (arith, c.if-h-to.false)) _ _ c.slot_at-v.ensures c.slot_at-old.ensures _ c.if-v-old.false
-    (c.store64.ensures ∙ payloads_are _ _ c.slot_at-v.result) (omega (arith, c.slot_at-v.type-inv))))
+    (c.store64.ensures ∙ payloads_are _ _ c.slot_at-v.result) (omega (arith, c.slot_at-v.type_inv))))

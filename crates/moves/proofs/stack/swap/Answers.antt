@@ -18,4 +18,4 @@ returns-then-a-b c = λ m f k. swap_22 _ _ _ _ f k m _ _ c.if-h-r.false c.slot_a
 
 pub returns : goal.returns
 returns c = λ m f k. rw c.moved.ensures (swap_is _ _ _ _ f k m _ _ c.if-h-r.false c.slot_at-a.ensures c.slot_at-b.ensures _ _ c.if-a-b.false
-    (omega (arith, c.slot_at-a.type-inv)) (omega (arith, c.slot_at-b.type-inv)) (c.store64.ensures ∙ payloads_are _ _ c.slot_at-b.result) (c.store64-2.ensures ∙ payloads_are _ _ c.slot_at-a.result))
+    (omega (arith, c.slot_at-a.type_inv)) (omega (arith, c.slot_at-b.type_inv)) (c.store64.ensures ∙ payloads_are _ _ c.slot_at-b.result) (c.store64-2.ensures ∙ payloads_are _ _ c.slot_at-a.result))

@@ -16,7 +16,7 @@ returns-in-Yields c =
       (
         c.store64.ensures ∙ ap (written 8 _ _) c.payload_of.ensures,
         subst (λ (n : ℕ). n < 2 ^ 64)
-            c.payload_of.ensures (omega (arith, c.payload_of.type-inv)),
+            c.payload_of.ensures (omega (arith, c.payload_of.type_inv)),
       ),
     )
 

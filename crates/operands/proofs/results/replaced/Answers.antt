@@ -16,7 +16,7 @@ returns-in-Yields c =
         (
           c.put_slot.ensures.0 ∙ ap (payloads_with _ _) c.slot_of.ensures,
           subst (λ (s : Slot). s.payload < 2 ^ 64)
-              c.slot_of.ensures (omega (arith, c.slot_of.type-inv)),
+              c.slot_of.ensures (omega (arith, c.slot_of.type_inv)),
         ),
       ),
       c.put_slot.ensures.1 ∙ ap (types_with _ _)

@@ -5,19 +5,20 @@ use borrow.Author.Rules.{rules}
 use Rattle.values.specs.Values.{gives}
 use Rattle.values.proofs.Cases.{int_apart, long_apart, double_apart, pointer_apart}
 use Rattle.values.proofs.Order.{cmp_unlike, cmp_ints, cmp_longs, cmp_doubles, cmp_nan, cmp_across, cmp_pointers}
+use borrow.Enum.Refused.{opened}
 use Rattle.values.proofs.comparison.icmp_values.Goals as goal
 
 pub returns-in_default : goal.returns-in_default
 returns-in_default c =
-    cmp_unlike true (int_apart c.args.b c.in-Int.is c.in_default.in_default-own.keys2) refl
+    cmp_unlike true (int_apart c.args.b c.in-Int.is (opened c.in_default.in_default-own.keys2)) refl
 
 pub returns-in_default-b : goal.returns-in_default-b
 returns-in_default-b c =
-    cmp_unlike true (long_apart c.args.b c.in-Long.is c.in_default-b.in_default-b-own.keys2) refl
+    cmp_unlike true (long_apart c.args.b c.in-Long.is (opened c.in_default-b.in_default-b-own.keys2)) refl
 
 pub returns-in_default-b-2 : goal.returns-in_default-b-2
 returns-in_default-b-2 c =
-    cmp_unlike true (double_apart c.args.b c.in-Double.is c.in_default-b-2.in_default-b-2-own.keys2) refl
+    cmp_unlike true (double_apart c.args.b c.in-Double.is (opened c.in_default-b-2.in_default-b-2-own.keys2)) refl
 
 pub returns-then-unordered : goal.returns-then-unordered
 returns-then-unordered c =
@@ -25,7 +26,7 @@ returns-then-unordered c =
 
 pub returns-in_default-b-3 : goal.returns-in_default-b-3
 returns-in_default-b-3 c =
-    cmp_unlike true (pointer_apart c.args.b c.in-Pointer.is c.in_default-b-3.in_default-b-3-own.keys2) refl
+    cmp_unlike true (pointer_apart c.args.b c.in-Pointer.is (opened c.in_default-b-3.in_default-b-3-own.keys2)) refl
 
 pub returns-then-g-h : goal.returns-then-g-h
 returns-then-g-h c =
