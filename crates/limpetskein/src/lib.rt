@@ -13,8 +13,8 @@ ghost use Rattle.promises.specs.ConvertPromises.{UpKeeps, DownKeeps};
 
 use rules::{CheckAnswer, NeedAnswer, RecordingAnswer, RunAnswer, WriteAnswer};
 
-mod host;
-mod host_map;
+pub mod host;
+pub mod host_map;
 pub mod map;
 
 // The check of any bytes in the lent room, of which 64 bytes a label are used.
