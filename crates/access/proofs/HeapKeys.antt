@@ -17,6 +17,7 @@ use Rattle.soundness.specs.Walks.{size_some}
 use Rattle.soundness.specs.Framed.{heapless}
 use Rattle.soundness.specs.Numbering.{key_table}
 use Rattle.keys.specs.Keys.{decoded, Says, Outside, each, among_any}
+use Rattle.keys.specs.declared.Decoded.{Decoded as Answer}
 use Rattle.keys.specs.declared.Decoded.TheVariants as Decoded
 use Rattle.keys.proofs.Places.{at_end_lem, at_key, says_key}
 use Rattle.keys.proofs.Chain.{outside}
@@ -26,6 +27,11 @@ use Rattle.keys.proofs.Chain.{outside}
 -- its key, as it is decoded, is its byte
 pub byte_is : (code : List ℕ) (q stop b : ℕ) → decoded code q stop ≡ Decoded.Instruction b → (i : Instruction) → Says code q i → byte code q ≡ b
 byte_is code q stop b e i s = sym (says_key code q i s) ∙ sym (at_key code q stop b e).1
+
+-- where one that needs a heap is known to stand
+pub byte_at : (code : List ℕ) (q stop b : ℕ) {x : Answer} → x ≡ decoded code q stop → x ≡ Decoded.Instruction b → (i : Instruction) × Says code q i × (heapless i ≡ false)
+    → byte code q ≡ b
+byte_at code q stop b e is s = byte_is code q stop b (sym e ∙ is) s.0 s.1
 
 -- j of the word behind it, which one that stands alone does not read
 module _ (code : List ℕ) (q k : ℕ) (j : ℕ → Instruction) (key : byte code q ≡ k) (is : (w : ℕ) → instruction_of (opcode_of key_table k) w ≡ some (j w)) (i : Instruction) (s : Says code q i) where

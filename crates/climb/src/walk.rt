@@ -218,7 +218,12 @@ pub fn walk(
             height = height + x % 8 - 2;
             most = crate::waits::larger(most, height);
             if met(table, at, end) {
-                crate::waits::arrive(nodes::table::node_at(table, at) - 1, ground_level, marks, grounds);
+                crate::waits::arrive(
+                    nodes::table::node_at(table, at) - 1,
+                    ground_level,
+                    marks,
+                    grounds,
+                );
                 return most;
             }
             continue;
@@ -248,7 +253,12 @@ pub fn walk(
         height = t.height;
         most = crate::waits::larger(most, height);
         if met(table, at, end) {
-            crate::waits::arrive(nodes::table::node_at(table, at) - 1, ground_level, marks, grounds);
+            crate::waits::arrive(
+                nodes::table::node_at(table, at) - 1,
+                ground_level,
+                marks,
+                grounds,
+            );
             return most;
         }
     }

@@ -15,7 +15,6 @@ use Rattle.rules.specs.Reading.{Lead, numeral, letter, sign, opening, closing, l
 use Rattle.rules.specs.Formula.{numbers, Step, negate, operate, postfix, assembled, step_bytes, ints, need, sign_bytes}
 use Rattle.grammar.specs.Steps.{factor_suc, factor_number, factor_name}
 use Rattle.formula.specs.Tokens.{Capped, Leads, AfterMinuses, negatives, Follow, Signs}
-use Rattle.formula.specs.declared.tokens.Follow.TheVariants as Follow
 use Rattle.formula.specs.Readers.{Cursor, Answer, Bad, Read, Ready, AfterSign, Wrote, Enough, TooDeep, PartIs, FactorIs, SumIs, bracketed_of, BracketedIs, Signed, Completed, Negated}
 use Rattle.formula.proofs.DepthLaws.{onward_some, closed_group, minuses, depth_minuses, negatives_read, negatives_some}
 

@@ -15,7 +15,6 @@ use Rattle.rules.specs.Grammar.{Sign, plus, dash, star, slash, Digit, is_r, is_g
 use Rattle.rules.specs.Reading.{is_digit, skip, digits, Lead, numeral, letter, sign, opening, closing, nothing, lead, mark_of, Part, closed_by, factor_of, product_sign, sum_sign, factor}
 use Rattle.grammar.specs.Steps.{digit_is, digits_on, lead_digit, lead_sum, lead_product, lead_name, lead_open, lead_close, factor_suc}
 use Rattle.formula.specs.Tokens.{Skipped, Capped, Grown, Counted, Leads, name_of, Plain, negatives, Follow, SumFollow, ProductFollow, CloseFollow}
-use Rattle.formula.specs.declared.tokens.Follow.TheVariants as Follow
 
 front : (s : List ℕ) (i : ℕ) → i < length s → drop i s ≡ get_or s i 0 ∷ drop (i + 1) s
 front s i h = rw (add-one i) (drop-cons s i 0 h)
@@ -192,6 +191,3 @@ minus_more s at n r q l h e p g f =
     let k : n + 1 + f ≡ n + suc f = omega arith in
     let d : Leads s r q (sign dash) = leads_sum s r q h p e is_dash in
     rw (k, add-one n) (g (suc f) ∙ ap (negatives n) (factor_suc f (drop r s) ∙ rw d.is refl))
-
-pub unnamed : (c : ℕ) → c ≢ 114 → c ≢ 103 → c ≢ 98 → 3 ≡ name_of c
-unnamed c p q r = rw (eqb_other c 114 p, eqb_other c 103 q, eqb_other c 98 r) refl

@@ -1,12 +1,11 @@
 -- One row over its callees, one by one.
 use mathlib.Core.Path.{◌≡◌, refl, sym, ap, ◌∙◌, subst}
 use mathlib.Core.Logic.{◌⊎◌, inl, inr}
-use Prim.Native.Nat.{ℕ, zero, suc, ◌+◌, ◌*◌, ◌≤◌, ◌<◌, ◌-◌, max}
+use Prim.Native.Nat.{ℕ, zero, suc, ◌+◌, ◌≤◌, ◌<◌, ◌-◌, max}
 use native.Mathlib.Omega.{arith}
-use mathlib.Core.Bool.{Bool, true, false}
 use mathlib.Core.List.{List}
-use lib.ListN.{length, get_or}
-use lib.Dec.{leb, ltb, eqb}
+use lib.ListN.{get_or}
+use lib.Dec.{leb, ltb}
 use Rattle.soundness.specs.Tests.{decide, leb_is, leb_isnt, ltb_is, ltb_isnt}
 use Rattle.settle.specs.Graph.{offset_at, NextCall, Joined, Callees}
 

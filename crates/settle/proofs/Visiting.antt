@@ -1,13 +1,13 @@
 -- The laws of a visit, one a return.
 use mathlib.Core.Path.{◌≡◌, refl, sym, ap, ◌∙◌, subst}
 use mathlib.Core.Logic.{◌⊎◌, inl, inr}
-use Prim.Native.Nat.{ℕ, zero, suc, ◌+◌, ◌*◌, ◌≤◌, ◌<◌}
+use Prim.Native.Nat.{ℕ, zero, suc, ◌+◌, ◌≤◌, ◌<◌}
 use native.Mathlib.Omega.{arith}
-use mathlib.Core.Bool.{Bool, true, false, not, ◌&&◌}
+use mathlib.Core.Bool.{Bool, true, false, ◌&&◌}
 use mathlib.Core.List.{List, [], ◌∷◌}
 use lib.ListN.{length, get_or, set, length-set}
 use lib.Seq.{get_or-set_same, get_or-set_other}
-use lib.Dec.{leb, ltb, eqb}
+use lib.Dec.{ltb, eqb}
 use Rattle.soundness.specs.Tests.{decide, eqb_is, eqb_isnt, ltb_is, ltb_isnt, and_both, false_true}
 use Rattle.settle.specs.Graph.{offset_at, NextCall, Joined, Callees, Need, made, Way, stays, calls, Loops, back, on, Low, Sizes, Settled, Open, Kept, Visited, Grown, Reached, Ended, mark_of, unseen}
 
@@ -255,10 +255,6 @@ visited_from n own off marks marks' need' frames' b i m W₀ =
 pub looked : (n : ℕ) (own off : List ℕ) (b left : ℕ) (marks₀ : List ℕ) (k : ℕ) (ok : Bool) (marks need frames : List ℕ) → n ≤ k → Looking n own off b left marks₀ k ok marks need frames
     → Looking n own off b left marks₀ n ok marks need frames
 looked n own off b left marks₀ k ok marks need frames h L = let z : k ≡ n = let w : k ≤ n = L.bound in omega arith in subst (λ i. Looking n own off b left marks₀ i ok marks need frames) z L
-
-pub not_true : (x : Bool) → not x ≡ true → x ≡ false
-not_true true e = sym e
-not_true false e = refl
 
 -- ---- all rows
 

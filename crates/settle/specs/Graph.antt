@@ -1,12 +1,11 @@
 -- A table of calls: row 0 is the entry's, row 1 + k function k's, 128 entries a row. Entry k is 0 where function k is not called, else one more than where its
 -- first argument lies at most. own: the largest own height of each row's body.
-use Rattle.std.specs.Prelude.{◌≡◌, refl, ◌⊎◌, ℕ, zero, suc, ◌+◌, ◌*◌, ◌≤◌, ◌<◌, Bool, true, false, cond, List, [], ◌∷◌, length, get_or, set, ltb}
-use Rattle.std.proofs.Common.{sym, ap, ◌∙◌, subst, inl, inr, arith}
-use Rattle.std.proofs.Math.Option.{Option, none, some}
+use Rattle.std.specs.Prelude.{◌≡◌, ◌⊎◌, ℕ, zero, suc, ◌+◌, ◌*◌, ◌≤◌, ◌<◌, Bool, true, false, cond, List, [], ◌∷◌, length, get_or, ltb}
+use Rattle.std.proofs.Common.{inl, inr, arith}
 use Rattle.soundness.specs.Tests.{decide, ltb_is, ltb_yes}
 use Rattle.rules.specs.Tables.{Body, entry, fn, Module}
 use Rattle.rules.specs.Need.{Calls, Needs, Chain, stay, then_call, Recursive}
-use Rattle.need.specs.Settle.{Summed, Joins, settles}
+use Rattle.need.specs.Settle.{Summed, settles}
 
 abbrev pub offset_at : List ℕ → ℕ → ℕ → ℕ
 offset_at off b k = get_or off (128 * b + k) 0

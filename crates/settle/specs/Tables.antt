@@ -1,12 +1,12 @@
 -- What the code's marks, needs and frames say of the module whose table it was given.
-use Rattle.std.specs.Prelude.{◌≡◌, refl, ◌⊎◌, ℕ, zero, suc, ◌+◌, ◌*◌, ◌≤◌, ◌<◌, List, length, get_or, eqb}
-use Rattle.std.proofs.Common.{sym, ap, ◌∙◌, subst, inl, inr, arith}
+use Rattle.std.specs.Prelude.{◌≡◌, refl, ◌⊎◌, ℕ, zero, suc, ◌+◌, ◌*◌, ◌≤◌, ◌<◌, List, get_or, eqb}
+use Rattle.std.proofs.Common.{inl, inr, arith}
 use Rattle.soundness.specs.Tests.{decide, eqb_is, eqb_isnt}
-use Rattle.rules.specs.Tables.{Body, entry, fn, Module}
+use Rattle.rules.specs.Tables.{Body, Module}
 use Rattle.rules.specs.Typing.{WellTyped}
 use Rattle.rules.specs.Need.{Calls, Needs, Recursive}
 use Rattle.need.specs.Whole.{few_frames, low_need}
-use Rattle.settle.specs.Graph.{Need, Loops, TableOf, need_is, loops_is, row_of, Low, Ended, mark_of}
+use Rattle.settle.specs.Graph.{TableOf, need_is, loops_is, row_of, Low, Ended, mark_of}
 
 -- the needs of an accepted module fit
 pub table_low : (m : Module) (acc : WellTyped m) (n : ℕ) (own off : List ℕ) → n ≤ 128 → ((b : Body) (k : ℕ) → Calls m b k → k < n) → TableOf m n own off → Low n own off

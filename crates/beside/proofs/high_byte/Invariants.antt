@@ -9,7 +9,7 @@ use native.Mathlib.Omega.{arith}
 use Rattle.beside.proofs.high_byte.Given as goal
 
 abbrev pub invariant-loop-i : goal.invariant-loop-i
-invariant-loop-i l = (l.i ≤ l.bodies) × (l.high ≡ some_below l.i (λ l.i. ltb 1 (byte l.beside (8 + l.i))))
+invariant-loop-i l = (l.i ≤ l.bodies) × (l.high ≡ some_below l.i (λ i. ltb 1 (byte l.beside (8 + i))))
 
 abbrev pub decreases-loop-i : goal.decreases-loop-i
 decreases-loop-i l = l.bodies - l.i

@@ -1,4 +1,5 @@
 -- The proof of `convert::in_third_with`.
+use native.Mathlib.Omega.{arith}
 use mathlib.Core.Path.{refl, sym, ◌∙◌}
 use borrow.Author.Rules.{rules}
 use Rattle.reader.proofs.Opening.{tables_same}
@@ -8,7 +9,7 @@ use Rattle.convert.proofs.Down.{has_profile, not_down, goes_down}
 use Rattle.convert.proofs.in_third_with.Goals as goal
 
 pub lower-profiles-requires : goal.lower-profiles-requires
-lower-profiles-requires c = (c.lower-arg-2-1.given.2 ∙ (third_places c.args.file.now c.args.c c.requires.0.packed c.requires.0.fourth).table, c.lower-arg-1.given.2 ∙ from_front _)
+lower-profiles-requires c = (omega (arith, (third_places c.args.file.now c.args.c c.requires.0.packed c.requires.0.fourth).table), omega arith)
 
 pub returns-then-profiles : goal.returns-then-profiles
 returns-then-profiles c = not_down c.args.file.now c.args.c (has_profile (tables_in c.args.file.now) (sym (profiles_lent c.args.file.now c.args.c c.requires.0.packed c.requires.0.fourth _ c.lower-profiles.ensures.value) ∙ c.if-profiles.true))

@@ -1,4 +1,5 @@
 -- The proof of `convert::put_fourth`.
+use native.Mathlib.Omega.{arith}
 use Prim.Native.Nat.{ℕ, ◌+◌, ◌*◌, ◌≤◌}
 use mathlib.Core.Path.{sym, ◌∙◌, subst}
 use borrow.Author.Rules.{rules}
@@ -24,7 +25,7 @@ pub slice_bounds-raise-end : goal.slice_bounds-raise-end
 slice_bounds-raise-end c = subst (λ (n : ℕ). c.args.c.records + 8 + 24 * c.args.c.functions ≤ n) (sym (c.out-2-1.given.1 ∙ c.out-1.given.1)) (up_places c.args.file.now c.args.c c.requires.0 c.requires.1 _ c.requires.2).labels_end
 
 pub raise-requires : goal.raise-requires
-raise-requires c = (c.raise-arg-2-1.given.2 ∙ (up_places c.args.file.now c.args.c c.requires.0 c.requires.1 _ c.requires.2).table, c.raise-arg-1.given.2 ∙ (up_places c.args.file.now c.args.c c.requires.0 c.requires.1 _ c.requires.2).room)
+raise-requires c = (omega (arith, (up_places c.args.file.now c.args.c c.requires.0 c.requires.1 _ c.requires.2).table), omega (arith, (up_places c.args.file.now c.args.c c.requires.0 c.requires.1 _ c.requires.2).room))
 
 pub slice_bounds-put_section-count-3 : goal.slice_bounds-put_section-count-3
 slice_bounds-put_section-count-3 c = (up_places c.args.file.now c.args.c c.requires.0 c.requires.1 _ c.requires.2).rest_at
@@ -39,7 +40,7 @@ pub slice_bounds-put_section-start-4 : goal.slice_bounds-put_section-start-4
 slice_bounds-put_section-start-4 c = (up_places c.args.file.now c.args.c c.requires.0 c.requires.1 _ c.requires.2).rest_from
 
 pub put_section-requires-2 : goal.put_section-requires-2
-put_section-requires-2 c = c.put_section-arg-3-1.given.2 ∙ (up_places c.args.file.now c.args.c c.requires.0 c.requires.1 _ c.requires.2).rest ∙ sym c.put_section-arg-4-1.given.2
+put_section-requires-2 c = omega (arith, (up_places c.args.file.now c.args.c c.requires.0 c.requires.1 _ c.requires.2).rest)
 
 pub shape_of-out : goal.shape_of-out
 shape_of-out c = c.out-4-1.given.1 ∙ c.out-3-1.given.1 ∙ c.out-2-1.given.1 ∙ c.out-1.given.1

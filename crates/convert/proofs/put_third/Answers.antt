@@ -1,4 +1,5 @@
 -- The proof of `convert::put_third`.
+use native.Mathlib.Omega.{arith}
 use Prim.Native.Nat.{ℕ, ◌+◌, ◌-◌, ◌*◌, ◌≤◌}
 use mathlib.Core.Path.{sym, ◌∙◌, subst}
 use lib.ListN.{length}
@@ -37,7 +38,7 @@ pub slice_bounds-lower-end : goal.slice_bounds-lower-end
 slice_bounds-lower-end c = subst (λ (n : ℕ). c.args.c.records - 8 + 20 * c.args.c.functions ≤ n) (sym (c.out-2-1.given.1 ∙ c.out-1.given.1)) (down_places c.args.file.now c.args.c c.requires.0 c.requires.1 _ c.requires.3).labels_end
 
 pub lower-requires : goal.lower-requires
-lower-requires c = (c.lower-arg-2-1.given.2 ∙ (down_places c.args.file.now c.args.c c.requires.0 c.requires.1 _ c.requires.3).table, c.lower-arg-1.given.2 ∙ (down_places c.args.file.now c.args.c c.requires.0 c.requires.1 _ c.requires.3).room)
+lower-requires c = (omega (arith, (down_places c.args.file.now c.args.c c.requires.0 c.requires.1 _ c.requires.3).table), omega (arith, (down_places c.args.file.now c.args.c c.requires.0 c.requires.1 _ c.requires.3).room))
 
 pub slice_bounds-put_section-count-3 : goal.slice_bounds-put_section-count-3
 slice_bounds-put_section-count-3 c = (down_places c.args.file.now c.args.c c.requires.0 c.requires.1 _ c.requires.3).rest_at
@@ -55,7 +56,7 @@ pub slice_bounds-put_section-start-4 : goal.slice_bounds-put_section-start-4
 slice_bounds-put_section-start-4 c = (down_places c.args.file.now c.args.c c.requires.0 c.requires.1 _ c.requires.3).rest_from
 
 pub put_section-requires-2 : goal.put_section-requires-2
-put_section-requires-2 c = c.put_section-arg-3-1.given.2 ∙ (down_places c.args.file.now c.args.c c.requires.0 c.requires.1 _ c.requires.3).rest ∙ sym c.put_section-arg-4-1.given.2
+put_section-requires-2 c = omega (arith, (down_places c.args.file.now c.args.c c.requires.0 c.requires.1 _ c.requires.3).rest)
 
 pub shape_of-out : goal.shape_of-out
 shape_of-out c = c.out-4-1.given.1 ∙ c.out-3-1.given.1 ∙ c.out-2-1.given.1 ∙ c.out-1.given.1

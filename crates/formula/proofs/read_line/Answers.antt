@@ -3,12 +3,6 @@ use Rattle.formula.specs.Readers.{SumIs}
 use native.Mathlib.Omega.{arith}
 use mathlib.Core.List.{[]}
 use mathlib.Core.Path.{subst}
-use borrow.Author.Rules.{rules}
-use Rattle.formula.proofs.read_line.Reads as reads
-use Rattle.formula.proofs.read_line.Lts as lts
-use Rattle.formula.proofs.readers.operated.Reads as operated-reads
-use Rattle.formula.proofs.readers.sum.Reads as sum-reads
-use Rattle.formula.proofs.tokens.skip.Reads as skip-reads
 use Rattle.formula.proofs.read_line.Goals as goal
 
 pub returns-in_default : goal.returns-in_default

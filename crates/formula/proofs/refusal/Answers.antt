@@ -1,10 +1,6 @@
 use Rattle.formula.proofs.LineLaws.{formula_41, formula_42}
 use Rattle.formula.specs.Scans.{ScanIs}
 use mathlib.Core.Path.{subst}
-use borrow.Author.Rules.{rules}
-use Rattle.formula.proofs.refusal.Reads as reads
-use Rattle.formula.proofs.refusal.Lts as lts
-use Rattle.formula.proofs.scan.scan_line.Reads as scan-line-reads
 use Rattle.formula.proofs.refusal.Goals as goal
 
 pub returns-in-Stops : goal.returns-in-Stops

@@ -1,6 +1,5 @@
 -- The proof of `formula::stop`.
 use mathlib.Core.Path.{subst}
-use borrow.Author.Rules.{rules}
 use Rattle.grammar.specs.Scanned.{reads_stops}
 use Rattle.formula.specs.Scans.{ScanIs}
 use Rattle.formula.proofs.stop.Goals as goal

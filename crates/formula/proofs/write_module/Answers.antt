@@ -1,7 +1,6 @@
 -- The proof of `formula::write_module`.
 use Rattle.formula.proofs.LineLaws.{module_short, module_written}
 use native.Mathlib.Omega.{arith}
-use borrow.Author.Rules.{rules}
 use Rattle.formula.proofs.write_module.Goals as goal
 
 pub returns-then-out-length : goal.returns-then-out-length

@@ -68,31 +68,31 @@ pub loop-key-smaller : goal.loop-key-smaller
 loop-key-smaller c = omega (arith, c.if-rest-eq0.false)
 
 pub loop-key-preserved : goal.loop-key-preserved
-loop-key-preserved c = let k = at_key _ _ _ _ (sym c.decode-decoded.ensures ∙ c.in-Instruction.is) in goes_on _ _ _ _ _ _ _ _ _ _ _ _ _ c.loop-key.invariant k.0 c.if-rest-eq0.false _ _ _ c.step-a.auto.1.1.1.1.1.1.1.1.1.0 _ (rw c.in-Goes.is at (stepped _ c.loop-key.invariant.module_is.1 _ _ _ _ _ c.loop-key.invariant.fits _ _ c.requires.keyed.0 _ (code_part c.args.source.now c.args.from) k.0 _ _ _ _ c.step-a.ensures))
+loop-key-preserved c = let k = at_key _ _ _ _ (sym c.decode-decoded.ensures ∙ c.in-Instruction.is) in goes_on _ _ _ _ _ _ _ _ _ _ _ _ _ c.loop-key.invariant k.0 c.if-rest-eq0.false _ _ _ c.step-a.auto.f _ (rw c.in-Goes.is at (stepped _ c.loop-key.invariant.module_is.1 _ _ _ _ _ c.loop-key.invariant.fits _ _ c.requires.keyed.0 _ (code_part c.args.source.now c.args.from) k.0 _ _ _ _ c.step-a.ensures))
 
 pub overflow_sub-rest-in-Finishes : goal.overflow_sub-rest-in-Finishes
 overflow_sub-rest-in-Finishes c = omega (arith, c.if-rest-eq0.false)
 
 pub shape_of-p-in-Finishes : goal.shape_of-p-in-Finishes
-shape_of-p-in-Finishes c = c.step-a.auto.1.1.1.1.1.1.1.0 ∙ c.loop-key.invariant.same_p
+shape_of-p-in-Finishes c = c.step-a.auto.p ∙ c.loop-key.invariant.same_p
 
 pub shape_of-t-in-Finishes : goal.shape_of-t-in-Finishes
-shape_of-t-in-Finishes c = c.step-a.auto.1.1.1.1.1.1.1.1.0 ∙ c.loop-key.invariant.same_t
+shape_of-t-in-Finishes c = c.step-a.auto.t ∙ c.loop-key.invariant.same_t
 
 pub shape_of-f-in-Finishes : goal.shape_of-f-in-Finishes
-shape_of-f-in-Finishes c = c.step-a.auto.1.1.1.1.1.1.1.1.1.0 ∙ c.loop-key.invariant.same_f
+shape_of-f-in-Finishes c = c.step-a.auto.f ∙ c.loop-key.invariant.same_f
 
 pub returns-in-Finishes : goal.returns-in-Finishes
-returns-in-Finishes c = let k = at_key _ _ _ _ (sym c.decode-decoded.ensures ∙ c.in-Instruction.is) in rw c.ending-in-Finishes.ensures (returned _ _ _ _ _ _ _ _ _ _ _ _ _ c.loop-key.invariant k.0 c.if-rest-eq0.false _ _ _ c.step-a.auto.1.1.1.1.1.1.1.1.1.0 _ (rw c.in-Finishes.is at (stepped _ c.loop-key.invariant.module_is.1 _ _ _ _ _ c.loop-key.invariant.fits _ _ c.requires.keyed.0 _ (code_part c.args.source.now c.args.from) k.0 _ _ _ _ c.step-a.ensures)))
+returns-in-Finishes c = let k = at_key _ _ _ _ (sym c.decode-decoded.ensures ∙ c.in-Instruction.is) in rw c.ending-in-Finishes.ensures (returned _ _ _ _ _ _ _ _ _ _ _ _ _ c.loop-key.invariant k.0 c.if-rest-eq0.false _ _ _ c.step-a.auto.f _ (rw c.in-Finishes.is at (stepped _ c.loop-key.invariant.module_is.1 _ _ _ _ _ c.loop-key.invariant.fits _ _ c.requires.keyed.0 _ (code_part c.args.source.now c.args.from) k.0 _ _ _ _ c.step-a.ensures)))
 
 pub shape_of-p-in-Stops : goal.shape_of-p-in-Stops
-shape_of-p-in-Stops c = c.step-a.auto.1.1.1.1.1.1.1.0 ∙ c.loop-key.invariant.same_p
+shape_of-p-in-Stops c = c.step-a.auto.p ∙ c.loop-key.invariant.same_p
 
 pub shape_of-t-in-Stops : goal.shape_of-t-in-Stops
-shape_of-t-in-Stops c = c.step-a.auto.1.1.1.1.1.1.1.1.0 ∙ c.loop-key.invariant.same_t
+shape_of-t-in-Stops c = c.step-a.auto.t ∙ c.loop-key.invariant.same_t
 
 pub shape_of-f-in-Stops : goal.shape_of-f-in-Stops
-shape_of-f-in-Stops c = c.step-a.auto.1.1.1.1.1.1.1.1.1.0 ∙ c.loop-key.invariant.same_f
+shape_of-f-in-Stops c = c.step-a.auto.f ∙ c.loop-key.invariant.same_f
 
 pub returns-in-Stops : goal.returns-in-Stops
-returns-in-Stops c = let k = at_key _ _ _ _ (sym c.decode-decoded.ensures ∙ c.in-Instruction.is) in rw c.ending-in-Stops.ensures (stopped _ _ _ _ _ _ _ _ _ _ _ _ _ c.loop-key.invariant k.0 c.if-rest-eq0.false _ _ _ c.step-a.auto.1.1.1.1.1.1.1.1.1.0 _ (rw c.in-Stops.is at (stepped _ c.loop-key.invariant.module_is.1 _ _ _ _ _ c.loop-key.invariant.fits _ _ c.requires.keyed.0 _ (code_part c.args.source.now c.args.from) k.0 _ _ _ _ c.step-a.ensures)))
+returns-in-Stops c = let k = at_key _ _ _ _ (sym c.decode-decoded.ensures ∙ c.in-Instruction.is) in rw c.ending-in-Stops.ensures (stopped _ _ _ _ _ _ _ _ _ _ _ _ _ c.loop-key.invariant k.0 c.if-rest-eq0.false _ _ _ c.step-a.auto.f _ (rw c.in-Stops.is at (stepped _ c.loop-key.invariant.module_is.1 _ _ _ _ _ c.loop-key.invariant.fits _ _ c.requires.keyed.0 _ (code_part c.args.source.now c.args.from) k.0 _ _ _ _ c.step-a.ensures)))

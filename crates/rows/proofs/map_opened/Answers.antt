@@ -40,10 +40,10 @@ pub returns-then-out-eq0 : goal.returns-then-out-eq0
 returns-then-out-eq0 c = rw c.stopped-then-out-eq0.ensures (map_none c.args.file.now c.args.function c.args.profile c.args.args.now c.args.out.now c.args.allowance c.args.p.now c.args.t.now c.args.cells.now c.args.table.now c.requires.1 c.args.c c.requires.0 c.in-Record.g c.if-function-eq-ENTRY.false (rw c.in-Record.is at c.function-found.ensures) _ _ c.types_of-numbers.ensures.0 c.same_rows-whole.ensures (not-false _ c.if-not-numbers-whole.false-raw) _ c.other_profile-other.ensures c.if-other.false c.if-out-eq0.true)
 
 pub slice_bounds-start_rows-end : goal.slice_bounds-start_rows-end
-slice_bounds-start_rows-end c = let is = names_function c.args.file.now c.args.c c.requires.0 c.args.function c.if-function-eq-ENTRY.false c.requires.1 c.in-Record.g (rw c.in-Record.is at c.function-found.ensures) in omega (arith, is.few, c.types_of-numbers.auto.1.1.1.1.0)
+slice_bounds-start_rows-end c = let is = names_function c.args.file.now c.args.c c.requires.0 c.args.function c.if-function-eq-ENTRY.false c.requires.1 c.in-Record.g (rw c.in-Record.is at c.function-found.ensures) in omega (arith, is.few, c.types_of-numbers.auto.kinds)
 
 pub start_rows-requires : goal.start_rows-requires
-start_rows-requires c = let is = names_function c.args.file.now c.args.c c.requires.0 c.args.function c.if-function-eq-ENTRY.false c.requires.1 c.in-Record.g (rw c.in-Record.is at c.function-found.ensures) in (c.requires.0, c.requires.1, mappable_is c.args.file.now c.args.function c.args.profile c.args.args.now c.args.out.now c.args.allowance c.args.p.now c.args.t.now c.args.cells.now c.args.table.now c.requires.1 c.args.c c.requires.0 c.in-Record.g c.if-function-eq-ENTRY.false (rw c.in-Record.is at c.function-found.ensures) _ _ c.types_of-numbers.ensures.0 c.same_rows-whole.ensures (not-false _ c.if-not-numbers-whole.false-raw) _ c.other_profile-other.ensures c.if-other.false (omega (arith, c.if-out-eq0.false)) c.types_of-numbers.new.kinds _ c.types_of-numbers.auto.1.1.1.1.0 is.few c.types_of-numbers.ensures.1 (part_0 c.in-Record.g.params c.types_of-numbers.new.kinds))
+start_rows-requires c = let is = names_function c.args.file.now c.args.c c.requires.0 c.args.function c.if-function-eq-ENTRY.false c.requires.1 c.in-Record.g (rw c.in-Record.is at c.function-found.ensures) in (c.requires.0, c.requires.1, mappable_is c.args.file.now c.args.function c.args.profile c.args.args.now c.args.out.now c.args.allowance c.args.p.now c.args.t.now c.args.cells.now c.args.table.now c.requires.1 c.args.c c.requires.0 c.in-Record.g c.if-function-eq-ENTRY.false (rw c.in-Record.is at c.function-found.ensures) _ _ c.types_of-numbers.ensures.0 c.same_rows-whole.ensures (not-false _ c.if-not-numbers-whole.false-raw) _ c.other_profile-other.ensures c.if-other.false (omega (arith, c.if-out-eq0.false)) c.types_of-numbers.new.kinds _ c.types_of-numbers.auto.kinds is.few c.types_of-numbers.ensures.1 (part_0 c.in-Record.g.params c.types_of-numbers.new.kinds))
 
 pub returns : goal.returns
 returns c = map_rows_lem c.args.file.now c.args.function c.args.profile c.args.args.now c.args.out.now c.args.allowance c.args.p.now c.args.t.now c.args.cells.now c.args.table.now c.requires.1 c.args.c c.requires.0 c.in-Record.g c.if-function-eq-ENTRY.false (rw c.in-Record.is at c.function-found.ensures) _ _ c.types_of-numbers.ensures.0 c.same_rows-whole.ensures (not-false _ c.if-not-numbers-whole.false-raw) _ c.other_profile-other.ensures c.if-other.false _ _ _ _ _ _ c.start_rows.ensures

@@ -42,4 +42,4 @@ pub shape_of-kinds : goal.shape_of-kinds
 shape_of-kinds c = c.loop-j.invariant.1
 
 pub returns : goal.returns
-returns c = (sym (c.loop-j.invariant.2 ∙ takes_end _ _ c.loop-j.j (omega arith)), λ e i h. c.loop-j.invariant.3 i (omega arith) h)
+returns c = (sym (c.loop-j.invariant.2 ∙ takes_end (functions_in c.args.file.now) (function_at (edition c.args.file.now) c.args.k + 10) c.loop-j.j (omega arith)), λ e i h. c.loop-j.invariant.3 i (omega arith) h)

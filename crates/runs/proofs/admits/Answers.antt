@@ -33,12 +33,12 @@ takes-fits-requires c = tt
 
 pub returns-then-not-fits : goal.returns-then-not-fits
 returns-then-not-fits c =
-    admitted_is _ _ _ _ _ c.if-kinds-n.false c.if-args-n.false _ (c.loop-j.invariant.1 ∙ declared_not _ _ _ _ c.loop-j.j (omega arith) _ _ _ c.param-b.ensures.0 c.slot_at-v.ensures c.takes-fits.ensures (not-true _ c.if-not-fits.true-raw))
+    admitted_is (functions_in c.args.file.now) (function_at (edition c.args.file.now) c.args.k + 10) c.args.args.now c.args.kinds.now _ c.if-kinds-n.false c.if-args-n.false _ (c.loop-j.invariant.1 ∙ declared_not (functions_in c.args.file.now) (function_at (edition c.args.file.now) c.args.k + 10) c.args.args.now c.args.kinds.now c.loop-j.j (omega arith) _ _ _ c.param-b.ensures.0 c.slot_at-v.ensures c.takes-fits.ensures (not-true _ c.if-not-fits.true-raw))
 
 pub loop-j-preserved : goal.loop-j-preserved
 loop-j-preserved c =
-    (omega arith, c.loop-j.invariant.1 ∙ declared_next _ _ _ _ c.loop-j.j (omega arith) _ _ _ c.param-b.ensures.0 c.slot_at-v.ensures c.takes-fits.ensures (not-false _ c.if-not-fits.false-raw))
+    (omega arith, c.loop-j.invariant.1 ∙ declared_next (functions_in c.args.file.now) (function_at (edition c.args.file.now) c.args.k + 10) c.args.args.now c.args.kinds.now c.loop-j.j (omega arith) _ _ _ c.param-b.ensures.0 c.slot_at-v.ensures c.takes-fits.ensures (not-false _ c.if-not-fits.false-raw))
 
 pub returns : goal.returns
 returns c =
-    admitted_is _ _ _ _ _ c.if-kinds-n.false c.if-args-n.false _ (c.loop-j.invariant.1 ∙ declared_end _ _ _ _ c.loop-j.j (omega arith))
+    admitted_is (functions_in c.args.file.now) (function_at (edition c.args.file.now) c.args.k + 10) c.args.args.now c.args.kinds.now _ c.if-kinds-n.false c.if-args-n.false _ (c.loop-j.invariant.1 ∙ declared_end (functions_in c.args.file.now) (function_at (edition c.args.file.now) c.args.k + 10) c.args.args.now c.args.kinds.now c.loop-j.j (omega arith))

@@ -53,10 +53,10 @@ pub run_rest-requires : goal.run_rest-requires
 run_rest-requires c = record { packed = c.requires; standing = record { slots = same_slots _ _ c.args.args.now c.args.kinds.now c.args.p.now c.args.t.now c.args.cells.now c.args.table.now _ c.in-Record.b (rw c.in-Record.is at c.find-found.ensures) _ c.admits-admitted.ensures (not-false _ c.if-not-admitted.false-raw) _ c.capacity-cap.ensures c.if-cap-n.false _ _ _ _ _ c.copy_arguments.ensures 96 refl (omega arith) (omega arith) c.first_frame-first.ensures.0 c.first_frame-first.ensures.1; left = omega arith; fits = starts_fit _ _ c.args.args.now c.args.kinds.now c.args.p.now c.args.t.now c.args.cells.now c.args.table.now _ c.in-Record.b (rw c.in-Record.is at c.find-found.ensures) _ c.admits-admitted.ensures (not-false _ c.if-not-admitted.false-raw) _ c.capacity-cap.ensures c.if-cap-n.false _ _ _ _ _ c.copy_arguments.ensures 96 refl (omega arith) (omega arith) c.first_frame-first.ensures.0 c.first_frame-first.ensures.1 c.requires.1; empty = still_empty _ _ c.args.args.now c.args.kinds.now c.args.p.now c.args.t.now c.args.cells.now c.args.table.now _ c.in-Record.b (rw c.in-Record.is at c.find-found.ensures) _ c.admits-admitted.ensures (not-false _ c.if-not-admitted.false-raw) _ c.capacity-cap.ensures c.clear_heap.new.cells c.clear_heap.new.table c.clear_heap.ensures } }
 
 pub shape_of-cells-then-edition-eq1 : goal.shape_of-cells-then-edition-eq1
-shape_of-cells-then-edition-eq1 c = c.run_rest.auto.1.1.1.1.1.1.1.1.0 ∙ c.clear_heap.ensures.same_cells
+shape_of-cells-then-edition-eq1 c = c.run_rest.auto.cells ∙ c.clear_heap.ensures.same_cells
 
 pub shape_of-table-then-edition-eq1 : goal.shape_of-table-then-edition-eq1
-shape_of-table-then-edition-eq1 c = c.run_rest.auto.1.1.1.1.1.1.1.1.1.0 ∙ c.clear_heap.ensures.same_table
+shape_of-table-then-edition-eq1 c = c.run_rest.auto.table ∙ c.clear_heap.ensures.same_table
 
 pub returns-then-edition-eq1 : goal.returns-then-edition-eq1
 returns-then-edition-eq1 c = let z : c.args.allowance - c.args.allowance ≡ 0 = omega arith in run_over _ _ c.args.args.now c.args.kinds.now c.args.p.now c.args.t.now c.args.cells.now c.args.table.now _ c.in-Record.b (rw c.in-Record.is at c.find-found.ensures) _ c.admits-admitted.ensures (not-false _ c.if-not-admitted.false-raw) _ c.capacity-cap.ensures c.if-cap-n.false _ _ _ _ _ c.copy_arguments.ensures 96 refl (omega arith) (omega arith) c.first_frame-first.ensures.0 c.first_frame-first.ensures.1 _ _ c.requires.1 _ c.other_profile-other.ensures c.if-other.false c.clear_heap.new.cells c.clear_heap.new.table c.clear_heap.ensures _ _ _ _ _ (rw z at c.run_rest.ensures)
@@ -68,16 +68,16 @@ pub run_rest-requires-then-not-over : goal.run_rest-requires-then-not-over
 run_rest-requires-then-not-over c = record { packed = c.requires; standing = record { slots = still _ _ _ _ _ _ _ _ _ _ _ (same_slots _ _ c.args.args.now c.args.kinds.now c.args.p.now c.args.t.now c.args.cells.now c.args.table.now _ c.in-Record.b (rw c.in-Record.is at c.find-found.ensures) _ c.admits-admitted.ensures (not-false _ c.if-not-admitted.false-raw) _ c.capacity-cap.ensures c.if-cap-n.false _ _ _ _ _ c.copy_arguments.ensures 96 refl (omega arith) (omega arith) c.first_frame-first.ensures.0 c.first_frame-first.ensures.1) c.run_from-e.ensures; left = c.run_from-e.ensures.left; fits = (c.run_from-e.ensures.resumes (waits c.run_from-e.result.number _ c.is_over-over.ensures (not-true _ c.if-not-over.true-raw))).fits; empty = still_empty _ _ c.args.args.now c.args.kinds.now c.args.p.now c.args.t.now c.args.cells.now c.args.table.now _ c.in-Record.b (rw c.in-Record.is at c.find-found.ensures) _ c.admits-admitted.ensures (not-false _ c.if-not-admitted.false-raw) _ c.capacity-cap.ensures c.clear_heap.new.cells c.clear_heap.new.table c.clear_heap.ensures } }
 
 pub shape_of-p-then-not-over : goal.shape_of-p-then-not-over
-shape_of-p-then-not-over c = c.run_rest-then-not-over.auto.1.1.1.1.1.0 ∙ c.run_from-e.ensures.same_payloads ∙ c.copy_arguments.ensures.same_payloads
+shape_of-p-then-not-over c = c.run_rest-then-not-over.auto.p ∙ c.run_from-e.ensures.same_payloads ∙ c.copy_arguments.ensures.same_payloads
 
 pub shape_of-t-then-not-over : goal.shape_of-t-then-not-over
-shape_of-t-then-not-over c = c.run_rest-then-not-over.auto.1.1.1.1.1.1.0 ∙ c.run_from-e.ensures.same_types ∙ c.copy_arguments.ensures.same_types
+shape_of-t-then-not-over c = c.run_rest-then-not-over.auto.t ∙ c.run_from-e.ensures.same_types ∙ c.copy_arguments.ensures.same_types
 
 pub shape_of-cells-then-not-over : goal.shape_of-cells-then-not-over
-shape_of-cells-then-not-over c = c.run_rest-then-not-over.auto.1.1.1.1.1.1.1.1.0 ∙ c.clear_heap.ensures.same_cells
+shape_of-cells-then-not-over c = c.run_rest-then-not-over.auto.cells ∙ c.clear_heap.ensures.same_cells
 
 pub shape_of-table-then-not-over : goal.shape_of-table-then-not-over
-shape_of-table-then-not-over c = c.run_rest-then-not-over.auto.1.1.1.1.1.1.1.1.1.0 ∙ c.clear_heap.ensures.same_table
+shape_of-table-then-not-over c = c.run_rest-then-not-over.auto.table ∙ c.clear_heap.ensures.same_table
 
 pub returns-then-not-over : goal.returns-then-not-over
 returns-then-not-over c = run_over _ _ c.args.args.now c.args.kinds.now c.args.p.now c.args.t.now c.args.cells.now c.args.table.now _ c.in-Record.b (rw c.in-Record.is at c.find-found.ensures) _ c.admits-admitted.ensures (not-false _ c.if-not-admitted.false-raw) _ c.capacity-cap.ensures c.if-cap-n.false _ _ _ _ _ c.copy_arguments.ensures 96 refl (omega arith) (omega arith) c.first_frame-first.ensures.0 c.first_frame-first.ensures.1 _ _ c.requires.1 _ c.other_profile-other.ensures c.if-other.false c.clear_heap.new.cells c.clear_heap.new.table c.clear_heap.ensures _ _ _ _ _ (closed_deeper _ _ _ _ _ _ _ _ _ _ _ (same_slots _ _ c.args.args.now c.args.kinds.now c.args.p.now c.args.t.now c.args.cells.now c.args.table.now _ c.in-Record.b (rw c.in-Record.is at c.find-found.ensures) _ c.admits-admitted.ensures (not-false _ c.if-not-admitted.false-raw) _ c.capacity-cap.ensures c.if-cap-n.false _ _ _ _ _ c.copy_arguments.ensures 96 refl (omega arith) (omega arith) c.first_frame-first.ensures.0 c.first_frame-first.ensures.1) c.run_from-e.ensures c.clear_heap.new.cells c.clear_heap.new.table _ _ _ _ _ 0 _ (omega (arith, c.run_from-e.ensures.left)) (waits c.run_from-e.result.number _ c.is_over-over.ensures (not-true _ c.if-not-over.true-raw)) c.run_rest-then-not-over.ensures)
@@ -86,10 +86,10 @@ pub close-requires-2 : goal.close-requires-2
 close-requires-2 c = (still _ _ _ _ _ _ _ _ _ _ _ (same_slots _ _ c.args.args.now c.args.kinds.now c.args.p.now c.args.t.now c.args.cells.now c.args.table.now _ c.in-Record.b (rw c.in-Record.is at c.find-found.ensures) _ c.admits-admitted.ensures (not-false _ c.if-not-admitted.false-raw) _ c.capacity-cap.ensures c.if-cap-n.false _ _ _ _ _ c.copy_arguments.ensures 96 refl (omega arith) (omega arith) c.first_frame-first.ensures.0 c.first_frame-first.ensures.1) c.run_from-e.ensures, c.run_from-e.ensures.high)
 
 pub shape_of-p : goal.shape_of-p
-shape_of-p c = c.close-2.auto.1.1.1.1.0 ∙ c.run_from-e.ensures.same_payloads ∙ c.copy_arguments.ensures.same_payloads
+shape_of-p c = c.close-2.auto.p ∙ c.run_from-e.ensures.same_payloads ∙ c.copy_arguments.ensures.same_payloads
 
 pub shape_of-t : goal.shape_of-t
-shape_of-t c = c.close-2.auto.1.1.1.1.1.0 ∙ c.run_from-e.ensures.same_types ∙ c.copy_arguments.ensures.same_types
+shape_of-t c = c.close-2.auto.t ∙ c.run_from-e.ensures.same_types ∙ c.copy_arguments.ensures.same_types
 
 pub shape_of-cells : goal.shape_of-cells
 shape_of-cells c = c.clear_heap.ensures.same_cells

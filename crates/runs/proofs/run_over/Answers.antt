@@ -76,19 +76,19 @@ pub overflow_sub-g : goal.overflow_sub-g
 overflow_sub-g c = omega (arith, (c.run_from-g.ensures.deferred (sym c.left-waits.ensures ∙ not-false _ c.if-not-waits.false-raw)).more)
 
 pub shape_of-p-in-Finishes : goal.shape_of-p-in-Finishes
-shape_of-p-in-Finishes c = c.step-a.auto.1.1.1.1.1.1.1.0 ∙ c.run_from-g.ensures.same_payloads ∙ c.loop-code.invariant.same_payloads
+shape_of-p-in-Finishes c = c.step-a.auto.p ∙ c.run_from-g.ensures.same_payloads ∙ c.loop-code.invariant.same_payloads
 
 pub shape_of-t-in-Finishes : goal.shape_of-t-in-Finishes
-shape_of-t-in-Finishes c = c.step-a.auto.1.1.1.1.1.1.1.1.0 ∙ c.run_from-g.ensures.same_types ∙ c.loop-code.invariant.same_types
+shape_of-t-in-Finishes c = c.step-a.auto.t ∙ c.run_from-g.ensures.same_types ∙ c.loop-code.invariant.same_types
 
 pub shape_of-f-in-Finishes : goal.shape_of-f-in-Finishes
 shape_of-f-in-Finishes c = c.run_from-g.ensures.same_words ∙ c.loop-code.invariant.same_words
 
 pub shape_of-cells-in-Finishes : goal.shape_of-cells-in-Finishes
-shape_of-cells-in-Finishes c = c.step-a.auto.1.1.1.1.1.1.1.1.1.0 ∙ c.loop-code.invariant.same_cells
+shape_of-cells-in-Finishes c = c.step-a.auto.cells ∙ c.loop-code.invariant.same_cells
 
 pub shape_of-table-in-Finishes : goal.shape_of-table-in-Finishes
-shape_of-table-in-Finishes c = c.step-a.auto.1.1.1.1.1.1.1.1.1.1.0 ∙ c.loop-code.invariant.same_table
+shape_of-table-in-Finishes c = c.step-a.auto.table ∙ c.loop-code.invariant.same_table
 
 pub returns-in-Finishes : goal.returns-in-Finishes
 returns-in-Finishes c =
@@ -101,19 +101,19 @@ returns-in-Finishes c =
     (rw c.in-Finishes.is at (c.step-a.ensures _ said _ there.ready)))
 
 pub shape_of-p-in-Stops : goal.shape_of-p-in-Stops
-shape_of-p-in-Stops c = c.step-a.auto.1.1.1.1.1.1.1.0 ∙ c.run_from-g.ensures.same_payloads ∙ c.loop-code.invariant.same_payloads
+shape_of-p-in-Stops c = c.step-a.auto.p ∙ c.run_from-g.ensures.same_payloads ∙ c.loop-code.invariant.same_payloads
 
 pub shape_of-t-in-Stops : goal.shape_of-t-in-Stops
-shape_of-t-in-Stops c = c.step-a.auto.1.1.1.1.1.1.1.1.0 ∙ c.run_from-g.ensures.same_types ∙ c.loop-code.invariant.same_types
+shape_of-t-in-Stops c = c.step-a.auto.t ∙ c.run_from-g.ensures.same_types ∙ c.loop-code.invariant.same_types
 
 pub shape_of-f-in-Stops : goal.shape_of-f-in-Stops
 shape_of-f-in-Stops c = c.run_from-g.ensures.same_words ∙ c.loop-code.invariant.same_words
 
 pub shape_of-cells-in-Stops : goal.shape_of-cells-in-Stops
-shape_of-cells-in-Stops c = c.step-a.auto.1.1.1.1.1.1.1.1.1.0 ∙ c.loop-code.invariant.same_cells
+shape_of-cells-in-Stops c = c.step-a.auto.cells ∙ c.loop-code.invariant.same_cells
 
 pub shape_of-table-in-Stops : goal.shape_of-table-in-Stops
-shape_of-table-in-Stops c = c.step-a.auto.1.1.1.1.1.1.1.1.1.1.0 ∙ c.loop-code.invariant.same_table
+shape_of-table-in-Stops c = c.step-a.auto.table ∙ c.loop-code.invariant.same_table
 
 pub returns-in-Stops : goal.returns-in-Stops
 returns-in-Stops c =

@@ -1,9 +1,5 @@
 use Rattle.settle.proofs.Visiting.{few_unseen, begin_seen, begin_open, begin_visited}
 use native.Mathlib.Omega.{arith}
-use borrow.Author.Rules.{rules}
-use Rattle.settle.proofs.begin.Reads as reads
-use Rattle.settle.proofs.begin.Lts as lts
-use Rattle.settle.proofs.visit.Reads as visit-reads
 use Rattle.settle.proofs.begin.Goals as goal
 
 pub returns-then-marks-b-gt0 : goal.returns-then-marks-b-gt0

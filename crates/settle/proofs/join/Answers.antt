@@ -1,12 +1,5 @@
 use Rattle.settle.proofs.Joining.{joined_first, joined_skip, joined_next, joined_end, callee_need, callee_frames}
-use Rattle.settle.specs.Graph.{offset_at, Joined}
-use Prim.Native.Nat.{◌≤◌, ◌<◌, ◌-◌}
 use native.Mathlib.Omega.{arith}
-use Rattle.settle.proofs.join.Reads as reads
-use Rattle.settle.proofs.join.Lts as lts
-use Rattle.settle.proofs.larger.Reads as larger-reads
-use Rattle.settle.proofs.next_call.Reads as next-call-reads
-use Rattle.settle.proofs.wide.Reads as wide-reads
 use Rattle.settle.proofs.join.Goals as goal
 
 pub offset_bounds-own-b : goal.offset_bounds-own-b

@@ -1,10 +1,5 @@
 use Rattle.settle.proofs.Joining.{zeros_next}
-use Rattle.settle.specs.Graph.{offset_at}
-use mathlib.Core.Path.{◌≡◌}
-use Prim.Native.Nat.{ℕ, ◌-◌, ◌≤◌, ◌<◌}
 use native.Mathlib.Omega.{arith}
-use Rattle.settle.proofs.next_call.Reads as reads
-use Rattle.settle.proofs.next_call.Lts as lts
 use Rattle.settle.proofs.next_call.Goals as goal
 
 pub loop-i-init : goal.loop-i-init

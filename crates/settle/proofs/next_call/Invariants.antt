@@ -1,11 +1,7 @@
 -- The invariants and measures of `settle::next_call`.
-use Rattle.settle.proofs.Joining.{zeros_next}
 use Rattle.settle.specs.Graph.{offset_at}
 use mathlib.Core.Path.{◌≡◌}
 use Prim.Native.Nat.{ℕ, ◌-◌, ◌≤◌, ◌<◌}
-use native.Mathlib.Omega.{arith}
-use Rattle.settle.proofs.next_call.Reads as reads
-use Rattle.settle.proofs.next_call.Lts as lts
 use Rattle.settle.proofs.next_call.Given as goal
 
 abbrev pub invariant-loop-i : goal.invariant-loop-i

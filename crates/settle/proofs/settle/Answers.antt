@@ -1,11 +1,6 @@
 use Rattle.settle.proofs.Visiting.{ended_all}
-use Rattle.settle.specs.Graph.{Ended}
-use Prim.Native.Nat.{◌≤◌, ◌-◌, ◌+◌}
-use mathlib.Core.Path.{◌≡◌, sym, ◌∙◌}
+use mathlib.Core.Path.{sym, ◌∙◌}
 use native.Mathlib.Omega.{arith}
-use Rattle.settle.proofs.settle.Reads as reads
-use Rattle.settle.proofs.settle.Lts as lts
-use Rattle.settle.proofs.begin.Reads as begin-reads
 use Rattle.settle.proofs.settle.Goals as goal
 
 pub loop-b-init : goal.loop-b-init

@@ -81,4 +81,4 @@ pub returns-in-53 : goal.returns-in-53
 returns-in-53 c = λ m d w. unknown _ c.requires.known.0 odds refl c.in-53.is
 
 pub returns-in_default : goal.returns-in_default
-returns-in_default c = λ m d w. nothing_left _ c.requires.known.0 c.in_default.rest c.requires.known.1
+returns-in_default c = λ m d w. nothing_left _ c.requires.known.0 c.in_default.in_default-own.rest c.requires.known.1

@@ -13,7 +13,7 @@ use borrow.Author.Rules.{rules}
 use Rattle.transfer.proofs.single.Goals as goal
 
 pub other-requires : goal.other-requires
-other-requires c = record { known = (c.requires.known.0, outside_both _ (each (18 ∷ 17 ∷ 16 ∷ 15 ∷ 14 ∷ 13 ∷ 12 ∷ 11 ∷ 10 ∷ 9 ∷ 8 ∷ 7 ∷ 2 ∷ [])) firsts c.in_default.rest c.requires.known.1, c.requires.known.2); holds = c.requires.holds }
+other-requires c = record { known = (c.requires.known.0, outside_both _ (each (18 ∷ 17 ∷ 16 ∷ 15 ∷ 14 ∷ 13 ∷ 12 ∷ 11 ∷ 10 ∷ 9 ∷ 8 ∷ 7 ∷ 2 ∷ [])) firsts c.in_default.in_default-own.rest c.requires.known.1, c.requires.known.2); holds = c.requires.holds }
 
 pub returns-in-2 : goal.returns-in-2
 returns-in-2 c = λ m d w. moves m d w _ c.args.st.now _ _ _ 2 c.in-2.is w refl (One Pop) refl (c.pop.ensures m d)

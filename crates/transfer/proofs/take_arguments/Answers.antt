@@ -43,10 +43,10 @@ pop-requires c = (c.loop-j.invariant.1.holds, omega (arith, c.wide-m.ensures.0, 
 
 pub loop-j-preserved : goal.loop-j-preserved
 loop-j-preserved c = (
-      omega (arith, c.loop-j.invariant.0),
-      left_same _ _ _ _ c.loop-j.j _ c.loop-j.invariant.1 (c.loop-j.j - 1) (omega arith) _ c.wide-m.ensures.0 c.if-m-eq0.false (c.requires.by_index (c.loop-j.j - 1) (omega (arith, c.loop-j.invariant.0)))
-          (c.if-st-m.false ∙ c.param-wanted.ensures.0) _ c.pop.ensures,
-    )
+  omega (arith, c.loop-j.invariant.0),
+  left_same _ _ _ _ c.loop-j.j _ c.loop-j.invariant.1 (c.loop-j.j - 1) (omega arith) _ c.wide-m.ensures.0 c.if-m-eq0.false (c.requires.by_index (c.loop-j.j - 1) (omega (arith, c.loop-j.invariant.0)))
+      (c.if-st-m.false ∙ c.param-wanted.ensures.0) _ c.pop.ensures,
+)
 
 pub shape_of-st : goal.shape_of-st
 shape_of-st c = omega (arith, c.loop-j.invariant.1.holds.long, c.requires.holds.long)

@@ -111,7 +111,7 @@ pub new-requires-in-52 : goal.new-requires-in-52
 new-requires-in-52 c = (c.requires.holds.0, omega (arith, few_structures _ c.requires.packed.1, c.declared-in-52.ensures), omega arith, omega arith)
 
 pub single-requires : goal.single-requires
-single-requires c = record { known = (c.requires.holds.1.known, c.in_default.rest, c.requires.holds.1.near); holds = c.requires.holds.0 }
+single-requires c = record { known = (c.requires.holds.1.known, c.in_default.in_default-own.rest, c.requires.holds.1.near); holds = c.requires.holds.0 }
 
 pub returns-in-1 : goal.returns-in-1
 returns-in-1 c = moves _ _ _ _ c.args.st.now _ _ _ 1 c.in-1.is _ c.operand.ensures (Push _) refl (c.push_constant.ensures _)

@@ -1,6 +1,5 @@
 -- The proof of `writer::deliver`.
 use native.Mathlib.Omega.{arith}
-use borrow.Author.Rules.{rules}
 use Rattle.rules.specs.Tables.{tables}
 use Rattle.writer.proofs.Laws.{small, short_is, takes, written_is}
 use Rattle.writer.proofs.deliver.Goals as goal

@@ -4,7 +4,6 @@ use native.Mathlib.Omega.{arith}
 use mathlib.Core.List.{◌++◌}
 use mathlib.Core.Path.{◌≡◌, sym, ◌∙◌, ap}
 use lib.ListN.{length, drop}
-use borrow.Author.Rules.{rules}
 use Rattle.rules.specs.Writing.{header_of, file_of}
 use Rattle.rules.specs.Tables.{tables, header_size}
 use Rattle.writer.proofs.Laws.{sections, header_length}

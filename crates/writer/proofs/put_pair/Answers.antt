@@ -1,7 +1,6 @@
 -- The proof of `writer::put_pair`.
 use Prim.Native.Nat.{◌+◌}
 use mathlib.Core.Path.{◌∙◌, ap}
-use borrow.Author.Rules.{rules}
 use Rattle.rules.specs.Bytes.{written}
 use Rattle.writer.proofs.put_pair.Goals as goal
 

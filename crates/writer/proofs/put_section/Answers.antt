@@ -1,9 +1,7 @@
 -- The proof of `writer::put_section`.
-use Prim.Native.Nat.{◌-◌, ◌≤◌}
 use native.Mathlib.Omega.{arith}
-use mathlib.Core.List.{◌++◌}
-use mathlib.Core.Path.{◌≡◌, refl, ap, ◌∙◌}
-use lib.ListN.{length, take, drop, get_or, set, length-set}
+use mathlib.Core.Path.{refl, ap, ◌∙◌}
+use lib.ListN.{get_or, set, length-set}
 use Rattle.writer.proofs.Laws.{copy_more, copied}
 use Rattle.writer.proofs.put_section.Goals as goal
 

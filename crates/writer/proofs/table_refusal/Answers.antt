@@ -1,5 +1,4 @@
 -- The proof of `writer::table_refusal`.
-use borrow.Author.Rules.{rules}
 use Rattle.rules.specs.Writing.{table_refusal, too_many, broken}
 use Rattle.rules.specs.Tables.{first_of}
 use Rattle.writer.proofs.Laws.{counted_over, fits_of}

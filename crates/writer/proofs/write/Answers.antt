@@ -1,6 +1,5 @@
 -- The proof of `writer::write`.
 use mathlib.Core.Path.{◌≡◌}
-use borrow.Author.Rules.{rules}
 use Rattle.rules.specs.Tables.{tables}
 use Rattle.writer.proofs.Laws.{not_refused, refused_is, no_structures}
 use Rattle.writer.proofs.write.Goals as goal

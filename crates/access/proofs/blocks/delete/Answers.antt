@@ -2,8 +2,8 @@
 use Rattle.access.proofs.BlockLaws.{given_live, delete_21, delete_31, delete_null, delete_33, delete_is}
 use Rattle.heap.specs.declared.Found.TheVariants.{Nothing}
 use Rattle.heap.specs.declared.Found.{Found}
+use Rattle.heap.specs.Blocks.{entry_at, heap_of}
 use mathlib.Core.Path.{◌≡◌}
-use borrow.Author.Rules.{rules}
 use Rattle.access.proofs.blocks.delete.Goals as goal
 
 pub returns-then-h-r : goal.returns-then-h-r
@@ -29,7 +29,7 @@ returns-in_default c =
 
 pub remove-left-requires : goal.remove-left-requires
 remove-left-requires c =
-    (rw c.shelf-k.ensures c.requires.heap_ready.sane, given_live _ _ _ _ _ c.given.result c.given.ensures c.in-At.is)
+    (rw c.shelf-k.ensures c.requires.heap_ready.sane, given_live (heap_of c.args.size c.shelf-k.result c.args.d.now c.args.cells.now c.args.table.now) (entry_at c.args.table.now) _ _ _ c.given.result c.given.ensures c.in-At.is)
 
 pub keep-requires : goal.keep-requires
 keep-requires c =

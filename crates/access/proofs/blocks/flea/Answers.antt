@@ -1,8 +1,8 @@
 -- The proof of `access::blocks::flea`.
 use Rattle.access.proofs.BlockLaws.{flea_21, flea_slot, flea_cell, flea_stops, flea_38, flea_is, address_fits}
 use Rattle.state.proofs.Families.{kind_at}
+use Prim.Native.Nat.{◌-◌}
 use native.Mathlib.Omega.{arith}
-use borrow.Author.Rules.{rules}
 use Rattle.access.proofs.blocks.flea.Goals as goal
 
 pub returns-then-h-r : goal.returns-then-h-r
@@ -23,11 +23,11 @@ overflow_mul-h c =
 
 pub overflow_add-w : goal.overflow_add-w
 overflow_add-w c =
-    omega (arith, address_fits _ _ _ _ _ _ _ c.target_of-x.result _ _ c.target_of-x.ensures c.in-Whole.is (omega (arith, c.slot_at-w.type_inv)) c.if-f-n.false)
+    omega (arith, address_fits c.args.size c.args.d.now c.args.g.now c.args.cells.now c.args.table.now (c.args.r.height - 1) c.slot_at-w.result c.target_of-x.result _ _ c.target_of-x.ensures c.in-Whole.is (omega (arith, c.slot_at-w.type_inv)) c.if-f-n.false)
 
 pub overflow_add-w-in-Whole : goal.overflow_add-w-in-Whole
 overflow_add-w-in-Whole c =
-    omega (arith, address_fits _ _ _ _ _ _ _ c.target_of-x.result _ _ c.target_of-x.ensures c.in-Whole.is (omega (arith, c.slot_at-w.type_inv)) c.if-f-n.false)
+    omega (arith, address_fits c.args.size c.args.d.now c.args.g.now c.args.cells.now c.args.table.now (c.args.r.height - 1) c.slot_at-w.result c.target_of-x.result _ _ c.target_of-x.ensures c.in-Whole.is (omega (arith, c.slot_at-w.type_inv)) c.if-f-n.false)
 
 pub store64-requires : goal.store64-requires
 store64-requires c =
@@ -47,7 +47,7 @@ returns-in-Cell c =
 
 pub returns-else-f-n : goal.returns-else-f-n
 returns-else-f-n c =
-    λ m sh f k. rw (c.moved.ensures, ← c.operand-n.ensures) (flea_is m _ _ f _ _ k _ _ _ _ _ c.requires.heap_ready _ c.if-h-r.false _ c.slot_at-w.ensures c.target_of-x.result (c.target_of-x.ensures m sh _ _) _ c.in-Whole.is _ c.if-f-n.false c.store64.ensures (address_fits _ _ _ _ _ _ _ c.target_of-x.result _ _ c.target_of-x.ensures c.in-Whole.is (omega (arith, c.slot_at-w.type_inv)) c.if-f-n.false))
+    λ m sh f k. rw (c.moved.ensures, ← c.operand-n.ensures) (flea_is m _ _ f _ _ k _ _ _ _ _ c.requires.heap_ready _ c.if-h-r.false _ c.slot_at-w.ensures c.target_of-x.result (c.target_of-x.ensures m sh _ _) _ c.in-Whole.is _ c.if-f-n.false c.store64.ensures (address_fits c.args.size c.args.d.now c.args.g.now c.args.cells.now c.args.table.now (c.args.r.height - 1) c.slot_at-w.result c.target_of-x.result _ _ c.target_of-x.ensures c.in-Whole.is (omega (arith, c.slot_at-w.type_inv)) c.if-f-n.false))
 
 pub returns-in-Raises : goal.returns-in-Raises
 returns-in-Raises c =

@@ -5,7 +5,6 @@ use Rattle.access.proofs.BlockLaws.{some_width, new_37, new_20, new_is}
 use Rattle.access.proofs.Over.{given_at_lem}
 use Rattle.rules.specs.Stack.{slots_of}
 use Rattle.heap.specs.Blocks.{size_in}
-use borrow.Author.Rules.{rules}
 use Rattle.access.proofs.blocks.new.Goals as goal
 
 pub returns-then-width-eq0 : goal.returns-then-width-eq0

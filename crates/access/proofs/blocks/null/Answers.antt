@@ -1,6 +1,5 @@
 -- The proof of `access::blocks::null`.
 use Rattle.access.proofs.BlockLaws.{null_full, null_is}
-use borrow.Author.Rules.{rules}
 use Rattle.access.proofs.blocks.null.Goals as goal
 
 pub returns-then-cap-h : goal.returns-then-cap-h

@@ -3,7 +3,6 @@ use Rattle.access.proofs.Through.{bump_stops, bump_is}
 use Rattle.access.proofs.Leading.{top_at, top_nowhere, top_reach, top_kind}
 use mathlib.Core.Bool.{false}
 use native.Mathlib.Omega.{arith}
-use borrow.Author.Rules.{rules}
 use Rattle.access.proofs.pointers.dec.Goals as goal
 
 pub put_back-requires : goal.put_back-requires

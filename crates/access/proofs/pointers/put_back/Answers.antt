@@ -3,7 +3,6 @@ use Rattle.state.specs.declared.Progress.TheVariants.{Goes}
 use native.Mathlib.Omega.{arith}
 use Prim.Native.Nat.{ℕ, ◌<◌, ◌^◌}
 use mathlib.Core.Path.{refl, ap, subst}
-use borrow.Author.Rules.{rules}
 use Rattle.access.proofs.pointers.put_back.Goals as goal
 
 pub returns-in-Yields : goal.returns-in-Yields

@@ -2,7 +2,6 @@
 use Rattle.access.proofs.Through.{tload_stops, tload_is}
 use Rattle.access.proofs.Leading.{top_at, top_nowhere, top_reach}
 use native.Mathlib.Omega.{arith}
-use borrow.Author.Rules.{rules}
 use Rattle.access.proofs.pointers.tload.Goals as goal
 
 pub overflow_sub-r : goal.overflow_sub-r
@@ -19,7 +18,7 @@ overflow_add-r c =
 
 pub returns-in-At : goal.returns-in-At
 returns-in-At c =
-    λ m sh f k. rw c.moved.ensures (tload_is m _ _ _ _ f _ _ _ _ _ k c.requires.heap_ready _ _ _ _ (top_at _ _ _ _ _ _ _ _ _ _ c.top_number-x.ensures m sh _ _ c.in-At.is) c.put_slot.ensures.0 c.put_slot.ensures.1 (omega (arith, c.known_told-1.given)))
+    λ m sh f k. rw c.moved.ensures (tload_is m _ _ _ _ f _ _ _ _ _ k c.requires.heap_ready _ _ _ _ (top_at _ _ _ _ _ _ _ _ _ _ c.top_number-x.ensures m sh _ _ c.in-At.is) c.put_slot.ensures.0 c.put_slot.ensures.1 (omega arith))
 
 pub returns-in-Nowhere : goal.returns-in-Nowhere
 returns-in-Nowhere c =

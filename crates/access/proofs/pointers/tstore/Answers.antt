@@ -3,7 +3,6 @@ use Rattle.access.proofs.Through.{tstore_21, tstore_stops, tstore_22, tstore_is}
 use Rattle.access.proofs.Leading.{names_at, names_nowhere, names_reach}
 use Rattle.state.proofs.Families.{kind_at}
 use native.Mathlib.Omega.{arith}
-use borrow.Author.Rules.{rules}
 use Rattle.access.proofs.pointers.tstore.Goals as goal
 
 pub returns-then-h-r : goal.returns-then-h-r

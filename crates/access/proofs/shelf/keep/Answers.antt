@@ -1,6 +1,5 @@
 -- The proof of `access::shelf::keep`.
 use Rattle.access.proofs.Over.{shelf_kept}
-use borrow.Author.Rules.{rules}
 use Rattle.access.proofs.shelf.keep.Goals as goal
 
 pub returns : goal.returns

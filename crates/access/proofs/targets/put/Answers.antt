@@ -2,7 +2,6 @@
 use mathlib.Core.Path.{refl}
 use native.Mathlib.Omega.{arith}
 use Rattle.access.proofs.Leading.{stack_reached, heap_reached}
-use borrow.Author.Rules.{rules}
 use Rattle.access.proofs.targets.put.Goals as goal
 
 pub overflow_mul-i : goal.overflow_mul-i

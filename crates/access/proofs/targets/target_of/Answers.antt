@@ -4,7 +4,6 @@ use Rattle.access.proofs.Leading.{aimed_31, aimed_36, aimed_slot, aimed_low, aim
 use Rattle.state.proofs.Families.{not_pointer, is_pointer_lem}
 use Rattle.heap.specs.declared.Target.TheVariants.{Lost}
 use Rattle.heap.specs.declared.Target.{Target}
-use borrow.Author.Rules.{rules}
 use Rattle.access.proofs.targets.target_of.Goals as goal
 
 pub returns-then-w-lt7 : goal.returns-then-w-lt7

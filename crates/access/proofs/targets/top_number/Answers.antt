@@ -2,7 +2,6 @@
 use Rattle.access.proofs.Leading.{top_short, top_names}
 use Rattle.state.proofs.Families.{kind_at}
 use native.Mathlib.Omega.{arith}
-use borrow.Author.Rules.{rules}
 use Rattle.access.proofs.targets.top_number.Goals as goal
 
 pub returns-then-h-r : goal.returns-then-h-r

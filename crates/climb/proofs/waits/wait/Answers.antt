@@ -9,4 +9,4 @@ use Rattle.climb.proofs.waits.spread.Reads as spread-reads
 use Rattle.climb.proofs.waits.wait.Goals as goal
 
 pub shape_of-grounds : goal.shape_of-grounds
-shape_of-grounds c = wait_long c.args.k c.args.ground c.args.grounds.now _ c.spread.ensures
+shape_of-grounds c = wait_long c.args.k c.args.ground_level c.args.grounds.now _ c.spread.ensures

@@ -27,4 +27,4 @@ pub arrive-requires : goal.arrive-requires
 arrive-requires c = let is = sym (ap label_in c.in-Record.is) ∙ c.label-found.ensures in ((node_value c.args.file.now c.args.c c.requires.packed.0 c.requires.packed.1 c.args.table.now c.requires.packed.2 c.args.k c.in-Record.l is _ c.node_at-v.ensures c.requires.ground_bound.2).1, c.requires.ground_bound.0, c.requires.ground_bound.1)
 
 pub returns : goal.returns
-returns c = let is = sym (ap label_in c.in-Record.is) ∙ c.label-found.ensures in jump_is c.args.file.now c.args.c c.requires.packed.0 c.requires.packed.1 c.args.table.now c.requires.packed.2 c.args.k c.in-Record.l is _ c.args.ground c.node_at-v.ensures _ _ _ _ c.arrive.ensures
+returns c = let is = sym (ap label_in c.in-Record.is) ∙ c.label-found.ensures in jump_is c.args.file.now c.args.c c.requires.packed.0 c.requires.packed.1 c.args.table.now c.requires.packed.2 c.args.k c.in-Record.l is _ c.args.ground_level c.node_at-v.ensures _ _ _ _ c.arrive.ensures

@@ -10,6 +10,7 @@ use Rattle.reader.proofs.Records.{function_count_lem}
 use Rattle.control.proofs.Files.{returned}
 use Rattle.control.proofs.ReturnLaws.{top_kind, ret_30, ret_bare, ret_21, ret_22, ret_value}
 use Rattle.control.proofs.calls.ret.Goals as goal
+use Rattle.control.proofs.calls.ret.Goals.{then-v-g+else-v-kind_of, else-v-g}
 
 pub returns-in_default : goal.returns-in_default
 returns-in_default c = λ cap k. let z : ◌≡◌ {A = FoundFunction} c.function-found.result Nothing = cc in
@@ -36,5 +37,8 @@ leave-requires-2 c = (omega (arith, c.requires.prepared.0.1.words), c.requires.p
 pub returns : goal.returns
 returns c = λ cap k. rw (c.leave-2.ensures, c.wide-base.ensures.0)
     (ret_value cap _ _ _ _ k _ (omega (arith, function_count_lem _ _ c.requires.packed.0, c.requires.packed.0.few_functions)) c.in-Record.g (rw c.wide.ensures.0 at (sym (ap (function_found _ _) c.in-Record.is) ∙ c.function-found.ensures)) c.if-g-eq0.false _ c.if-h-r.false c.slot_at-v.ensures _ _
-    (⊎_elim (λ x. x.3.left ∙ x.1.ensures) (λ x. top_kind _ _ _ _ _ _ c.if-h-r.false c.slot_at-v.ensures c.requires.prepared.1 (returned _ c.requires.packed.1 _ c.in-Record.g (sym (ap (function_found _ _) c.in-Record.is) ∙ c.function-found.ensures) c.if-g-eq0.false) x.left) c.if-v-g.branch)
+    (elim c.if-v-g.branch [
+      | then-v-g+else-v-kind_of w ↦ w.if-v-kind_of.false ∙ w.kind_of.ensures
+      | else-v-g w ↦ top_kind _ _ _ _ _ _ c.if-h-r.false c.slot_at-v.ensures c.requires.prepared.1 (returned _ c.requires.packed.1 _ c.in-Record.g (sym (ap (function_found _ _) c.in-Record.is) ∙ c.function-found.ensures) c.if-g-eq0.false) w.if-v-g.false
+    ])
     (rw c.wide-base.ensures.0 at c.put_slot.ensures.0) (rw c.wide-base.ensures.0 at c.put_slot.ensures.1) (omega (arith, c.slot_at-v.type_inv)))

@@ -24,7 +24,7 @@ pub bounds-out-5 : goal.bounds-out-5
 bounds-out-5 c = simp length-set (omega arith)
 
 pub shape_of-out : goal.shape_of-out
-shape_of-out c = c.put_line2.auto.1.1.0 ∙ simp length-set
+shape_of-out c = c.put_line2.auto.out ∙ simp length-set
 
 pub returns : goal.returns
 returns c = entry_line_lem c.args.out.now _ _ _ _ _ (word_put c.args.out.now 101 110 116 114 121 32 (omega arith)) c.put_line2.ensures

@@ -16,7 +16,7 @@ pub put_line2-e-requires : goal.put_line2-e-requires
 put_line2-e-requires c = omega (arith, c.requires.2, c.loop-i.invariant.0, c.loop-i.invariant.1, c.loop-i.invariant.2.within)
 
 pub loop-i-preserved : goal.loop-i-preserved
-loop-i-preserved c = (omega arith, c.put_line2-e.auto.1.1.0 ∙ c.loop-i.invariant.1, slots_more _ _ _ _ _ _ _ _ _ _ c.slot_at-v.ensures c.loop-i.invariant.2 c.put_line2-e.ensures)
+loop-i-preserved c = (omega arith, c.put_line2-e.auto.out ∙ c.loop-i.invariant.1, slots_more _ _ _ _ _ _ _ _ _ _ c.slot_at-v.ensures c.loop-i.invariant.2 c.put_line2-e.ensures)
 
 pub returns : goal.returns
 returns c = slots_all _ _ _ _ _ _ _ _ c.loop-i.invariant.0 c.loop-i-test.false c.loop-i.invariant.2

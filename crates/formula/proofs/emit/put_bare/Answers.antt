@@ -1,6 +1,5 @@
 -- The proof of `formula::emit::put_bare`.
 use Rattle.formula.proofs.EmitLaws.{front_set}
-use borrow.Author.Rules.{rules}
 use Rattle.formula.proofs.emit.put_bare.Goals as goal
 
 pub returns : goal.returns

@@ -1,10 +1,8 @@
 -- The proof of `formula::emit::put_negations`.
 use Rattle.formula.proofs.EmitLaws.{run_none, run_more, run_all}
-use lib.ListN.{length, take, replicate, length-set}
+use lib.ListN.{length-set}
 use native.Mathlib.Omega.{arith}
-use mathlib.Core.List.{◌++◌}
-use mathlib.Core.Path.{◌≡◌, refl, ◌∙◌}
-use Prim.Native.Nat.{◌+◌, ◌≤◌, ◌-◌}
+use mathlib.Core.Path.{refl, ◌∙◌}
 use Rattle.formula.proofs.emit.put_negations.Goals as goal
 
 pub loop-i-init : goal.loop-i-init

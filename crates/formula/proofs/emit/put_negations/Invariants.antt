@@ -1,9 +1,7 @@
 -- The invariants and measures of `formula::emit::put_negations`.
-use Rattle.formula.proofs.EmitLaws.{run_none, run_more, run_all}
-use lib.ListN.{length, take, replicate, length-set}
-use native.Mathlib.Omega.{arith}
+use lib.ListN.{length, take, replicate}
 use mathlib.Core.List.{◌++◌}
-use mathlib.Core.Path.{◌≡◌, refl, ◌∙◌}
+use mathlib.Core.Path.{◌≡◌}
 use Prim.Native.Nat.{◌+◌, ◌≤◌, ◌-◌}
 use Rattle.formula.proofs.emit.put_negations.Given as goal
 

@@ -1,6 +1,5 @@
 -- The proof of `formula::readers::completed`.
 use Rattle.formula.proofs.ReaderLaws.{none_waited, one_waited}
-use borrow.Author.Rules.{rules}
 use Rattle.formula.proofs.readers.completed.Goals as goal
 
 pub returns-then-op-eq0 : goal.returns-then-op-eq0

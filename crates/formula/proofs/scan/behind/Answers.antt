@@ -1,7 +1,6 @@
 -- The proof of `formula::scan::behind`.
 use Rattle.formula.proofs.ScanLaws.{behind_sign, behind_space, behind_none, behind_shut, behind_close}
 use mathlib.Core.Path.{sym, ◌∙◌}
-use borrow.Author.Rules.{rules}
 use Rattle.formula.proofs.scan.behind.Goals as goal
 
 pub returns-then-is_sign : goal.returns-then-is_sign

@@ -2,7 +2,6 @@
 use Rattle.formula.proofs.ScanLaws.{front_name, front_open, front_on, front_none}
 use mathlib.Core.Path.{sym, ◌∙◌}
 use native.Mathlib.Omega.{arith}
-use borrow.Author.Rules.{rules}
 use Rattle.formula.proofs.scan.in_front.Goals as goal
 
 pub returns-then-is_name : goal.returns-then-is_name

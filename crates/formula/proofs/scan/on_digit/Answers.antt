@@ -1,7 +1,6 @@
 -- The proof of `formula::scan::on_digit`.
 use Rattle.formula.proofs.ScanLaws.{digit_over, digit_kept}
 use Rattle.grammar.specs.Steps.{digit_is}
-use borrow.Author.Rules.{rules}
 use Rattle.formula.proofs.scan.on_digit.Goals as goal
 
 pub overflow_sub-value : goal.overflow_sub-value

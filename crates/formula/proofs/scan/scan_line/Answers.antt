@@ -1,12 +1,7 @@
 -- The proof of `formula::scan::scan_line`.
 use Rattle.formula.proofs.ScanLaws.{stops, goes_on, early, whole}
-use Rattle.formula.specs.Scans.{Legal, state_of}
-use Rattle.grammar.specs.Scan.{scanned, at_start}
-use lib.ListN.{length, take}
-use Prim.Native.Nat.{◌≤◌, ◌-◌}
-use mathlib.Core.Option.{some}
-use mathlib.Core.Path.{◌≡◌, refl}
-use borrow.Author.Rules.{rules}
+use Rattle.grammar.specs.Scan.{scanned}
+use mathlib.Core.Path.{refl}
 use native.Mathlib.Omega.{arith}
 use Rattle.formula.proofs.scan.scan_line.Goals as goal
 

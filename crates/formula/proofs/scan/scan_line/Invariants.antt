@@ -1,13 +1,10 @@
 -- The invariants and measures of `formula::scan::scan_line`.
-use Rattle.formula.proofs.ScanLaws.{stops, goes_on, early, whole}
 use Rattle.formula.specs.Scans.{Legal, state_of}
 use Rattle.grammar.specs.Scan.{scanned, at_start}
 use lib.ListN.{length, take}
 use Prim.Native.Nat.{◌≤◌, ◌-◌}
 use mathlib.Core.Option.{some}
-use mathlib.Core.Path.{◌≡◌, refl}
-use borrow.Author.Rules.{rules}
-use native.Mathlib.Omega.{arith}
+use mathlib.Core.Path.{◌≡◌}
 use Rattle.formula.proofs.scan.scan_line.Given as goal
 
 abbrev pub invariant-loop-i : goal.invariant-loop-i

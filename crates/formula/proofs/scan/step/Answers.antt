@@ -1,7 +1,6 @@
 -- The proof of `formula::scan::step`.
 use mathlib.Core.Path.{sym, ◌∙◌}
 use native.Mathlib.Omega.{arith}
-use borrow.Author.Rules.{rules}
 use Rattle.formula.proofs.scan.step.Goals as goal
 
 pub on_digit-requires : goal.on_digit-requires

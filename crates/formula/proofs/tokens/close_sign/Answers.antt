@@ -1,7 +1,6 @@
 -- The proof of `formula::tokens::close_sign`.
 use Rattle.formula.proofs.TokenLaws.{leads_close, close_none, close_end}
 use native.Mathlib.Omega.{arith}
-use borrow.Author.Rules.{rules}
 use Rattle.formula.proofs.tokens.close_sign.Goals as goal
 
 pub returns-then-s-at : goal.returns-then-s-at

@@ -4,7 +4,6 @@ use Prim.Native.Nat.{ℕ, ◌+◌, ◌*◌, ◌-◌}
 use mathlib.Core.Path.{sym, subst}
 use Rattle.formula.proofs.TokenLaws.{grown_same, grown_more, small_digit}
 use native.Mathlib.Omega.{arith}
-use borrow.Author.Rules.{rules}
 use Rattle.formula.proofs.tokens.grown.Goals as goal
 
 pub returns-then-v-gt4294967295 : goal.returns-then-v-gt4294967295

@@ -1,9 +1,6 @@
 -- The proof of `formula::tokens::past_zeros`.
 use Rattle.formula.proofs.TokenLaws.{zero_step}
-use Rattle.rules.specs.Reading.{digits}
-use lib.ListN.{length, drop}
-use Prim.Native.Nat.{◌≤◌, ◌-◌}
-use mathlib.Core.Path.{◌≡◌, refl, ◌∙◌}
+use mathlib.Core.Path.{refl, ◌∙◌}
 use native.Mathlib.Omega.{arith}
 use Rattle.formula.proofs.tokens.past_zeros.Goals as goal
 

@@ -1,10 +1,8 @@
 -- The invariants and measures of `formula::tokens::past_zeros`.
-use Rattle.formula.proofs.TokenLaws.{zero_step}
 use Rattle.rules.specs.Reading.{digits}
 use lib.ListN.{length, drop}
 use Prim.Native.Nat.{◌≤◌, ◌-◌}
-use mathlib.Core.Path.{◌≡◌, refl, ◌∙◌}
-use native.Mathlib.Omega.{arith}
+use mathlib.Core.Path.{◌≡◌}
 use Rattle.formula.proofs.tokens.past_zeros.Given as goal
 
 abbrev pub invariant-loop-i : goal.invariant-loop-i

@@ -3,7 +3,6 @@ use Rattle.formula.proofs.TokenLaws.{leads_product, product_none, product_end}
 use Rattle.rules.specs.Grammar.{star, slash, is_star, is_slash}
 use native.Mathlib.Omega.{arith}
 use mathlib.Core.Path.{refl}
-use borrow.Author.Rules.{rules}
 use Rattle.formula.proofs.tokens.product_sign.Goals as goal
 
 pub returns-then-s-at : goal.returns-then-s-at

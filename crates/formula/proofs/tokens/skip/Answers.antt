@@ -1,9 +1,6 @@
 -- The proof of `formula::tokens::skip`.
 use Rattle.formula.proofs.TokenLaws.{skip_step, skip_stop, skip_end}
-use Rattle.rules.specs.Reading.{skip}
-use lib.ListN.{length, drop}
-use Prim.Native.Nat.{◌≤◌, ◌-◌}
-use mathlib.Core.Path.{◌≡◌, refl, ◌∙◌}
+use mathlib.Core.Path.{refl, ◌∙◌}
 use native.Mathlib.Omega.{arith}
 use Rattle.formula.proofs.tokens.skip.Goals as goal
 

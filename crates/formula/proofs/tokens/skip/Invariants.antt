@@ -1,10 +1,8 @@
 -- The invariants and measures of `formula::tokens::skip`.
-use Rattle.formula.proofs.TokenLaws.{skip_step, skip_stop, skip_end}
 use Rattle.rules.specs.Reading.{skip}
 use lib.ListN.{length, drop}
 use Prim.Native.Nat.{◌≤◌, ◌-◌}
-use mathlib.Core.Path.{◌≡◌, refl, ◌∙◌}
-use native.Mathlib.Omega.{arith}
+use mathlib.Core.Path.{◌≡◌}
 use Rattle.formula.proofs.tokens.skip.Given as goal
 
 abbrev pub invariant-loop-i : goal.invariant-loop-i

@@ -1,11 +1,10 @@
 -- The proof of `formula::tokens::skip_minuses`.
 use Rattle.formula.proofs.TokenLaws.{minus_more}
-use Rattle.formula.specs.Tokens.{negatives}
 use Rattle.rules.specs.Reading.{factor}
-use lib.ListN.{length, drop}
+use lib.ListN.{drop}
 use native.Mathlib.Omega.{arith}
 use mathlib.Core.Path.{◌≡◌, ap}
-use Prim.Native.Nat.{ℕ, ◌+◌, ◌≤◌, ◌-◌}
+use Prim.Native.Nat.{ℕ, ◌+◌}
 use Rattle.formula.proofs.tokens.skip_minuses.Goals as goal
 
 pub loop-i-init : goal.loop-i-init

@@ -1,10 +1,8 @@
 -- The invariants and measures of `formula::tokens::skip_minuses`.
-use Rattle.formula.proofs.TokenLaws.{minus_more}
 use Rattle.formula.specs.Tokens.{negatives}
 use Rattle.rules.specs.Reading.{factor}
 use lib.ListN.{length, drop}
-use native.Mathlib.Omega.{arith}
-use mathlib.Core.Path.{◌≡◌, ap}
+use mathlib.Core.Path.{◌≡◌}
 use Prim.Native.Nat.{ℕ, ◌+◌, ◌≤◌, ◌-◌}
 use Rattle.formula.proofs.tokens.skip_minuses.Given as goal
 

@@ -3,7 +3,6 @@ use Rattle.formula.proofs.TokenLaws.{leads_sum, sum_none, sum_end}
 use Rattle.rules.specs.Grammar.{plus, dash, is_plus, is_dash}
 use native.Mathlib.Omega.{arith}
 use mathlib.Core.Path.{refl}
-use borrow.Author.Rules.{rules}
 use Rattle.formula.proofs.tokens.sum_sign.Goals as goal
 
 pub returns-then-s-at : goal.returns-then-s-at

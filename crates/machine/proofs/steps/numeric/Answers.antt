@@ -52,7 +52,7 @@ pub dec-requires : goal.dec-requires
 dec-requires c = c.requires.ready_on.1
 
 pub single-requires : goal.single-requires
-single-requires c = record { known = (c.requires.known.0, c.requires.known.1, c.in_default.rest); computable = c.requires.ready_on.1 }
+single-requires c = record { known = (c.requires.known.0, c.requires.known.1, c.in_default.in_default-own.rest); computable = c.requires.ready_on.1 }
 
 pub returns-in-7 : goal.returns-in-7
 returns-in-7 c = through _ 7 _ _ _ _ _ _ _ Tload c.in-7.is (λ w. refl) refl (λ m. c.tload.ensures m)

@@ -139,4 +139,4 @@ pub returns-in-53 : goal.returns-in-53
 returns-in-53 c = unknown _ c.requires.known.0 odd refl c.in-53.is
 
 pub returns-in_default : goal.returns-in_default
-returns-in_default c = no_other _ c.requires.known c.in_default.rest
+returns-in_default c = no_other _ c.requires.known c.in_default.in_default-own.rest

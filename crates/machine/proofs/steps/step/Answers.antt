@@ -47,7 +47,7 @@ pub ret-requires : goal.ret-requires
 ret-requires c = record { packed = (c.requires.packed.0, c.requires.packed.1); prepared = ((_, c.requires.ready.0), c.requires.ready.1.kinds) }
 
 pub numeric-requires : goal.numeric-requires
-numeric-requires c = record { known = (stands_known _ _ _ c.requires.place_lt_stop.1, c.in_default.rest); ready_on = ((_, c.requires.ready.0), c.requires.ready.1) }
+numeric-requires c = record { known = (stands_known _ _ _ c.requires.place_lt_stop.1, c.in_default.in_default-own.rest); ready_on = ((_, c.requires.ready.0), c.requires.ready.1) }
 
 pub returns-in-1 : goal.returns-in-1
 returns-in-1 c = wide _ _ _ _ _ c.requires.place_lt_stop.1 _ _ _ _ _ _ _ 1 Push c.in-1.is (λ w. refl) (λ n. refl) (c.push.ensures _ c.requires.ready.0)
