@@ -8,7 +8,6 @@ use Rattle.rules.specs.Tables.{fn, Module}
 use Rattle.rules.specs.Stack.{slot}
 use Rattle.rules.specs.Grammar.{Sign, plus, dash, star, slash, Tree}
 use Rattle.rules.specs.Formula.{Step, constant, parameter, negate, operate, answer, postfix, sign_bytes, step_bytes, assembled, code_bytes}
-use Rattle.grammar.specs.Proper.{count, postfix_count}
 
 abbrev pub operator : Sign → Operator
 operator plus = add
@@ -52,11 +51,6 @@ assembled_append (i ∷ is) js = ap (λ x. step_bytes i ++ x) (assembled_append 
 pub assembled_long : (is : List Step) → length (assembled is) ≤ 5 * length is
 assembled_long [] = omega arith
 assembled_long (i ∷ is) = omega (arith, length-append (step_bytes i) (assembled is), step_long i, step_short i, assembled_long is)
-
--- five bytes an instruction at most, and one for `ret`
-pub code_long : (t : Tree) → length (code_bytes t) ≤ 5 * count t + 1
-code_long t =
-    omega (arith, ap length (assembled_append (postfix 0 t) (answer ∷ [])), length-append (assembled (postfix 0 t)) (assembled (answer ∷ [])), assembled_long (postfix 0 t), postfix_count t 0)
 
 pub code_some : (t : Tree) → 1 ≤ length (code_bytes t)
 code_some t = omega (arith, ap length (assembled_append (postfix 0 t) (answer ∷ [])), length-append (assembled (postfix 0 t)) (assembled (answer ∷ [])))

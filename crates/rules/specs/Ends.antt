@@ -15,16 +15,6 @@ OneOfTwo n = (n ≡ 33) ⊎ (n ≡ 36)
 abbrev pub IsEnd : ℕ → ℕ → Type 0
 IsEnd e n = OneOfFive n ⊎ (((e ≡ 1 → ⊥) × (n ≡ 44)) ⊎ ((e ≡ 4) × OneOfTwo n))
 
-listed : (e n : ℕ) → End e n → IsEnd e n
-listed e n finished = inl (inl refl)
-listed e n used_up = inl (inr (inl refl))
-listed e n overflow = inl (inr (inr (inl refl)))
-listed e n zero_divide_end = inl (inr (inr (inr (inl refl))))
-listed e n no_order = inl (inr (inr (inr (inr refl))))
-listed e n (no_fit h) = inr (inl (h, refl))
-listed e n no_block = inr (inr (refl, inl refl))
-listed e n null_followed = inr (inr (refl, inr refl))
-
 is_five : (e n : ℕ) → OneOfFive n → End e n
 is_five e n (inl h) = subst (End e) (sym h) finished
 is_five e n (inr (inl h)) = subst (End e) (sym h) used_up
@@ -42,4 +32,17 @@ is_end e n (inr (inl h)) = subst (End e) (sym h.1) (no_fit h.0)
 is_end e n (inr (inr h)) = subst (λ x. End x n) (sym h.0) (is_two n h.1)
 
 pub exactly : (e n : ℕ) → (End e n → IsEnd e n) × (IsEnd e n → End e n)
-exactly e n = (listed e n, is_end e n)
+exactly e n = (
+  (λ h.
+      elim h as (λ d k _. IsEnd d k) [
+        | finished ↦ inl (inl refl)
+        | used_up ↦ inl (inr (inl refl))
+        | overflow ↦ inl (inr (inr (inl refl)))
+        | zero_divide_end ↦ inl (inr (inr (inr (inl refl))))
+        | no_order ↦ inl (inr (inr (inr (inr refl))))
+        | no_fit later ↦ inr (inl (later, refl))
+        | no_block ↦ inr (inr (refl, inl refl))
+        | null_followed ↦ inr (inr (refl, inr refl))
+      ]),
+  is_end e n,
+)

@@ -1,6 +1,6 @@
 -- The proof of `checking::check`.
 use borrow.Author.Rules.{rules}
-use Rattle.promises.specs.Promised.{check_keeps}
+use Rattle.promises.proofs.Promised.{check_keeps}
 use Rattle.checking.proofs.check.Goals as goal
 
 pub returns : goal.returns

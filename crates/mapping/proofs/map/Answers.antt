@@ -1,4 +1,4 @@
-use Rattle.promises.specs.MapPromised.{map_keeps}
+use Rattle.promises.proofs.MapPromised.{map_keeps}
 use borrow.Author.Rules.{rules}
 use Rattle.mapping.proofs.map.Reads as reads
 use Rattle.mapping.proofs.map.Lts as lts

@@ -1,4 +1,4 @@
-use Rattle.promises.specs.Promised.{run_keeps}
+use Rattle.promises.proofs.Promised.{run_keeps}
 use borrow.Author.Rules.{rules}
 use Rattle.running.proofs.run.Reads as reads
 use Rattle.running.proofs.run.Lts as lts

@@ -1,6 +1,6 @@
 -- The proof of `limpetskein::host::limpetskein_check`.
 use borrow.Author.Rules.{rules}
-use Rattle.promises.specs.Promised.{host_check_keeps}
+use Rattle.promises.proofs.Promised.{host_check_keeps}
 use Rattle.checking.proofs.host.host_check.Goals as goal
 
 pub returns : goal.returns

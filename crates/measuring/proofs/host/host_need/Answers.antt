@@ -1,4 +1,4 @@
-use Rattle.promises.specs.NeedPromised.{host_need_keeps}
+use Rattle.promises.proofs.NeedPromised.{host_need_keeps}
 use borrow.Author.Rules.{rules}
 use Rattle.measuring.proofs.host.host_need.Goals as goal
 

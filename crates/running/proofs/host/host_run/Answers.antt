@@ -1,4 +1,4 @@
-use Rattle.promises.specs.Promised.{host_run_keeps, host_run_finished}
+use Rattle.promises.proofs.Promised.{host_run_keeps, host_run_finished}
 use borrow.Author.Rules.{rules}
 use Rattle.running.proofs.host.host_run.Reads as reads
 use Rattle.running.proofs.host.host_run.Lts as lts

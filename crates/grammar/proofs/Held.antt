@@ -20,7 +20,8 @@ use Rattle.rules.specs.Formula.{numbers, Step, constant, parameter, negate, oper
 use Rattle.soundness.specs.Tests.{decide, eqb_is, eqb_isnt, eqb_other, eqb_same, leb_yes, ltb_yes, ltb_no, ltb_is, ltb_isnt}
 use Rattle.soundness.specs.Walks.{size_some}
 use Rattle.grammar.specs.Proper.{Proper, spells_proper, count, spells_count, numbers_count}
-use Rattle.grammar.specs.Coded.{operator, instruction, step_long, code_long, code_some, Laid, Pool}
+use Rattle.grammar.specs.Coded.{operator, instruction, step_long, code_some, Laid, Pool}
+use Rattle.grammar.proofs.Coded.{code_long}
 use Rattle.grammar.specs.Typed.{locals, Holds}
 
 none_below : (n : ℕ) (f : ℕ → Bool) → ((i : ℕ) → i < n → f i ≡ false) → some_below n f ≡ false

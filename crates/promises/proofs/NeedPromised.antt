@@ -1,5 +1,5 @@
 -- These promises, from the definitions and from `suffices` of the crate need.
-use Rattle.std.specs.Prelude.{◌≡◌, ◌≢◌, ℕ, zero, suc, ◌+◌, ◌*◌, ◌^◌, ◌≤◌, ◌<◌, Bool, cond, List, [], ◌∷◌, ◌++◌, ltb, eqb, length, take}
+use Rattle.std.specs.Prelude.{◌≡◌, ℕ, ◌+◌, ◌^◌, ◌≤◌, ◌<◌, Bool, cond, List, ◌++◌, ltb, eqb, length, take}
 use Rattle.std.proofs.Math.Path.{refl, ap}
 use Rattle.std.proofs.Common.{sym, subst, ◌∙◌, arith, take-take, take-add, take_at, drop_at, drop-drop}
 use Rattle.std.proofs.Math.Bool.{true, false}
@@ -10,21 +10,20 @@ use Rattle.rules.specs.declared.CheckAnswer.TheVariants.{Refused, Untyped, Accep
 use Rattle.rules.specs.declared.NeedAnswer.{NeedAnswer}
 use Rattle.rules.specs.declared.NeedAnswer.TheVariants.{Unreported, ReportUntyped, ReportLoops, Reported}
 use Rattle.rules.specs.Bytes.{number, bytes, word}
-use Rattle.rules.specs.Numbers.{done, no_typing, calls_loop}
-use Rattle.rules.specs.Tables.{Body, body_of, body_number}
+use Rattle.rules.specs.Numbers.{done}
+use Rattle.rules.specs.Tables.{Body, body_of}
 use Rattle.rules.specs.ModuleFile.{functions, read}
 use Rattle.rules.specs.Check.{bodies}
 use Rattle.rules.specs.Answers.{check_number, check}
 use Rattle.rules.specs.Host.{need_body_after, need_written_after}
 use Rattle.rules.specs.Demand3.{IsAccepted, Exists, FirstUntyped}
-use Rattle.rules.specs.Need.{Recursive}
 use Rattle.rules.specs.Reporting.{need_number, first_looping, report_bytes, report_length, Reporting, reporting, report_with, report_after, report_needs}
 use Rattle.rules.specs.Suffices.{FirstLooping, report_at, Shown, NoLoop}
 use Rattle.soundness.specs.Tests.{decide, eqb_is, eqb_isnt, ltb_is, ltb_isnt}
 use Rattle.soundness.specs.Whole.{demand3, scan_started}
 use Rattle.memory.proofs.Words.{length_bytes, number_bytes}
 use Rattle.need.specs.Whole.{suffices, run_exists}
-use Rattle.promises.specs.Promised.{Refusal, check_refusal}
+use Rattle.promises.proofs.Promised.{Refusal, check_refusal}
 use Rattle.promises.specs.NeedPromises.{NeverOverflows, Measures, NeedKeeps, HostNeedKeeps}
 
 -- ---- words

@@ -30,7 +30,7 @@ use Rattle.grammar.specs.Proper.{Proper, spells_proper, count, postfix_count, sp
 use Rattle.grammar.specs.Evaluated.{here, three, three_small, Fits, value_fits, Ends, code_runs}
 use Rattle.grammar.specs.Typed.{locals, Holds}
 use Rattle.grammar.specs.Needed.{check_is}
-use Rattle.grammar.specs.Held.{tables_good, holds}
+use Rattle.grammar.proofs.Held.{tables_good, holds}
 
 -- ---- three ints as arguments
 
