@@ -3,7 +3,7 @@
  * the run of one of its bodies, the map of one of its functions over a row of pixels, the writer of modules, the compiler
  * of formula lines, and the conversion of modules between editions 3 and 4.
  *
- * Link with target/staticlib/liblimpetskein.a (`rt staticlib limpetskein`; x86-64 Linux).
+ * Link with target/staticlib/liblimpetskein.a (`tools/library`; x86-64 Linux).
  *
  * The functions take any bytes, any numbers and any lengths, always return, and test for
  * themselves whatever they depend on. They allocate nothing, keep nothing between calls and

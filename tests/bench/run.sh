@@ -19,7 +19,7 @@ if [ "${1:-}" = --count ] && ! command -v valgrind >/dev/null; then
 fi
 mkdir -p "$made/modules"
 if [ -z "$library" ]; then
-    if ! (cd "$root" && rt staticlib limpetskein) >"$made/library.txt" 2>&1; then
+    if ! "$root/tools/library" >"$made/library.txt" 2>&1; then
         tail -n 40 "$made/library.txt" >&2
         exit 1
     fi
