@@ -3,7 +3,6 @@ use mathlib.Core.Path.{◌≡◌, refl, sym, ap, ap₂, ◌∙◌}
 use mathlib.Core.Bool.{Bool, true, false, cond, ◌&&◌, and-false}
 use mathlib.Core.Option.{none, some}
 use Prim.Native.Nat.{ℕ}
-use native.Mathlib.Omega.{arith}
 use lib.Dec.{eqb}
 use lib.Ieee.{Float}
 use borrow.Author.Tests.{eq-eqb, ne_eqb}
@@ -16,7 +15,7 @@ use Rattle.rules.specs.Operations.{apply2, refuse, number, whole, whole_only, ze
 use Rattle.rules.specs.declared.Binary.TheVariants.{Arith}
 use Rattle.rules.specs.declared.Operator.{Operator}
 use Rattle.rules.specs.declared.Slot.{Slot}
-use Rattle.values.specs.Values.{kind_of_value, gives}
+use Rattle.values.specs.Values.{kind_of_value}
 use Rattle.values.specs.declared.Value.{Value}
 use Rattle.values.specs.declared.Value.TheVariants.{Int, Long, Double, Pointer}
 use Rattle.values.specs.contracts.Value.{the_type}

@@ -1,25 +1,25 @@
 -- Signatures, notes, labels: what the code reads is what the module has.
 use mathlib.Core.Path.{◌≡◌, refl, sym, ap, ◌∙◌, subst}
-use mathlib.Core.Logic.{◌≢◌, ◌⊎◌, inl, inr}
-use Prim.Native.Nat.{ℕ, zero, suc, ◌+◌, ◌*◌, ◌-◌, ◌≤◌, ◌<◌}
+use mathlib.Core.Logic.{◌≢◌}
+use Prim.Native.Nat.{ℕ, suc, ◌+◌, ◌-◌, ◌≤◌, ◌<◌}
 use native.Mathlib.Omega.{arith}
-use mathlib.Core.Bool.{Bool, true, false, cond}
+use mathlib.Core.Bool.{cond}
 use mathlib.Core.Option.{Option, none, some}
-use mathlib.Core.List.{List, [], ◌∷◌}
+use mathlib.Core.List.{List, []}
 use lib.ListN.{length, get_or, set, length-set}
 use lib.Dec.{ltb, eqb}
 use borrow.Author.Tests.{eq-eqb, ne_eqb}
 use Rattle.rules.specs.Instructions.{Ty, ty_of}
-use Rattle.rules.specs.Tables.{Body, body_of, Function, function_at, params_from, result_of, label_count}
+use Rattle.rules.specs.Tables.{Body, body_of, Function, function_at, result_of, label_count}
 use Rattle.rules.specs.ModuleFile.{edition, refusal, labels, code_length, read, functions_in, labels_in, tables_in}
 use Rattle.format.specs.declared.Sections.{Sections}
 use Rattle.format.specs.Layout.{Packed}
 use Rattle.reader.specs.declared.entries.FunctionRecord.{FunctionRecord}
-use Rattle.reader.specs.declared.entries.FoundFunction.TheVariants.{Record, Nothing}
+use Rattle.reader.specs.declared.entries.FoundFunction.TheVariants.{Record}
 use Rattle.reader.specs.declared.entries.LabelRecord.{LabelRecord}
 use Rattle.reader.specs.declared.entries.FoundLabel.TheVariants as FoundLabel
 use Rattle.reader.specs.Answers.{function_found, label_in}
-use Rattle.soundness.specs.Tests.{decide, none_some, some_inj, eqb_is, eqb_isnt, ltb_is, ltb_yes, ltb_no}
+use Rattle.soundness.specs.Tests.{decide, some_inj, eqb_is, eqb_isnt, ltb_yes, ltb_no}
 use Rattle.soundness.specs.Readable.{params_length, label_is}
 use Rattle.soundness.specs.Cutting.{good_file, label_count_lem}
 use Rattle.nodes.specs.Nodes.{place_of, owner_of, Tabled}
@@ -28,7 +28,6 @@ use Rattle.tracks.specs.Plans.{result_slots}
 use Rattle.tracks.specs.Walks.{offset_of, Arrived}
 use Rattle.tracks.specs.Leads.{noted}
 use Rattle.climb.specs.declared.walk.Spot.{Spot}
-use Rattle.climb.specs.declared.walk.Turn.{Turn}
 use Rattle.climb.specs.declared.walk.Turn.TheVariants.{Ends, Goes}
 use Rattle.climb.specs.Turns.{spot, CallIs, JumpIs, OtherIs}
 

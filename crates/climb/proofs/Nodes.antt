@@ -1,14 +1,13 @@
 -- Laws of marks and grounds.
 use mathlib.Core.Path.{◌≡◌, refl, sym, ap, ◌∙◌, subst}
 use mathlib.Core.Logic.{◌≢◌, ◌⊎◌, inl, inr}
-use Prim.Native.Nat.{ℕ, zero, suc, ◌+◌, ◌*◌, ◌-◌, ◌≤◌, ◌<◌, min, max}
+use Prim.Native.Nat.{ℕ, zero, suc, ◌+◌, ◌-◌, ◌≤◌, ◌<◌, min, max}
 use native.Mathlib.Omega.{arith}
-use mathlib.Core.Bool.{true, false}
 use mathlib.Core.List.{List}
-use lib.ListN.{length, get_or, set, length-set}
+use lib.ListN.{length, set, length-set}
 use lib.Seq.{get_or-set_same, get_or-set_other}
-use lib.Dec.{eqb, ltb}
-use Rattle.soundness.specs.Tests.{decide, eqb_is, eqb_isnt, ltb_is, ltb_isnt}
+use lib.Dec.{ltb}
+use Rattle.soundness.specs.Tests.{decide, ltb_is, ltb_isnt}
 use Rattle.tracks.specs.Walks.{mark_of, ground_of, low_of, high_of, Arrived}
 use Rattle.climb.specs.Waits.{Sizes, spread_to, Bounded, FirstIs, LastIs, Narrowed}
 

@@ -1,24 +1,21 @@
 -- A body's start and its parameters.
 use mathlib.Core.Path.{◌≡◌, refl, sym, ap, ◌∙◌, subst}
-use Prim.Native.Nat.{ℕ, zero, suc, ◌+◌, ◌*◌, ◌-◌, ◌≤◌, ◌<◌}
+use Prim.Native.Nat.{ℕ, ◌-◌, ◌≤◌, ◌<◌}
 use native.Mathlib.Omega.{arith}
-use mathlib.Core.Bool.{Bool, true, false, cond}
 use mathlib.Core.Option.{Option, none, some}
-use mathlib.Core.List.{List, [], ◌∷◌}
-use lib.ListN.{length, get_or}
-use lib.Dec.{eqb}
+use mathlib.Core.List.{List, []}
+use lib.ListN.{length}
 use borrow.Author.Tests.{eq-eqb, ne_eqb}
 use Rattle.rules.specs.Bytes.{maybe}
 use Rattle.rules.specs.Instructions.{Ty}
-use Rattle.rules.specs.Tables.{Body, entry, fn, Function, body_of, body_start, body_end, function_count}
+use Rattle.rules.specs.Tables.{fn, Function, body_of, body_start, body_end, function_count}
 use Rattle.rules.specs.ModuleFile.{edition, functions_in, functions, refusal, read, bodies_in, tables_in, code_in, code_length}
 use Rattle.rules.specs.Typing.{start_of}
-use Rattle.rules.specs.Demand3.{Exists}
 use Rattle.reader.specs.declared.entries.FunctionRecord.{FunctionRecord}
-use Rattle.reader.specs.declared.entries.FoundFunction.TheVariants.{Record, Nothing}
+use Rattle.reader.specs.declared.entries.FoundFunction.TheVariants.{Record}
 use Rattle.reader.specs.Answers.{function_found}
 use Rattle.format.specs.declared.Sections.{Sections}
-use Rattle.soundness.specs.Tests.{decide, none_some, some_inj}
+use Rattle.soundness.specs.Tests.{none_some, some_inj}
 use Rattle.soundness.specs.Readable.{Has, start_is, place_inside}
 use Rattle.soundness.specs.Cutting.{good_file, function_count_lem, code_length_lem}
 use Rattle.need.specs.Whole.{has_start}

@@ -1,14 +1,12 @@
 -- A walk from a node that waits.
-use mathlib.Core.Path.{◌≡◌, refl, sym, ap, ◌∙◌, subst}
-use Prim.Native.Nat.{ℕ, zero, suc, ◌+◌, ◌*◌, ◌-◌, ◌≤◌, ◌<◌}
+use mathlib.Core.Path.{◌≡◌, sym, ap, ◌∙◌, subst}
+use Prim.Native.Nat.{ℕ, ◌+◌, ◌*◌, ◌≤◌, ◌<◌}
 use native.Mathlib.Omega.{arith}
 use mathlib.Core.Bool.{true}
-use mathlib.Core.Option.{some}
 use mathlib.Core.List.{List}
 use lib.ListN.{length, get_or, set}
-use Rattle.rules.specs.Tables.{Body, body_of}
+use Rattle.rules.specs.Tables.{body_of}
 use Rattle.rules.specs.ModuleFile.{labels, read, tables_in}
-use Rattle.rules.specs.Typing.{Lists}
 use Rattle.format.specs.declared.Sections.{Sections}
 use Rattle.soundness.specs.Readable.{orderly}
 use Rattle.soundness.specs.Cutting.{good_file}
@@ -18,7 +16,7 @@ use Rattle.rules.specs.Need.{Path}
 use Rattle.need.specs.Grounds.{ground_bound}
 use Rattle.tracks.specs.Walks.{mark_of, ground_of, Ready, Climbing, Standing}
 use Rattle.tracks.specs.Loop.{Finished}
-use Rattle.climb.specs.Waits.{Sizes, Bounded, Roomy, Narrowed}
+use Rattle.climb.specs.Waits.{Roomy}
 use Rattle.tracks.specs.Visits.{Shown, Visited, visit_again, visit_done}
 
 module _ (s : List ℕ) (c : Sections) (table : List ℕ) (owner : ℕ) (R : Ready s c table owner) (M G Q : List ℕ) (x : ℕ) (C : Climbing s table (body_of owner) M G Q x) where

@@ -1,22 +1,20 @@
 -- A walk's loop: from what one instruction leaves, by numbers, to what has been walked.
 use mathlib.Core.Path.{◌≡◌, refl, sym, ap, ◌∙◌, subst}
-use mathlib.Core.Logic.{◌≢◌, ◌⊎◌, inl, inr}
-use Prim.Native.Nat.{ℕ, zero, suc, ◌+◌, ◌*◌, ◌-◌, ◌/◌, ◌%◌, ◌≤◌, ◌<◌, max}
+use mathlib.Core.Logic.{◌≢◌}
+use Prim.Native.Nat.{ℕ, suc, ◌+◌, ◌*◌, ◌-◌, ◌/◌, ◌%◌, ◌≤◌, ◌<◌, max}
 use native.Mathlib.Omega.{arith}
-use mathlib.Core.Bool.{Bool, true, false}
-use mathlib.Core.Option.{Option, none, some}
-use mathlib.Core.List.{List, [], ◌∷◌}
+use mathlib.Core.Bool.{true}
+use mathlib.Core.Option.{some}
+use mathlib.Core.List.{List}
 use lib.ListN.{length, get_or}
 use lib.Dec.{eqb, ltb}
 use Rattle.soundness.specs.Names.{Condition, Instruction, store, jmp, branch, call, ret}
 use Rattle.rules.specs.Bytes.{byte, word}
 use Rattle.rules.specs.Instructions.{size}
 use Rattle.rules.specs.Tables.{Body, Function, body_of, body_end, function_count, module_of}
-use Rattle.rules.specs.ModuleFile.{edition, functions_in, code_in, code_length, labels, refusal, read, bodies_in, tables_in}
-use Rattle.rules.specs.Typing.{Lists}
-use Rattle.rules.specs.Machine.{owned}
+use Rattle.rules.specs.ModuleFile.{edition, functions_in, code_in, code_length, refusal, read, bodies_in, tables_in}
 use Rattle.format.specs.declared.Sections.{Sections}
-use Rattle.soundness.specs.Tests.{decide, none_some, some_inj, eqb_is, eqb_isnt, ltb_is, ltb_isnt}
+use Rattle.soundness.specs.Tests.{decide, none_some, eqb_is, eqb_isnt, ltb_is, ltb_isnt}
 use Rattle.soundness.specs.Invariant.{owned_is}
 use Rattle.soundness.specs.Readable.{orderly, place_inside}
 use Rattle.soundness.specs.Cutting.{good_file, few_functions, code_length_lem}
@@ -24,19 +22,17 @@ use Rattle.keys.specs.Keys.{Keyed, decoded}
 use Rattle.keys.specs.declared.Decoded.TheVariants.{Instruction as Key, End}
 use Rattle.keys.proofs.Places.{at_end_lem, at_key}
 use Rattle.keys.proofs.Files.{code_long}
-use Rattle.nodes.specs.Nodes.{Tabled}
-use Rattle.rules.specs.Need.{Path, call_at, called}
+use Rattle.rules.specs.Need.{called}
 use Rattle.need.specs.Computed.{called_function}
-use Rattle.tracks.specs.Plans.{plan_of, falls, result_slots, Means, narrow, broad, storing, jumping, forking, calling, returning, effect_at}
-use Rattle.tracks.specs.Walks.{Climbing, Standing, Ready, Grows, grows_refl, Met, Arrived}
-use Rattle.tracks.specs.Steps.{here, inside, says, meant, call_here, low_ground}
-use Rattle.tracks.specs.Leads.{Complete, Leads, noted, plain_leads, store_leads, ret_ends, end_ends}
+use Rattle.tracks.specs.Plans.{plan_of, falls, Means, narrow, broad, storing, jumping, forking, calling, returning, effect_at}
+use Rattle.tracks.specs.Walks.{Climbing, Standing, Ready, Grows, grows_refl, Arrived}
+use Rattle.tracks.specs.Steps.{here, says, meant, call_here, low_ground}
+use Rattle.tracks.specs.Leads.{Leads, noted, plain_leads, store_leads, ret_ends, end_ends}
 use Rattle.tracks.specs.Jumps.{labelled, node_of, arrival_climbs, arrival_grows, arrival_met, jump_place, jump_ends, fork_place, fork_leads, call_leads}
 use Rattle.tracks.specs.Loop.{Finished, Walking, walking_ends, walking_on, walking_node}
 use Rattle.climb.specs.declared.walk.Spot.{Spot}
-use Rattle.climb.specs.declared.walk.Turn.{Turn}
 use Rattle.climb.specs.declared.walk.Turn.TheVariants.{Ends, Goes}
-use Rattle.climb.specs.Turns.{spot, Callable, JumpIs, OtherAsks, OtherIs}
+use Rattle.climb.specs.Turns.{spot, Callable, OtherAsks, OtherIs}
 
 means_plain : (x w : ℕ) (i : Instruction) → Means x w i → x < 16 → (plan_of i ≡ falls (x % 8)) × (size i ≡ 1 + 4 * (x / 8))
 means_plain _ _ _ (narrow d w i p z l) h = let e : d ≡ d % 8 = omega arith in (p ∙ ap falls e, z ∙ (omega arith))

@@ -1,5 +1,5 @@
 -- Nodes that wait: what the code's parts leave.
-use Rattle.std.specs.Prelude.{◌≡◌, ◌≢◌, ℕ, suc, ◌+◌, ◌*◌, ◌≤◌, ◌<◌, min, max, List, length, set}
+use Rattle.std.specs.Prelude.{◌≡◌, ◌≢◌, ℕ, ◌+◌, ◌*◌, ◌≤◌, ◌<◌, min, max, List, length, set}
 use Rattle.tracks.specs.Walks.{mark_of, ground_of, low_of, high_of}
 use Rattle.climb.specs.declared.waits.Picked.{Picked}
 use Rattle.climb.specs.declared.waits.Picked.TheVariants.{Node, Nothing}

@@ -10,7 +10,7 @@ use lib.ListN.{length}
 use lib.Dec.{ltb, eqb}
 use borrow.Author.Tests.{lt-ltb, ltb-true, ltb-false, ne_eqb, eqb-true}
 use Rattle.rules.specs.Bytes.{byte, word, maybe}
-use Rattle.rules.specs.Instructions.{pointee_number, pointee_of, type_byte, ty_of}
+use Rattle.rules.specs.Instructions.{type_byte, ty_of}
 use Rattle.rules.specs.Tables.{function_count, structure_count, bad_functions, end_before, function_at, function_of, result_of, Function, body_of, entry, fn, params_from, module_of}
 use Rattle.rules.specs.ModuleFile.{edition, refusal, read, bodies_in, tables_in, functions_in, code_in}
 use Rattle.soundness.specs.Tests.{decide, none_some, some_inj}

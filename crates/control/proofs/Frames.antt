@@ -7,7 +7,6 @@ use mathlib.Core.List.{List, [], ◌∷◌}
 use lib.ListN.{length, get_or, set, length-set}
 use lib.Seq.{get_or-set_same, get_or-set_other, lt-length-set}
 use Rattle.rules.specs.Machine.{argument_slots, opened, goto}
-use Rattle.rules.specs.Stack.{slots_of}
 use Rattle.state.specs.State.{body_in, locals_of, frame_at, callers_of, depth_of, top_of, memory_of, state_of, Waiting, Ready}
 use Rattle.state.specs.declared.Registers.{Registers}
 use Rattle.state.proofs.Locals.{Alike, waiting_alike, callers_alike, locals_same, locals_bind}

@@ -14,7 +14,6 @@ use Rattle.rules.specs.declared.Slot.{Slot}
 use Rattle.rules.specs.declared.Condition.{Condition}
 use Rattle.rules.specs.declared.Instruction.TheVariants.{Jmp, Branch}
 use Rattle.rules.specs.Tables.{entry, fn, body_of, eq_body, Module}
-use Rattle.rules.specs.ModuleFile.{read}
 use Rattle.rules.specs.Stack.{slot_at, slots_of}
 use Rattle.rules.specs.Operations.{holds, low}
 use Rattle.rules.specs.Doubles.{decode_of}

@@ -6,17 +6,17 @@ use mathlib.Core.Bool.{Bool, true, false, ◌||◌}
 use mathlib.Core.List.{List, [], ◌∷◌}
 use lib.Dec.{eqb, ltb}
 use lib.ListN.{length}
-use Rattle.rules.specs.Bytes.{byte, word, some_below}
-use Rattle.rules.specs.Tables.{Bodies, Tables, tables, constant_count, function_count, function_at, label_count, structure_count, differs, odd_return, bad_param, bad_record, bad_constants, bad_structures, bad_function, bad_functions, end_before, due, first_of, content_tests}
+use Rattle.rules.specs.Bytes.{word, some_below}
+use Rattle.rules.specs.Tables.{Tables, tables, constant_count, function_count, function_at, label_count, structure_count, bad_constants, bad_structures, due, first_of, content_tests}
 use Rattle.rules.specs.ModuleFile.{edition, functions, constants_in, functions_in, labels_in, code_in, structures_in, entry_length, short, other_edition, other_total, over_limit, not_packed, refusal, tables_in}
 use Rattle.rules.specs.Writing.{too_many, broken, table_refusal}
 use Rattle.rules.specs.Converting.{to_third, third, lowered, refusal_in, profiled, new_type, new_opcode, not_in_third, down_refusal}
 use Rattle.format.specs.declared.Sections.{Sections}
 use Rattle.format.specs.Layout.{header_tests, Packed}
-use Rattle.soundness.specs.Tests.{decide, false_true, eqb_is, eqb_isnt, ltb_yes, ltb_no, or_neither}
+use Rattle.soundness.specs.Tests.{decide, false_true, eqb_is, eqb_isnt, ltb_yes, ltb_no}
 use Rattle.soundness.specs.Readable.{AllFalse, none_first, none_below, same_numbers, GoodTables, good_tables}
 use Rattle.editions.specs.Paired.{Paired, lowered_pair, pair_counts}
-use Rattle.editions.specs.Alike.{same_below, Known, same_due, fourth_of, Signed}
+use Rattle.editions.specs.Alike.{Known, same_due, fourth_of, Signed}
 use Rattle.editions.specs.Alike as Alike
 use Rattle.editions.specs.Conversions.{up_known, down_read, old_types}
 use Rattle.reader.proofs.Records.{constants_length, functions_length, labels_length, code_length_lem, structures_length}

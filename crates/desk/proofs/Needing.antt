@@ -1,12 +1,11 @@
 -- The report of the stack that a module needs, from the library's answer.
-use Prim.Native.Nat.{ℕ, zero, suc, ◌+◌, ◌-◌, ◌*◌, ◌/◌, ◌≤◌, ◌<◌}
+use Prim.Native.Nat.{ℕ, suc, ◌+◌, ◌-◌, ◌*◌, ◌/◌, ◌≤◌}
 use native.Mathlib.Omega.{arith}
 use mathlib.Core.Path.{◌≡◌, refl, sym, ap, subst, ◌∙◌}
-use mathlib.Core.Bool.{Bool, true, false, cond}
 use mathlib.Core.Option.{Option, none, some}
 use mathlib.Core.List.{List, [], ◌∷◌, ◌++◌}
 use lib.Dec.{ltb}
-use lib.ListN.{length, take, set, drop, length-replicate}
+use lib.ListN.{length, take, set, length-replicate}
 use Rattle.rules.specs.declared.CheckAnswer.{CheckAnswer}
 use Rattle.rules.specs.declared.CheckAnswer.TheVariants.{Refused, Untyped, Accepted}
 use Rattle.rules.specs.declared.NeedAnswer.{NeedAnswer}
@@ -17,7 +16,7 @@ use Rattle.rules.specs.ModuleFile.{functions, read}
 use Rattle.rules.specs.Check.{bodies}
 use Rattle.rules.specs.Answers.{check}
 use Rattle.rules.specs.Program.{line2, line3, refused_line}
-use Rattle.rules.specs.Reporting.{need_number, first_looping, report_bytes, report_length, Reporting, reporting, report_with, report_after, report_needs}
+use Rattle.rules.specs.Reporting.{need_number, first_looping, Reporting, reporting, report_with, report_after, report_needs}
 use Rattle.soundness.specs.Tests.{decide, ltb_isnt}
 use Rattle.desk.specs.declared.checks.Said.{Said}
 use Rattle.desk.specs.Text.{Adds, Fills}

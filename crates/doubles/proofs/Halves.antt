@@ -1,5 +1,5 @@
 -- A long of two halves, each a double exactly: only the sum rounds. Assumes nothing.
-use Rattle.std.proofs.Common.{◌≡◌, ℕ, ◌+◌, ◌*◌, ◌/◌, ◌%◌, ◌^◌, ◌<◌, ◌≤◌, true, false, pos, sym, ap, ◌∙◌, true≢false, lt_trans, lt_of_lt_of_le, le_of_lt, mul_assoc, mul_comm, add-mul, mul-pos, one-mul, div-add-mod', mul-one, arith, lit<, lit≤, pow_mono, pow-add, shl_lt}
+use Rattle.std.proofs.Common.{◌≡◌, ℕ, ◌+◌, ◌*◌, ◌/◌, ◌%◌, ◌^◌, ◌<◌, true, false, pos, sym, ap, ◌∙◌, true≢false, lt_trans, lt_of_lt_of_le, le_of_lt, mul_assoc, mul_comm, add-mul, mul-pos, one-mul, div-add-mod', mul-one, arith, lit<, lit≤, pow_mono, pow-add, shl_lt}
 use lib.Ieee.{Float, nan, inf, fin, binary64, up, down, round, add, mul, of_int, of_bits}
 use lib.Ieee.Exact.{HasValue, round_exact}
 use lib.Ieee.Back.{round_whole}

@@ -1,7 +1,6 @@
 -- NaNs, by their patterns and by the test `x != x`. Assumes nothing.
 use Rattle.std.proofs.Common.{◌≡◌, ℕ, ◌+◌, ◌%◌, ◌^◌, ◌<◌, Bool, true, false, not, T, ltb, leb, sym, refl, ap, ◌∙◌, subst, arith, ltb-false, ltb-true, le-leb}
 use borrow.Author.Tests.{lt-leb}
-use lib.Ieee as Ieee
 use lib.Ieee.{Float, nan, inf, fin, binary64, of_bits, is_nan, ne, nan_bits}
 use lib.Ieee.Bits.{nan_bits_is, nan_bits_above}
 use lib.Ieee.Compare.{differs_from_itself, nan_differs}

@@ -10,10 +10,9 @@ use Rattle.std.proofs.Math.ListN.{length}
 use Rattle.std.proofs.Math.Dec.{ltb}
 use Rattle.rules.specs.Bytes.{byte, word, some_below}
 use Rattle.rules.specs.Instructions.{is_absent}
-use Rattle.rules.specs.Tables.{Bodies, Tables, tables, function_at, label_at, differs, number_type, pointer_type, structure_type, managed_type, odd_return, odd_param, bad_param, bad_record, bad_function, bad_functions, end_before, opcode_at, due_after, due, unknown_at, crossed, bad_code, owns, bad_label, bad_labels, label_count, first_of, content_tests}
+use Rattle.rules.specs.Tables.{Bodies, Tables, tables, function_at, label_at, differs, number_type, pointer_type, structure_type, managed_type, odd_return, bad_param, bad_record, bad_function, bad_functions, end_before, opcode_at, due_after, due, unknown_at, crossed, bad_code, owns, bad_label, bad_labels, label_count, first_of, content_tests}
 use Rattle.rules.specs.Writing.{too_many, broken, table_refusal}
 use Rattle.rules.specs.Converting.{new_type}
-use Rattle.soundness.specs.Names.{one}
 use Rattle.soundness.specs.Tests.{decide, eqb_is, ltb_is, ltb_isnt, false_true, or_neither}
 use Rattle.soundness.specs.Readable.{none_below}
 use Rattle.soundness.specs.Numbering.{third_in_fourth}

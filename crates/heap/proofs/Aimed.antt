@@ -1,26 +1,26 @@
 -- What an address is to, a law for each way out.
-use Prim.Native.Nat.{ℕ, zero, suc, ◌+◌, ◌*◌, ◌-◌, ◌/◌, ◌%◌, ◌≤◌, ◌<◌}
+use Prim.Native.Nat.{ℕ, zero, suc, ◌+◌, ◌-◌, ◌%◌, ◌≤◌, ◌<◌}
 use native.Mathlib.Nat.{add-zero}
 use native.Mathlib.Omega.{arith}
 use mathlib.Core.Path.{◌≡◌, refl, sym, ap, ◌∙◌}
 use mathlib.Core.Bool.{Bool, true, false, cond}
 use mathlib.Core.Option.{Option, none, some}
-use mathlib.Core.Logic.{◌⊎◌, inl, inr, ⊎_elim}
-use mathlib.Core.List.{List, [], ◌∷◌}
+use mathlib.Core.Logic.{⊎_elim}
+use mathlib.Core.List.{List}
 use lib.ListN.{length, get_or}
-use lib.Dec.{eqb, ltb}
+use lib.Dec.{eqb}
 use borrow.Author.Tests.{eq-eqb, ne_eqb, lt-ltb, le-ltb, lt-leb, le-leb, eqb-true}
 use Rattle.rules.specs.declared.Slot.{Slot}
 use Rattle.rules.specs.declared.Num.{Num}
 use Rattle.rules.specs.Bytes.{maybe, byte}
 use Rattle.rules.specs.Instructions.{num_of, num_kind}
 use Rattle.rules.specs.Tables.{Module, structure_at, field_of, fields_from}
-use Rattle.rules.specs.Stack.{slot, at}
-use Rattle.rules.specs.Heap.{Heap, Block, Shape, single, fields, shape_of, cells_in, serial_in, offset_in, find, in_heap, Target, nowhere, entire, this, target_in, target_of}
+use Rattle.rules.specs.Stack.{at}
+use Rattle.rules.specs.Heap.{Shape, single, fields, shape_of, cells_in, serial_in, offset_in, Target, nowhere, target_in, target_of}
 use Rattle.heap.specs.declared.Entry.{Entry}
 use Rattle.heap.specs.declared.Shelf.{Shelf}
-use Rattle.heap.specs.declared.Target.TheVariants.{Lost, Whole, Cell}
-use Rattle.heap.specs.Blocks.{cell_in, entry_at, fields_in, size_in, width_in, cells_of, block_of, blocks_of, heap_of, Sane}
+use Rattle.heap.specs.declared.Target.TheVariants.{Whole, Cell}
+use Rattle.heap.specs.Blocks.{cell_in, entry_at, fields_in, size_in, width_in, cells_of, block_of, heap_of, Sane}
 use Rattle.heap.specs.Targets.{shape_in, Shapes, Plain, Aims}
 use Rattle.heap.proofs.Stores.{split_lt}
 use Rattle.heap.proofs.Lists.{get_or_cells, find_none, find_some}

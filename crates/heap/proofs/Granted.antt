@@ -1,22 +1,21 @@
 -- What `new` does, a law for each way out.
-use Prim.Native.Nat.{ℕ, zero, suc, ◌+◌, ◌*◌, ◌-◌, ◌%◌, ◌≤◌, ◌<◌}
+use Prim.Native.Nat.{ℕ, suc, ◌+◌, ◌*◌, ◌%◌, ◌≤◌, ◌<◌}
 use native.Mathlib.Numerals.{add-one}
 use native.Mathlib.Omega.{arith}
 use mathlib.Core.Path.{◌≡◌, refl, sym, ap, ◌∙◌}
-use mathlib.Core.Option.{Option, none, some}
-use mathlib.Core.Bool.{Bool, true, false, cond}
+use mathlib.Core.Option.{none}
+use mathlib.Core.Bool.{Bool, true, false}
 use mathlib.Core.Logic.{⊎_elim}
 use mathlib.Core.List.{List}
-use lib.ListN.{length, drop}
-use lib.Dec.{leb, ltb}
+use lib.Dec.{leb}
 use borrow.Author.Tests.{lt-ltb, le-ltb, lt-leb, le-leb}
-use Rattle.rules.specs.Heap.{Heap, place_for, heap_with, address_given, lowest_run, serial_limit}
+use Rattle.rules.specs.Heap.{Heap, place_for, serial_limit}
 use Rattle.heap.specs.declared.Entry.{Entry}
 use Rattle.heap.specs.declared.Shelf.{Shelf}
 use Rattle.heap.specs.declared.Room.{Room}
 use Rattle.heap.specs.declared.Room.TheVariants.{From, Nowhere}
 use Rattle.heap.specs.declared.Grant.{Grant}
-use Rattle.heap.specs.Blocks.{cell_in, entry_at, size_in, listed_as, width_in, blocks_of, heap_of, Rising, Laid, Sane}
+use Rattle.heap.specs.Blocks.{entry_at, size_in, listed_as, width_in, heap_of, Sane}
 use Rattle.heap.specs.Changes.{EntryPut, Makes}
 use Rattle.heap.specs.Rooms.{Fitting, Finds, room_of}
 use Rattle.heap.specs.Grants.{Grants}

@@ -1,19 +1,16 @@
 -- Blocks read off entries and cells: what the rules' `find` and `stored` come to.
-use Prim.Native.Nat.{ℕ, zero, suc, ◌+◌, ◌*◌, ◌-◌, ◌%◌, ◌≤◌, ◌<◌}
+use Prim.Native.Nat.{ℕ, zero, suc, ◌+◌, ◌≤◌, ◌<◌}
 use native.Mathlib.Nat.{add-zero}
 use native.Mathlib.Omega.{arith}
 use mathlib.Core.Path.{◌≡◌, refl, sym, ap, ◌∙◌}
-use mathlib.Core.Bool.{Bool, true, false}
 use mathlib.Core.Option.{none, some}
 use mathlib.Core.Logic.{◌⊎◌, inl, inr, ⊎_elim}
-use mathlib.Core.List.{List, [], ◌∷◌}
+use mathlib.Core.List.{List, ◌∷◌}
 use lib.ListN.{length, get_or, set}
-use lib.Dec.{eqb}
 use borrow.Author.Tests.{eq-eqb, ne_eqb}
 use Rattle.rules.specs.Heap.{Block, find, stored, with_cell}
 use Rattle.heap.specs.declared.Entry.{Entry}
-use Rattle.heap.specs.declared.Found.{Found}
-use Rattle.heap.specs.Blocks.{cells_of, block_of, blocks_of, end_of, Outside, Free, Rising, Laid}
+use Rattle.heap.specs.Blocks.{cells_of, block_of, blocks_of, end_of, Outside, Rising, Laid}
 use Rattle.heap.proofs.Stores.{split_lt}
 
 -- ---- cells

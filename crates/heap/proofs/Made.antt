@@ -1,20 +1,19 @@
 -- What stores, removals and new entries make of the heap.
-use Prim.Native.Nat.{ℕ, zero, suc, ◌+◌, ◌*◌, ◌-◌, ◌%◌, ◌≤◌, ◌<◌}
+use Prim.Native.Nat.{ℕ, suc, ◌+◌, ◌*◌, ◌-◌, ◌≤◌, ◌<◌}
 use native.Mathlib.Omega.{arith}
 use mathlib.Core.Path.{◌≡◌, refl, sym, ap, ◌∙◌}
 use mathlib.Core.Bool.{Bool, true, false, ◌&&◌}
 use lib.Dec.{eqb}
-use mathlib.Core.Option.{none, some}
 use mathlib.Core.Logic.{◌⊎◌, inl, inr, ⊎_elim}
 use mathlib.Core.List.{List}
-use lib.ListN.{length, drop}
+use lib.ListN.{length}
 use borrow.Author.Tests.{eq-eqb, ne_eqb, lt-leb, le-leb}
 use Rattle.rules.specs.Bytes.{word}
-use Rattle.rules.specs.Heap.{Heap, Block, having, stored, without, find, is_given, serial_in, offset_in, empty_heap}
+use Rattle.rules.specs.Heap.{Heap, having, stored, without, is_given, serial_in, offset_in, empty_heap}
 use Rattle.heap.specs.declared.Entry.{Entry}
 use Rattle.heap.specs.declared.Shelf.{Shelf}
-use Rattle.heap.specs.Blocks.{cell_in, entry_at, blank, bare, width_in, block_of, blocks_of, heap_of, end_of, Rising, Laid, Sane}
-use Rattle.heap.specs.Changes.{Within, CellPut, Cleared, Closed, Makes}
+use Rattle.heap.specs.Blocks.{cell_in, entry_at, blank, bare, width_in, blocks_of, heap_of, end_of, Rising, Laid, Sane}
+use Rattle.heap.specs.Changes.{CellPut, Cleared, Closed, Makes}
 use Rattle.heap.proofs.Stores.{split_lt}
 use Rattle.heap.proofs.Lists.{find_none, find_some, stored_blocks, stored_laid}
 use Rattle.heap.proofs.Removal.{Gone, gone_rising, gone_blocks, gone_laid}

@@ -1,20 +1,19 @@
 -- What the search for a free run answers.
-use Prim.Native.Nat.{ℕ, zero, suc, ◌+◌, ◌*◌, ◌-◌, ◌≤◌, ◌<◌}
+use Prim.Native.Nat.{ℕ, suc, ◌+◌, ◌≤◌, ◌<◌}
 use native.Mathlib.Omega.{arith}
-use mathlib.Core.Path.{◌≡◌, refl, sym, ap, ◌∙◌}
-use mathlib.Core.Bool.{true, false}
-use mathlib.Core.Option.{Option, none, some}
-use mathlib.Core.Logic.{◌⊎◌, inl, inr, ⊎_elim}
+use mathlib.Core.Path.{◌≡◌, sym, ◌∙◌}
+use mathlib.Core.Bool.{false}
+use mathlib.Core.Logic.{◌⊎◌, inr, ⊎_elim}
 use mathlib.Core.List.{List}
-use lib.ListN.{length, get_or}
+use lib.ListN.{get_or}
 use Rattle.rules.specs.Heap.{free, lowest_run}
 use Rattle.heap.specs.declared.Entry.{Entry}
 use Rattle.heap.specs.declared.Shelf.{Shelf}
 use Rattle.heap.specs.declared.Found.{Found}
 use Rattle.heap.specs.declared.Found.TheVariants.{At, Nothing}
 use Rattle.heap.specs.declared.Room.TheVariants.{From, Nowhere}
-use Rattle.heap.specs.Blocks.{cell_in, entry_at, width_in, heap_of, end_of, Outside, Free, Sane}
-use Rattle.heap.specs.Rooms.{Filled, Marked, Gap, Risen, Fitting, Finds}
+use Rattle.heap.specs.Blocks.{cell_in, entry_at, width_in, heap_of, end_of, Sane}
+use Rattle.heap.specs.Rooms.{Filled, Marked, Gap, Risen, Finds}
 use Rattle.heap.proofs.Stores.{split_lt}
 use Rattle.heap.proofs.Runs.{lowest_none, lowest_some, free_is, free_past, free_not, run_apart}
 

@@ -1,5 +1,5 @@
 -- What `grounds_of` and `need_of` compute is what the declarative definitions say.
-use Rattle.std.specs.Prelude.{◌≡◌, ◌≢◌, ◌⊎◌, Bool, true, false, cond, get_or, set, replicate, leb, ltb, eqb}
+use Rattle.std.specs.Prelude.{◌≡◌, ◌⊎◌, Bool, true, false, cond, get_or, set, replicate, leb, eqb}
 use Rattle.std.proofs.Math.Path.{refl, subst}
 use Rattle.std.proofs.Common.{sym, ap, ◌∙◌, inl, inr, length-set, length-append, get_or-set_same, get_or-set_other}
 use Prim.Native.Nat.{ℕ, zero, suc, ◌+◌, ◌-◌, ◌*◌, ◌≤◌, ◌<◌, max}
@@ -11,12 +11,12 @@ use Rattle.std.proofs.lemmas.List.{length-replicate}
 use Rattle.rules.specs.Bytes.{maybe}
 use Rattle.rules.specs.Instructions.{Ty, size}
 use Rattle.soundness.specs.Names.{Instruction, push, load, store, lea, one, two, tload, tstore, bump, jmp, branch, call, ret, null, new, delete, flea}
-use Rattle.rules.specs.Tables.{Body, entry, fn, Function, Module}
+use Rattle.rules.specs.Tables.{Body, fn, Function, Module}
 use Rattle.rules.specs.Typing.{Lists, lists, Flow, Typing, Flows, Gives as GivenBy, to, strip, with_result, judge, judge_at, end_flow, end_of, past, place_flow, start_of, Consistent, WellTyped}
-use Rattle.soundness.specs.Tests.{decide, none_some, some_inj, eqb_is, eqb_isnt, leb_is, leb_isnt, leb_yes}
+use Rattle.soundness.specs.Tests.{decide, none_some, some_inj, eqb_is, eqb_isnt, leb_is, leb_isnt}
 use Rattle.soundness.specs.Exact.{In}
 use Rattle.soundness.specs.Exact.{Short, short_place}
-use Rattle.rules.specs.Need.{raised, height, Path, begins, goes_on, called, call_at, argument_at, Calls, Reaches, here, within, Stacks, alone, under_it, Most, Needs, Recursive}
+use Rattle.rules.specs.Need.{raised, height, Path, begins, goes_on, called, call_at, argument_at, Calls, Reaches, here, within, Stacks, alone, under_it, Needs, Recursive}
 use Rattle.need.specs.Safe.{path_given}
 use Rattle.need.specs.Grounds.{ground_bound, Tops, topmost}
 use Rattle.need.specs.Settle.{Long, needs_not_recursive, long_recursive, needs_once}

@@ -1,16 +1,16 @@
 -- Where operands begin on paths of flow: it only grows, with the local count; so it is at most 512, and a table of the largest at each place is exact.
-use Rattle.std.specs.Prelude.{◌≡◌, refl, ◌⊎◌, ℕ, zero, suc, ◌+◌, ◌*◌, ◌≤◌, ◌<◌, Bool, true, false, cond, ◌&&◌, List, [], ◌∷◌, ◌++◌, length, leb, ltb, eqb}
+use Rattle.std.specs.Prelude.{◌≡◌, refl, ◌⊎◌, ℕ, suc, ◌+◌, ◌*◌, ◌≤◌, ◌<◌, Bool, true, false, cond, ◌&&◌, List, [], ◌∷◌, length, ltb, eqb}
 use Rattle.std.proofs.Common.{sym, ap, ◌∙◌, subst, inl, inr, arith}
 use Rattle.std.proofs.Math.Option.{Option, none, some}
-use Rattle.soundness.specs.Names.{Num, int, Instruction, push, load, store, lea, one, two, tload, tstore, bump, jmp, branch, call, ret, null, new, delete, flea}
+use Rattle.soundness.specs.Names.{int, Instruction, push, load, store, lea, one, two, tload, tstore, bump, jmp, branch, call, ret, null, new, delete, flea}
 use Rattle.rules.specs.Bytes.{maybe}
-use Rattle.rules.specs.Instructions.{Ty, num, ptr, cell, void, kind_of, num_of, eq_ty, size}
+use Rattle.rules.specs.Instructions.{Ty, num, kind_of, num_of, eq_ty, size}
 use Rattle.rules.specs.Tables.{Body, entry, fn, Module}
 use Rattle.rules.specs.Stack.{at}
-use Rattle.rules.specs.Heap.{shape_of, pointee_in}
+use Rattle.rules.specs.Heap.{shape_of}
 use Rattle.rules.specs.Operations.{refuse, class1, class2}
 use Rattle.rules.specs.Machine.{owned, own}
-use Rattle.rules.specs.Typing.{Lists, lists, Flow, to, operand, as_ptr, as_num, as_struct_ptr, as_fields, as_unmanaged, agree, only, strip, with_result, judge_ret, judge, judge_at, gives1, gives2, Typing, AllNext, Flows, end_flow, place_flow, start_of, end_of, past, Consistent}
+use Rattle.rules.specs.Typing.{Lists, lists, Flow, to, operand, agree, only, judge, judge_at, Typing, AllNext, end_flow, place_flow, start_of, end_of, past, Consistent}
 use Rattle.soundness.specs.Tests.{decide, eqb_is, eqb_isnt}
 use Rattle.soundness.specs.Exact.{In}
 use Rattle.soundness.specs.Exact.{by_maybe, by_no, by_operand, by_only, by_ptr, by_num, by_unmanaged, by_struct, by_fields, by_strip, by_ret}

@@ -1,14 +1,14 @@
 -- The contract of an algorithm that keeps the largest ground_level at labelled places only, R, and walks from each straight on through the others, U.
 -- It may walk a place again when its ground_level rises; in the order `Before` it never has to.
-use Rattle.std.specs.Prelude.{◌≡◌, refl, ◌⊎◌, ℕ, zero, suc, ◌+◌, ◌-◌, ◌≤◌, ◌<◌, List, [], ◌∷◌, length}
-use Rattle.std.proofs.Common.{sym, ap, ◌∙◌, subst, inl, inr, arith}
-use Rattle.std.proofs.Math.Option.{Option, none, some}
+use Rattle.std.specs.Prelude.{◌≡◌, ◌⊎◌, ℕ, suc, ◌+◌, ◌-◌, ◌≤◌, ◌<◌, List, [], ◌∷◌, length}
+use Rattle.std.proofs.Common.{sym, ◌∙◌, subst, inl, inr, arith}
+use Rattle.std.proofs.Math.Option.{some}
 use Rattle.rules.specs.Instructions.{Ty}
 use Rattle.rules.specs.Tables.{Body, Module}
 use Rattle.rules.specs.Typing.{Lists, lists, place_flow, start_of}
 use Rattle.soundness.specs.Tests.{some_inj}
 use Rattle.soundness.specs.Exact.{In}
-use Rattle.rules.specs.Need.{raised, height, Path, begins, goes_on, call_at, argument_at, Most}
+use Rattle.rules.specs.Need.{raised, height, Path, begins, goes_on, call_at, argument_at}
 use Rattle.need.specs.Grounds.{Onward, Tops, topmost}
 use Rattle.need.specs.Settle.{Summed}
 

@@ -1,35 +1,35 @@
 -- 02, A11: "A run with that capacity or more, where frames are at most 64, never ends in 20". Over the machine, then over bytes and answers.
-use Rattle.std.specs.Prelude.{◌≡◌, refl, ◌≢◌, ◌⊎◌, Bool, cond, ◌&&◌, List, [], ◌∷◌, ◌++◌, length, leb, ltb, eqb}
-use Rattle.std.proofs.Common.{sym, ap, ◌∙◌, subst, inl, inr, length-append}
-use Prim.Native.Nat.{ℕ, zero, suc, ◌+◌, ◌-◌, ◌≤◌, ◌<◌}
+use Rattle.std.specs.Prelude.{◌≡◌, refl, ◌≢◌, Bool, cond, ◌&&◌, List, [], ◌∷◌, length, eqb}
+use Rattle.std.proofs.Common.{sym, ap, ◌∙◌, subst, inl, inr}
+use Prim.Native.Nat.{ℕ, zero, suc, ◌+◌, ◌-◌, ◌≤◌}
 use native.Mathlib.Omega.{arith}
 use Rattle.std.proofs.Math.Bool.{true, false}
 use Rattle.std.proofs.Math.Option.{Option, none, some}
-use Rattle.soundness.specs.Names.{Slot, Num, Instruction, call}
+use Rattle.soundness.specs.Names.{Slot, Instruction, call}
 use Rattle.rules.specs.Bytes.{maybe}
 use Rattle.rules.specs.Instructions.{Ty, num, ptr, num_kind, size}
 use Rattle.rules.specs.Tables.{Body, entry, fn, body_of, Function, Module}
 use Rattle.rules.specs.ModuleFile.{refusal, read, tables_in}
 use Rattle.rules.specs.Heap.{LentHeap, heap_capacity}
 use Rattle.rules.specs.Stack.{Lent, capacity}
-use Rattle.rules.specs.Machine.{Frame, Memory, State, goto, bind, opened, Next, goes, stops, finishes, exec, exec_in, step, advance, run, Outcome, outcome, at_end, end_number}
-use Rattle.rules.specs.Typing.{Lists, lists, Flow, judge, judge_at, Typing, AllNext, Flows, Gives, end_flow, place_flow, StartOk, start_of, end_of, past, Consistent, WellTyped}
+use Rattle.rules.specs.Machine.{Frame, State, goto, bind, opened, Next, goes, stops, finishes, exec, exec_in, step, advance, run, Outcome, outcome, at_end, end_number}
+use Rattle.rules.specs.Typing.{Lists, lists, Flow, judge, judge_at, Typing, AllNext, Flows, Gives, end_flow, place_flow, start_of, end_of, past, Consistent, WellTyped}
 use Rattle.rules.specs.Answers.{declared, fits, start_state, arguments, run_number, run_refusal, scan_refusal, run_module, outcome_of}
 use Rattle.rules.specs.Claims.{AreBytes}
 use Rattle.rules.specs.Demand3.{IsAccepted}
-use Rattle.soundness.specs.Tests.{decide, none_some, some_inj, eqb_same, eqb_other, leb_yes, and_both, false_true}
-use Rattle.soundness.specs.Invariant.{FrameOk, ops_length, locals_length}
+use Rattle.soundness.specs.Tests.{none_some, some_inj, eqb_same, eqb_other, leb_yes, and_both, false_true}
+use Rattle.soundness.specs.Invariant.{ops_length, locals_length}
 use Rattle.soundness.specs.Readable.{Orderly, orderly}
 use Rattle.soundness.specs.Cutting.{good_file}
 use Rattle.soundness.specs.Heaps.{Address}
 use Rattle.soundness.specs.Started.{Closed, Fit, NextFit, advance_fit}
 use Rattle.soundness.specs.Narrow.{Narrow, narrow_closed}
 use Rattle.soundness.specs.Begun.{start_fit}
-use Rattle.soundness.specs.Sound.{Inv, Moved, Fine}
+use Rattle.soundness.specs.Sound.{Inv, Fine}
 use Rattle.soundness.specs.Runs.{Starts, start_inv, advance_fine}
 use Rattle.soundness.specs.Exact.{In, start_given}
 use Rattle.soundness.specs.Whole.{accepted_typed, started, scan_started, run_readable, answered_number}
-use Rattle.rules.specs.Need.{raised, height, Path, begins, goes_on, called, call_at, arity, argument_at, Calls, Reaches, here, within, Stacks, alone, under_it, Most, Needs}
+use Rattle.rules.specs.Need.{raised, Path, begins, goes_on, called, call_at, arity, argument_at, Reaches, here, within, Stacks, alone, under_it, Needs}
 use Rattle.need.specs.Steps.{Went, stays, binds, calls, returns, Over, high, many, Stepped, exec_step}
 
 -- ---- paths and typings

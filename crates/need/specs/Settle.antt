@@ -1,15 +1,15 @@
 -- Needs over the call graph: what one body adds to its callees' needs, and 47, the bodies from which a chain of calls comes back.
-use Rattle.std.specs.Prelude.{◌≡◌, ◌≢◌, ◌⊎◌, Bool, true, false, cond, length, get_or, set, replicate, ltb, eqb}
+use Rattle.std.specs.Prelude.{◌≡◌, ◌⊎◌, Bool, true, false, length, get_or, set, replicate, eqb}
 use Rattle.std.proofs.Math.Path.{refl, ap}
-use Rattle.std.proofs.Common.{sym, ◌∙◌, subst, inl, inr, arith, length-set, get_or-set_same, get_or-set_other}
+use Rattle.std.proofs.Common.{sym, ◌∙◌, subst, inl, inr, arith, length-set, get_or-set_other}
 use Prim.Native.Nat.{ℕ, zero, suc, ◌+◌, ◌≤◌, ◌<◌}
-use Rattle.std.proofs.Math.Option.{Option, none, some}
-use mathlib.Core.List.{List, [], ◌∷◌, ◌++◌}
+use Rattle.std.proofs.Math.Option.{some}
+use mathlib.Core.List.{List, [], ◌∷◌}
 use Rattle.std.proofs.lemmas.List.{length-replicate}
-use Rattle.rules.specs.Tables.{Body, entry, fn, Function, Module}
-use Rattle.rules.specs.Typing.{Lists, lists}
-use Rattle.soundness.specs.Tests.{decide, none_some, some_inj, eqb_is, eqb_isnt, false_true}
-use Rattle.rules.specs.Need.{raised, height, Path, call_at, argument_at, Calls, Reaches, here, within, Stacks, alone, under_it, Most, Needs, Chain, stay, then_call, Recursive}
+use Rattle.rules.specs.Tables.{Body, fn, Module}
+use Rattle.rules.specs.Typing.{Lists}
+use Rattle.soundness.specs.Tests.{decide, eqb_is, eqb_isnt, false_true}
+use Rattle.rules.specs.Need.{height, Path, call_at, argument_at, Calls, Reaches, here, within, Stacks, alone, under_it, Most, Needs, Chain, stay, then_call, Recursive}
 
 -- ---- the largest of all is one
 

@@ -1,17 +1,17 @@
 -- What one instruction does to frames and heights, with a typing's flow from its place: lengths alone, no types.
-use Rattle.std.specs.Prelude.{◌≡◌, refl, ◌≢◌, ℕ, zero, suc, ◌+◌, ◌-◌, ◌≤◌, ◌<◌, Bool, true, false, cond, ◌&&◌, ◌||◌, List, [], ◌∷◌, ◌++◌, length, leb, ltb, eqb}
+use Rattle.std.specs.Prelude.{◌≡◌, refl, ℕ, suc, ◌+◌, ◌-◌, ◌≤◌, ◌<◌, Bool, true, false, cond, ◌&&◌, ◌||◌, List, [], ◌∷◌, ◌++◌, length, leb, ltb, eqb}
 use Rattle.std.proofs.Common.{sym, ap, ◌∙◌, subst, arith, length-append}
 use Rattle.std.proofs.Math.Option.{Option, none, some}
-use Rattle.soundness.specs.Names.{Slot, Num, int, Unary, pop, copy, neg, complement, convert, count, Binary, swap, arith as arithmetic, cmp, Operator, Condition, Instruction, push, load, store, lea, one, two, tload, tstore, bump, jmp, branch, call, ret, null, new, delete, flea}
+use Rattle.soundness.specs.Names.{Slot, Num, int, Unary, pop, copy, neg, complement, convert, count, Binary, swap, arith as arithmetic, cmp, Condition, Instruction, push, load, store, lea, one, two, tload, tstore, bump, jmp, branch, call, ret, null, new, delete, flea}
 use Rattle.rules.specs.Bytes.{maybe}
-use Rattle.rules.specs.Instructions.{Pointee, void, cell, struct, Ty, num, ptr, ptr_kind, is_pointer, kind_of, num_of, eq_ty}
-use Rattle.rules.specs.Tables.{Body, entry, fn, Function, Module}
-use Rattle.rules.specs.Stack.{slot, pointer_to, at, put, under}
+use Rattle.rules.specs.Instructions.{void, cell, struct, Ty, num, ptr, ptr_kind, is_pointer, kind_of, num_of, eq_ty}
+use Rattle.rules.specs.Tables.{fn, Function, Module}
+use Rattle.rules.specs.Stack.{slot, pointer_to, at, put}
 use Rattle.rules.specs.Heap.{Shape, single, fields, shape_of, cells_in, pointee_in, having, null_address, field_address, serial_in, Spot, on_stack, in_heap, Target, nowhere, entire, this, target_of, place_for, heap_with, address_given, is_given, without, Heap, collected}
-use Rattle.rules.specs.Operations.{Class, any, number, whole, class1, class2, refuse, eval1, eval2, apply1, apply2, Result, yields, raises, zero_divide, computed, compared, unordered, converted, unfit, holds, low}
+use Rattle.rules.specs.Operations.{Class, any, number, whole, class1, class2, refuse, eval1, eval2, apply1, apply2, Result, yields, raises, zero_divide, unordered, unfit, holds, low}
 use Rattle.rules.specs.Machine.{Frame, Memory, State, goto, bind, opened, own, owned, Next, goes, stops, finishes, keeping, becomes, pushing, resulting, take1, pointing, as_number, as_structure, deref, assign, write, writing, bumping, creating_in, creating, deleting, entering, testing, kinds_match, calling, leaving, returning, exec}
-use Rattle.rules.specs.Typing.{Lists, lists, Flow, to, gives1, gives2, operand, as_ptr, as_num, as_fields, agree, only, strip, with_result, judge_ret, judge, Flows}
-use Rattle.soundness.specs.Tests.{decide, none_some, some_inj, eqb_is, eqb_same, leb_isnt, ltb_isnt, and_both}
+use Rattle.rules.specs.Typing.{Lists, lists, Flow, to, gives1, gives2, operand, as_num, as_fields, agree, only, strip, with_result, judge, Flows}
+use Rattle.soundness.specs.Tests.{decide, none_some, eqb_is, leb_isnt, ltb_isnt, and_both}
 use Rattle.soundness.specs.Slots.{at_up}
 use Rattle.soundness.specs.Sound.{need, need_only, need_no, need_strip, at_out}
 

@@ -1,7 +1,7 @@
 -- 02, A11: what a report says of runs (`Suffices` of the rules), proved.
-use Rattle.std.specs.Prelude.{◌≡◌, ◌≢◌, ◌⊎◌, Bool, cond, List, [], ◌∷◌, ◌++◌, ltb, leb, eqb}
+use Rattle.std.specs.Prelude.{◌≡◌, Bool, cond, List, [], ◌++◌, ltb}
 use Rattle.std.proofs.Math.Path.{refl, ap, subst}
-use Rattle.std.proofs.Common.{sym, ◌∙◌, inl, inr, append_assoc, take_at, drop_at}
+use Rattle.std.proofs.Common.{sym, ◌∙◌, append_assoc, take_at, drop_at}
 use Prim.Native.Nat.{ℕ, zero, suc, ◌+◌, ◌-◌, ◌*◌, ◌≤◌, ◌<◌}
 use native.Mathlib.Omega.{arith}
 use Rattle.std.proofs.Math.Bool.{true, false}
@@ -10,20 +10,19 @@ use Rattle.std.proofs.Math.ListN.{length, take, drop, length-append}
 use Rattle.std.proofs.Math.Seq.{drop-append-add}
 use Rattle.soundness.specs.Names.{CheckAnswer}
 use Rattle.soundness.specs.Names.{Refused, Untyped, Accepted}
-use Rattle.rules.specs.Bytes.{bytes, maybe}
+use Rattle.rules.specs.Bytes.{maybe}
 use Rattle.rules.specs.Instructions.{Ty}
 use Rattle.rules.specs.Tables.{Body, entry, fn, body_of, body_number, Function, function_count, Module, module_of}
 use Rattle.rules.specs.ModuleFile.{edition, refusal, functions, labels, functions_in, read}
-use Rattle.rules.specs.Heap.{LentHeap}
-use Rattle.rules.specs.Stack.{Lent, capacity}
-use Rattle.rules.specs.Typing.{Lists, lists, start_of, WellTyped}
+use Rattle.rules.specs.Stack.{Lent}
+use Rattle.rules.specs.Typing.{start_of, WellTyped}
 use Rattle.rules.specs.Check.{bodies, functions_from, first_untyped}
-use Rattle.rules.specs.Answers.{check, check_with, judged, check_number, run_number, run_refusal, scan_refusal, run_module}
+use Rattle.rules.specs.Answers.{check, check_with, judged, check_number, run_refusal}
 use Rattle.rules.specs.Demand3.{IsAccepted, Earlier, Exists}
-use Rattle.soundness.specs.Tests.{decide, none_some, some_inj, ltb_is, ltb_isnt, ltb_yes, ltb_no}
+use Rattle.soundness.specs.Tests.{decide, none_some, ltb_is, ltb_isnt, ltb_yes, ltb_no}
 use Rattle.soundness.specs.Whole.{accepted_typed, started}
 use Rattle.soundness.specs.Cutting.{function_count_lem, function_count_le, few_functions}
-use Rattle.rules.specs.Need.{height, Path, argument_at, call_at, Calls, Reaches, here, within, Stacks, alone, under_it, Needs, Recursive}
+use Rattle.rules.specs.Need.{height, argument_at, Calls, Reaches, here, within, Stacks, alone, under_it, Needs, Recursive}
 use Rattle.need.specs.Safe.{run_never_overflows}
 use Rattle.need.specs.Grounds.{height_bound}
 use Rattle.need.specs.Settle.{Long, long_recursive, needs_not_recursive}

@@ -2,11 +2,10 @@
 use Prim.Native.Nat.{ℕ, ◌+◌, ◌-◌, ◌≤◌, ◌<◌}
 use native.Mathlib.Omega.{arith}
 use mathlib.Core.Path.{◌≡◌, refl, sym, ap, ◌∙◌, subst}
-use mathlib.Core.Bool.{Bool, true, false}
+use mathlib.Core.Bool.{Bool, false}
 use Rattle.rules.specs.Instructions.{is_pointer}
 use mathlib.Core.Logic.{inl, inr}
 use mathlib.Core.List.{List, [], ◌∷◌}
-use lib.Dec.{eqb}
 use Rattle.rules.specs.Tables.{Module}
 use Rattle.rules.specs.Heap.{Heap, empty_heap, Spot, on_stack}
 use Rattle.rules.specs.Machine.{Memory, Frame, Next, stops, goto, keeping, becomes, bumping, exec_in, deref}

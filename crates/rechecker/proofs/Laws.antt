@@ -1,39 +1,36 @@
 -- The bytes of a record, set one by one; a body judged with marks of its own; the two calls' answers.
-use Prim.Native.Nat.{ℕ, zero, suc, ◌+◌, ◌-◌, ◌*◌, ◌^◌, ◌≤◌, ◌<◌}
+use Prim.Native.Nat.{ℕ, zero, suc, ◌+◌, ◌-◌, ◌*◌, ◌≤◌, ◌<◌}
 use mathlib.Core.Path.{◌≡◌, refl, ap, ◌∙◌, sym, subst}
 use native.Mathlib.Omega.{arith}
-use mathlib.Core.Bool.{Bool, true, false, not, cond, ◌&&◌, ◌||◌}
+use mathlib.Core.Bool.{Bool, true, false}
 use mathlib.Core.Option.{Option, none, some}
 use mathlib.Core.List.{List, [], ◌∷◌, ◌++◌}
-use lib.ListN.{length, get_or, set, take, drop, replicate, length-append, length-set, length-replicate}
-use lib.Seq.{get_or-set_same, get_or-set_other}
+use lib.ListN.{length, get_or, set, drop, replicate, length-append, length-set, length-replicate}
 use lib.Dec.{ltb, eqb}
-use Rattle.rules.specs.Bytes.{bytes, byte, word, written, some_below, maybe}
+use Rattle.rules.specs.Bytes.{bytes, written}
 use Rattle.rules.specs.Instructions.{Ty}
-use Rattle.rules.specs.Tables.{Body, entry, fn, body_of, body_number, function_count, Function, Module, module_of}
-use Rattle.rules.specs.ModuleFile.{edition, functions_in, refusal, functions, labels, read, bodies_in, tables_in}
+use Rattle.rules.specs.Tables.{Body, entry, fn, body_of, function_count, Module, module_of}
+use Rattle.rules.specs.ModuleFile.{edition, functions_in, refusal, functions, labels, read, bodies_in}
 use Rattle.rules.specs.Typing.{WellTyped, start_of}
-use Rattle.rules.specs.Check.{Table, check_body, bodies, functions_from, first_untyped}
+use Rattle.rules.specs.Check.{check_body, bodies, functions_from, first_untyped}
 use Rattle.rules.specs.declared.CheckAnswer.{CheckAnswer}
 use Rattle.rules.specs.declared.CheckAnswer.TheVariants.{Refused, Untyped, Accepted}
-use Rattle.rules.specs.Answers.{Checked, checked, check, check_with}
+use Rattle.rules.specs.Answers.{Checked, check}
 use Rattle.format.specs.declared.Sections.{Sections}
 use Rattle.format.specs.Layout.{Packed, sections_of}
 use Rattle.reader.specs.declared.Opened.TheVariants as Opened
 use Rattle.reader.specs.Answers.{answer, opened_of}
 use Rattle.reader.proofs.Opening.{opened_refused}
-use Rattle.soundness.specs.Tests.{decide, none_some, some_inj, eqb_is, eqb_isnt, eqb_same, eqb_other, ltb_is, ltb_isnt, ltb_yes, ltb_no, false_true}
-use Rattle.soundness.specs.Readable.{Has, start_is}
-use Rattle.soundness.specs.Cutting.{function_count_lem, few_functions, good_file}
-use Rattle.nodes.specs.Nodes.{Tabled, mark_of, count_of, done_of, unseen, Fits}
-use Rattle.nodes.proofs.Bounds.{is_entry, is_function}
+use Rattle.soundness.specs.Tests.{decide, eqb_is, eqb_isnt, ltb_is, ltb_isnt, ltb_yes, ltb_no, false_true}
+use Rattle.soundness.specs.Readable.{Has}
+use Rattle.soundness.specs.Cutting.{function_count_lem}
+use Rattle.nodes.specs.Nodes.{Tabled, mark_of, count_of, done_of, unseen}
 use Rattle.nodes.proofs.Lists.{unseen_most}
-use Rattle.checker.specs.Work.{Working, Sound, Left, Settled, CheckIs, Exactly}
+use Rattle.checker.specs.Work.{Working, Left, Settled, CheckIs}
 use Rattle.checker.proofs.Covering.{typed, untyped}
 use Rattle.checker.proofs.Verdicts.{exactly}
-use Rattle.rules.specs.declared.RecordingAnswer.{RecordingAnswer}
 use Rattle.rules.specs.declared.RecordingAnswer.TheVariants.{Unrecorded, RecordedUntyped, Recorded}
-use Rattle.rules.specs.Recording.{flag, flag_of, flags_of, record_of, record_length, index_of, flag_at, record_differs, first_zero, Recording, recording, recording_with, check_recording, updated, answer_from, rechecked, recheck_with, recheck}
+use Rattle.rules.specs.Recording.{flag, flag_of, flags_of, record_of, record_length, index_of, record_differs, first_zero, recording, recording_with, check_recording, updated, answer_from, rechecked, recheck}
 use Rattle.rechecks.specs.Whole.{typable_flag, full_answer}
 use Rattle.rechecks.specs.Files.{recorded_as, recording_writes}
 use Rattle.beside.specs.Bodies.{body_at, bit, headed, oned}

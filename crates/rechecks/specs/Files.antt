@@ -1,25 +1,25 @@
 -- "a module with the same edition, signatures, constant types, structures and other bodies, their labels the same by number and place within": of two
 -- files that can be read, by their tables; and that this is what the update asks of the modules read from them.
-use Rattle.std.specs.Prelude.{◌≡◌, ◌≢◌, Bool, true, false, cond, ◌&&◌, List, [], ◌∷◌, ◌++◌, get_or, take, drop, leb, eqb}
+use Rattle.std.specs.Prelude.{◌≡◌, ◌≢◌, true, ◌&&◌, List, [], ◌∷◌, ◌++◌, get_or, take, drop, leb, eqb}
 use Rattle.std.proofs.Math.Path.{refl, sym, ap}
 use Rattle.std.proofs.Common.{◌∙◌, subst, take_at}
-use Prim.Native.Nat.{ℕ, zero, suc, ◌+◌, ◌-◌, ◌*◌, ◌^◌, ◌≤◌, ◌<◌}
+use Prim.Native.Nat.{ℕ, zero, suc, ◌+◌, ◌-◌, ◌*◌, ◌≤◌, ◌<◌}
 use native.Mathlib.Omega.{arith}
 use Rattle.std.proofs.Math.Option.{Option, none, some}
 use Rattle.std.proofs.Math.ListN.{length}
 use Rattle.std.proofs.Math.Dec.{ltb}
-use Rattle.soundness.specs.Names.{Slot, Num, Instruction, CheckAnswer, Refused, Untyped, Accepted}
-use Rattle.rules.specs.Bytes.{byte, number, word, maybe, within}
+use Rattle.soundness.specs.Names.{Slot, Instruction, CheckAnswer, Refused, Untyped, Accepted}
+use Rattle.rules.specs.Bytes.{byte, number, word, within}
 use Rattle.rules.specs.Instructions.{Ty, Opcode, absent, bare, wide, opcodes, opcode_of, instruction_of, size}
-use Rattle.rules.specs.Tables.{Bodies, Tables, constant_count, function_count, structure_count, constant_at, function_at, constant_of, function_of, structure_of, opcode_at, due_after, due, due_in, code_of, place_in, body_start, body_end, Body, entry, fn, eq_body, body_of, Function, Module, module_of, label_count}
+use Rattle.rules.specs.Tables.{Bodies, Tables, constant_count, function_count, structure_count, constant_of, function_of, structure_of, opcode_at, due_after, due_in, code_of, place_in, body_start, body_end, Body, entry, fn, eq_body, body_of, Function, module_of}
 use Rattle.rules.specs.ModuleFile.{refusal, edition, functions, functions_in, labels, read, tables_in, bodies_in}
 use Rattle.rules.specs.Writing.{table_refusal}
 use Rattle.rules.specs.Machine.{owned}
-use Rattle.rules.specs.Typing.{start_of, end_of}
+use Rattle.rules.specs.Typing.{start_of}
 use Rattle.rules.specs.Claims.{due_from}
-use Rattle.soundness.specs.Tests.{decide, none_some, some_inj, eqb_is, eqb_same, leb_is, leb_yes, ltb_is, ltb_yes, ltb_no, and_both, and_intro}
+use Rattle.soundness.specs.Tests.{decide, none_some, some_inj, eqb_same, leb_yes, ltb_is, ltb_yes, ltb_no, and_intro}
 use Rattle.soundness.specs.Invariant.{owned_is}
-use Rattle.soundness.specs.Readable.{Has, Orderly, orderly, has_end, label_is, place_inside, cut_from, sized, Sized, start_is, place_is}
+use Rattle.soundness.specs.Readable.{Has, orderly, has_end, label_is, place_inside, cut_from, sized, Sized, place_is}
 use Rattle.soundness.specs.Cutting.{good_file, function_count_lem, few_functions}
 use Rattle.rules.specs.Check.{bodies, first_untyped}
 use Rattle.rules.specs.Answers.{check_number, check_body_named, check}

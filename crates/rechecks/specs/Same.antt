@@ -1,18 +1,18 @@
 -- A body that stands elsewhere in another module of the same edition, with the same code, labels by number and place within, signatures, constant types and structures, has a typing there too.
-use Rattle.std.specs.Prelude.{◌≡◌, refl, ℕ, zero, suc, ◌+◌, ◌-◌, ◌≤◌, ◌<◌, Bool, true, false, cond, ◌&&◌, List, [], ◌∷◌, ◌++◌, length, leb, ltb, eqb}
+use Rattle.std.specs.Prelude.{◌≡◌, refl, ℕ, ◌+◌, ◌-◌, ◌≤◌, ◌<◌, Bool, true, false, cond, ◌&&◌, List, [], ◌∷◌, ◌++◌, length, leb, ltb, eqb}
 use Rattle.std.proofs.Common.{sym, ◌∙◌, subst}
 use Rattle.std.proofs.Math.Path.{ap}
 use native.Mathlib.Omega.{arith}
 use Rattle.std.proofs.Math.Option.{Option, none, some}
 use Rattle.soundness.specs.Names.{Slot, Num, int, Instruction, push, load, store, lea, one, two, tload, tstore, bump, jmp, branch, call, ret, null, new, delete, flea}
 use Rattle.rules.specs.Bytes.{maybe}
-use Rattle.rules.specs.Instructions.{Pointee, void, cell, struct, Ty, num, ptr, kind_of, num_of, eq_ty, size}
+use Rattle.rules.specs.Instructions.{void, cell, struct, Ty, num, ptr, kind_of, num_of, eq_ty, size}
 use Rattle.rules.specs.Tables.{Body, entry, fn, Function, Module}
 use Rattle.rules.specs.Heap.{Shape, single, fields, shape_of, pointee_in}
 use Rattle.rules.specs.Stack.{at}
 use Rattle.rules.specs.Operations.{refuse, class1, class2}
 use Rattle.rules.specs.Machine.{owned, own}
-use Rattle.rules.specs.Typing.{Lists, lists, Flow, to, operand, as_ptr, as_struct_ptr, as_fields, as_unmanaged, as_num, agree, only, strip, with_result, judge_ret, judge, judge_at, gives1, gives2, Typing, AllNext, Flows, Gives, end_flow, place_flow, start_of, StartOk, end_of, past, Consistent}
+use Rattle.rules.specs.Typing.{Lists, lists, Flow, to, operand, as_fields, as_num, agree, only, strip, with_result, judge_ret, judge, judge_at, gives1, gives2, Typing, Flows, Gives, end_flow, place_flow, start_of, StartOk, end_of, Consistent}
 use Rattle.rules.specs.Demand3.{Typable}
 use Rattle.soundness.specs.Tests.{decide, none_some, some_inj, leb_is, leb_isnt, leb_yes}
 use Rattle.soundness.specs.Exact.{start_given}

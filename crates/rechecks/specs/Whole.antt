@@ -1,16 +1,15 @@
 -- 02, A10: the update's answer is the full check's.
-use Rattle.std.specs.Prelude.{◌≡◌, refl, ◌≢◌, ◌⊎◌, ℕ, zero, suc, ◌+◌, ◌*◌, ◌/◌, ◌%◌, ◌^◌, ◌≤◌, ◌<◌, Bool, true, false, not, cond, ◌&&◌, ◌||◌, List, [], ◌∷◌, ◌++◌, length, get_or, set, drop, take, leb, ltb, eqb}
-use Rattle.std.proofs.Common.{sym, ap, ◌∙◌, subst, inl, inr, arith, pow-suc, length-append, length-set, get_or-set_same, get_or-set_other}
+use Rattle.std.specs.Prelude.{◌≡◌, refl, ◌≢◌, ◌⊎◌, ℕ, zero, suc, ◌+◌, ◌*◌, ◌/◌, ◌^◌, ◌≤◌, ◌<◌, Bool, false, cond, List, [], ◌∷◌, ◌++◌, length, get_or, set, drop, take, ltb, eqb}
+use Rattle.std.proofs.Common.{sym, ap, ◌∙◌, subst, inl, inr, arith, pow-suc, length-set, get_or-set_same, get_or-set_other}
 use Rattle.std.proofs.Math.Option.{Option, none, some}
-use Rattle.soundness.specs.Names.{CheckAnswer, Refused, Untyped, Accepted}
-use Rattle.rules.specs.Bytes.{bytes, byte, number, word, some_below, maybe}
-use Rattle.rules.specs.Tables.{Body, entry, fn, eq_body, body_of, body_number, Module}
+use Rattle.rules.specs.Bytes.{bytes, byte, number, word, some_below}
+use Rattle.rules.specs.Tables.{Body, entry, fn, body_of, Module}
 use Rattle.rules.specs.ModuleFile.{refusal, functions, labels, read}
-use Rattle.rules.specs.Typing.{Typing, Consistent, start_of}
+use Rattle.rules.specs.Typing.{start_of}
 use Rattle.rules.specs.Check.{Table, check_body, bodies, functions_from, first_untyped}
-use Rattle.rules.specs.Answers.{Checked, check, check_with, judged}
-use Rattle.rules.specs.Demand3.{Typable, Exists}
-use Rattle.soundness.specs.Tests.{decide, none_some, some_inj, eqb_is, eqb_isnt, eqb_same, ltb_is, ltb_isnt, ltb_no}
+use Rattle.rules.specs.Answers.{check, judged}
+use Rattle.rules.specs.Demand3.{Typable}
+use Rattle.soundness.specs.Tests.{decide, eqb_is, eqb_isnt, eqb_same, ltb_no}
 use Rattle.soundness.specs.Exact.{typing_of, check_consistent, check_complete}
 use Rattle.rules.specs.Recording.{flag, flag_of, flags_of, record_of, record_length, index_of, flag_at, record_differs, first_zero, updated, answer_from, recheck}
 use Rattle.rechecks.specs.Same.{SameTables, SameBody, moved_typable}

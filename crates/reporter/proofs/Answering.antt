@@ -3,20 +3,18 @@ use mathlib.Core.Path.{◌≡◌, refl, sym, ap, ◌∙◌, subst}
 use mathlib.Core.Logic.{◌⊎◌, inl, inr}
 use Prim.Native.Nat.{ℕ, zero, suc, ◌+◌, ◌*◌, ◌≤◌, ◌<◌}
 use native.Mathlib.Omega.{arith}
-use mathlib.Core.Bool.{Bool, true, false}
-use mathlib.Core.Option.{Option, none, some}
-use mathlib.Core.List.{List, [], ◌∷◌, ◌++◌, append_assoc, append-nil}
-use lib.ListN.{length, get_or, take, drop, length-append, length-drop}
+use mathlib.Core.Option.{none, some}
+use mathlib.Core.List.{List, ◌++◌, append_assoc, append-nil}
+use lib.ListN.{length, get_or, take, drop, length-append}
 use lib.Seq.{take_at, drop-append-add, drop-drop}
 use lib.Dec.{ltb, eqb}
-use Rattle.rules.specs.declared.NeedAnswer.{NeedAnswer}
-use Rattle.rules.specs.declared.NeedAnswer.TheVariants.{Unreported, ReportUntyped, ReportLoops, Reported}
+use Rattle.rules.specs.declared.NeedAnswer.TheVariants.{Unreported, ReportLoops, Reported}
 use Rattle.rules.specs.Bytes.{bytes, written}
-use Rattle.rules.specs.Tables.{Body, entry, fn, body_number}
+use Rattle.rules.specs.Tables.{fn, body_number}
 use Rattle.rules.specs.ModuleFile.{functions, read}
 use Rattle.rules.specs.Check.{bodies, functions_from}
-use Rattle.rules.specs.Heights.{Found, need_of}
-use Rattle.rules.specs.Reporting.{first_looping, found_bytes, report_bytes, report_length, reporting, report_with}
+use Rattle.rules.specs.Heights.{need_of}
+use Rattle.rules.specs.Reporting.{first_looping, report_bytes, reporting, report_with}
 use Rattle.soundness.specs.Tests.{decide, eqb_is, eqb_isnt, ltb_is, ltb_isnt, ltb_yes, ltb_no}
 use Rattle.memory.proofs.Words.{length_bytes, length_written}
 use Rattle.settle.specs.Graph.{row_of, mark_of}

@@ -1,29 +1,27 @@
 -- One row more.
 use mathlib.Core.Path.{◌≡◌, refl, sym, ap, ◌∙◌, subst}
-use mathlib.Core.Logic.{◌≢◌, ◌⊎◌, inl, inr}
+use mathlib.Core.Logic.{◌≢◌}
 use Prim.Native.Nat.{ℕ, zero, suc, ◌+◌, ◌*◌, ◌-◌, ◌≤◌, ◌<◌}
 use native.Mathlib.Omega.{arith}
-use mathlib.Core.Bool.{Bool, true, false, cond}
-use mathlib.Core.Option.{Option, none, some}
-use mathlib.Core.List.{List, [], ◌∷◌, ◌++◌}
+use mathlib.Core.Option.{none}
+use mathlib.Core.List.{List, ◌++◌}
 use lib.ListN.{length, get_or, set, take, drop, length-set, length-append, length-drop, get_or-append, get_or-eq_default}
 use lib.Seq.{get_or-set_same, get_or-set_other, get_or-append-add, get_or-take, get_or-drop, length-take-le}
 use lib.Dec.{eqb, ltb}
 use borrow.Author.Tests.{ne_eqb}
-use Rattle.rules.specs.Tables.{Body, entry, fn, Function, Module, body_of, function_count}
-use Rattle.rules.specs.ModuleFile.{edition, functions_in, functions, labels, refusal, read, bodies_in}
+use Rattle.rules.specs.Tables.{Body, Module, body_of, function_count}
+use Rattle.rules.specs.ModuleFile.{edition, functions_in, functions, read, bodies_in}
 use Rattle.format.specs.declared.Sections.{Sections}
-use Rattle.soundness.specs.Tests.{decide, some_inj, eqb_is, eqb_isnt, ltb_is, ltb_isnt, ltb_yes, ltb_no}
+use Rattle.soundness.specs.Tests.{decide, eqb_is, eqb_isnt, ltb_is, ltb_isnt}
 use Rattle.soundness.specs.Readable.{Has}
 use Rattle.soundness.specs.Cutting.{function_count_lem, few_functions}
-use Rattle.nodes.specs.Nodes.{owner_of}
-use Rattle.rules.specs.Need.{Calls, Most, Path, height}
+use Rattle.rules.specs.Need.{Most, Path, height}
 use Rattle.rules.specs.Typing.{Lists}
 use Rattle.need.specs.Settle.{Summed}
 use Rattle.need.specs.Whole.{below}
-use Rattle.settle.specs.Graph.{row_of, offset_at, called_at, TableOf}
-use Rattle.tracks.specs.Walks.{mark_of, ground_of, offset_of, Ready}
-use Rattle.tracks.specs.Summing.{Fresh, Done}
+use Rattle.settle.specs.Graph.{row_of, called_at}
+use Rattle.tracks.specs.Walks.{offset_of, Ready}
+use Rattle.tracks.specs.Summing.{Fresh}
 use Rattle.reporter.specs.Rows.{RowIs, Asks, Filled}
 
 pub row_is : (off q : List ℕ) (i : ℕ) → take (128 * i) off ++ (q ++ drop (128 * i + 128 - 128 * i) (drop (128 * i) off)) ≡ take (128 * i) off ++ (q ++ drop 128 (drop (128 * i) off))

@@ -1,19 +1,17 @@
 -- What the rows say, from blank tables to settled ones, and the report by the check's answer.
-use mathlib.Core.Path.{◌≡◌, refl, sym, ap, ◌∙◌, subst}
+use mathlib.Core.Path.{◌≡◌, refl, sym, ap, subst}
 use mathlib.Core.Logic.{◌⊎◌, inl, inr}
 use Prim.Native.Nat.{ℕ, zero, suc, ◌+◌, ◌*◌, ◌≤◌, ◌<◌}
 use native.Mathlib.Omega.{arith}
-use mathlib.Core.Option.{Option, none, some}
-use mathlib.Core.List.{List, [], ◌∷◌, ◌++◌}
+use mathlib.Core.Option.{none, some}
+use mathlib.Core.List.{List}
 use lib.ListN.{length, get_or, replicate, length-replicate}
 use Rattle.rules.specs.declared.CheckAnswer.{CheckAnswer}
 use Rattle.rules.specs.declared.CheckAnswer.TheVariants.{Accepted}
-use Rattle.rules.specs.Tables.{Body, entry, fn}
 use Rattle.rules.specs.ModuleFile.{refusal, functions, labels, read}
-use Rattle.rules.specs.Typing.{WellTyped}
 use Rattle.rules.specs.Answers.{Checked, checked, check_number, check}
 use Rattle.rules.specs.Demand3.{IsAccepted, Exists}
-use Rattle.rules.specs.Need.{Calls, Needs, Recursive}
+use Rattle.rules.specs.Need.{Needs, Recursive}
 use Rattle.rules.specs.Heights.{need_of}
 use Rattle.rules.specs.Reporting.{report_after, report_needs}
 use Rattle.format.specs.declared.Sections.{Sections}

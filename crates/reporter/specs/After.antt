@@ -1,9 +1,8 @@
 -- What the checking room shows of nodes after a check that accepted.
-use Rattle.std.specs.Prelude.{◌≡◌, refl, ◌⊎◌, ℕ, zero, suc, ◌+◌, ◌*◌, ◌≤◌, ◌<◌, List, [], ◌∷◌, ◌++◌, length, get_or, take, drop}
-use Rattle.std.proofs.Common.{sym, ap, ◌∙◌, subst, inl, inr, arith, get_or-take, get_or-drop}
-use Rattle.std.proofs.Math.Option.{Option, none, some}
+use Rattle.std.specs.Prelude.{◌≡◌, refl, ℕ, ◌+◌, ◌*◌, ◌≤◌, ◌<◌, List, length, get_or, take, drop}
+use Rattle.std.proofs.Common.{sym, ap, ◌∙◌, inl, inr, arith, get_or-take, get_or-drop}
 use Rattle.rules.specs.ModuleFile.{refusal, labels, read}
-use Rattle.rules.specs.Typing.{Lists, Typing, Consistent, WellTyped}
+use Rattle.rules.specs.Typing.{Lists, WellTyped}
 use Rattle.rules.specs.Check.{record_bytes}
 use Rattle.rules.specs.Answers.{check}
 use Rattle.rules.specs.Demand3.{IsAccepted, Shows}

@@ -1,11 +1,9 @@
 -- The table of calls, row by row.
 use Rattle.std.specs.Prelude.{◌≡◌, ℕ, suc, ◌+◌, ◌*◌, ◌≤◌, ◌<◌, List, ◌++◌, length, get_or, take, drop}
-use Rattle.rules.specs.Tables.{body_of}
-use Rattle.rules.specs.ModuleFile.{labels, refusal, read, bodies_in}
+use Rattle.rules.specs.ModuleFile.{labels, refusal, read}
 use Rattle.rules.specs.Typing.{WellTyped}
 use Rattle.format.specs.declared.Sections.{Sections}
 use Rattle.format.specs.Layout.{Packed}
-use Rattle.soundness.specs.Readable.{Has}
 use Rattle.nodes.specs.Nodes.{owner_of, Tabled}
 use Rattle.need.specs.Settle.{Summed}
 use Rattle.settle.specs.Graph.{row_of, called_at}

@@ -1,5 +1,5 @@
 -- What the functions of this crate promise.
-use Rattle.std.specs.Prelude.{◌≡◌, ◌⊎◌, ℕ, zero, suc, ◌+◌, ◌*◌, ◌≤◌, ◌<◌, List, [], ◌∷◌, ◌++◌, length, get_or, drop}
+use Rattle.std.specs.Prelude.{◌≡◌, ◌⊎◌, ℕ, zero, suc, ◌+◌, ◌*◌, ◌≤◌, ◌<◌, List, [], ◌++◌, length, get_or}
 use Rattle.std.proofs.Math.Option.{none, some}
 use Rattle.rules.specs.declared.NeedAnswer.{NeedAnswer}
 use Rattle.rules.specs.Bytes.{bytes}

@@ -1,16 +1,13 @@
 -- The fold over rows: what each row's run is in the rules, and how the fold goes on from it.
-use Prim.Native.Nat.{ℕ, zero, suc, ◌+◌, ◌*◌, ◌-◌, ◌/◌, ◌%◌, ◌≤◌, ◌<◌}
+use Prim.Native.Nat.{ℕ, zero, suc, ◌+◌, ◌*◌, ◌-◌, ◌/◌, ◌≤◌, ◌<◌}
 use native.Mathlib.Omega.{arith}
 use mathlib.Core.Path.{◌≡◌, refl, sym, ap, ◌∙◌}
-use mathlib.Core.Bool.{Bool, true, false, cond}
-use mathlib.Core.Option.{Option, none, some}
+use mathlib.Core.Bool.{true, false}
 use mathlib.Core.List.{List, [], ◌∷◌}
-use lib.Dec.{eqb, leb}
 use lib.ListN.{length, take, drop, length-append, length-drop}
 use lib.Seq.{length-take-le, take-length}
 use native.Mathlib.Nat.{mul_comm, mul_assoc, suc-mul, mul-le-mul_right}
-use borrow.Author.Tests.{eq-eqb, ne_eqb, le-leb, lt-leb}
-use Rattle.rules.specs.declared.RunAnswer.{RunAnswer}
+use borrow.Author.Tests.{ne_eqb, lt-leb}
 use Rattle.rules.specs.declared.RunAnswer.TheVariants.{Rejected}
 use Rattle.rules.specs.declared.Slot.{Slot}
 use Rattle.rules.specs.declared.Tally.{Tally}
@@ -18,9 +15,9 @@ use Rattle.rules.specs.Instructions.{Ty, kind_of}
 use Rattle.rules.specs.Tables.{body_of, function_at}
 use Rattle.rules.specs.ModuleFile.{edition, functions_in, read, refusal}
 use Rattle.rules.specs.Stack.{Lent, capacity, slots_of, lent_after}
-use Rattle.rules.specs.Heap.{Heap, empty_heap, LentHeap, heap_capacity, lent_heap_after, cells_after, table_after}
+use Rattle.rules.specs.Heap.{empty_heap, LentHeap, heap_capacity, lent_heap_after, cells_after, table_after}
 use Rattle.rules.specs.Machine.{Outcome, outcome, keeping}
-use Rattle.rules.specs.Answers.{run_number, value_out, top_slot, arguments, admitted, answered, made_for, other_profile, outcome_of, run_refusal, scan_refusal, Ran, ran, run_module}
+use Rattle.rules.specs.Answers.{run_number, top_slot, arguments, admitted, answered, made_for, other_profile, outcome_of, run_refusal, scan_refusal, Ran, ran, run_module}
 use Rattle.format.specs.declared.Sections.{Sections}
 use Rattle.heap.proofs.Lent.{Small}
 use Rattle.state.specs.State.{memory_of}
@@ -29,7 +26,7 @@ use Rattle.runs.specs.Runs.{lent_of, slots_in, lent_heap_of, cells_in, Empty, Em
 use Rattle.runs.proofs.Final.{cells_blank, table_blank, stack_of, heap_past, heap_of_lem}
 use Rattle.rules.specs.declared.MapAnswer.{MapAnswer}
 use Rattle.rows.specs.declared.RowEnd.{RowEnd}
-use Rattle.rules.specs.Mapping.{takes_numbers, types_of, params_of, row_of, with_value, Mapped, mapped, map_rows, run_row}
+use Rattle.rules.specs.Mapping.{types_of, params_of, row_of, with_value, mapped, map_rows, run_row}
 use Rattle.rows.specs.Rows.{param_types, low_ints, value_in, answer_of, left, Admits, Stage, RowIs, Mappable, RowsAre}
 use Rattle.rows.proofs.Types.{types_shown, admits_low}
 use Rattle.rows.proofs.Cleared.{again, capacity_after, value_is, past_cells, past_table}

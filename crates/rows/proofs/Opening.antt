@@ -3,15 +3,15 @@ use Prim.Native.Nat.{ℕ, zero, suc, ◌+◌, ◌*◌, ◌-◌, ◌/◌, ◌%◌
 use native.Mathlib.Omega.{arith}
 use mathlib.Core.Path.{◌≡◌, refl, sym, ap, ◌∙◌}
 use mathlib.Core.Bool.{Bool, true, false, cond, not, ◌&&◌}
-use mathlib.Core.Option.{Option, none, some}
-use mathlib.Core.List.{List, []}
+use mathlib.Core.Option.{none, some}
+use mathlib.Core.List.{List}
 use lib.Dec.{eqb}
 use lib.ListN.{length, get_or, take, drop}
 use lib.Seq.{length-take-le, get_or-take}
-use borrow.Author.Tests.{eq-eqb, ne_eqb, eqb-true, eqb-false}
+use borrow.Author.Tests.{eq-eqb, ne_eqb, eqb-true}
 use Rattle.rules.specs.Instructions.{Ty, ty_of}
 use Rattle.rules.specs.Bytes.{maybe}
-use Rattle.rules.specs.Tables.{body_of, function_at, params_from, result_of}
+use Rattle.rules.specs.Tables.{body_of, function_at, params_from}
 use Rattle.rules.specs.ModuleFile.{edition, functions_in, read, refusal}
 use Rattle.rules.specs.Typing.{start_of}
 use Rattle.rules.specs.Answers.{made_for, other_profile}
@@ -23,8 +23,7 @@ use Rattle.reader.specs.declared.entries.FoundFunction.TheVariants.{Record}
 use Rattle.reader.specs.declared.Opened.TheVariants.{Refused}
 use Rattle.reader.specs.Answers.{answer, opened_of, function_found}
 use Rattle.reader.proofs.Opening.{opened_refused}
-use Rattle.runs.specs.Runs.{lent_of, lent_heap_of}
-use Rattle.runs.proofs.Bodies.{names_function, names_none}
+use Rattle.runs.proofs.Bodies.{names_function}
 use Rattle.rules.specs.declared.MapAnswer.{MapAnswer}
 use Rattle.rules.specs.Mapping.{takes_numbers, has_result, mappable, map_refusal, map_rows, map_module}
 use Rattle.rows.specs.Rows.{param_types, TypesAre, sized, answer_of, Mappable, RowsAre, MapIs}

@@ -3,7 +3,7 @@ use Rattle.std.specs.Prelude.{ℕ, zero, suc, ◌+◌, Bool, ◌&&◌, ◌||◌,
 use Rattle.rules.specs.Bytes.{byte, cut, zeros, some_below}
 use Rattle.rules.specs.Numbers.{not_in_edition_3}
 use Rattle.rules.specs.Instructions.{is_absent}
-use Rattle.rules.specs.Tables.{Tables, tables, function_size, function_count, function_at, structure_count, profile_at, differs, odd_return, bad_param, opcode_at, due, first_of, content_tests}
+use Rattle.rules.specs.Tables.{Tables, tables, function_count, function_at, structure_count, profile_at, differs, odd_return, bad_param, opcode_at, due, first_of, content_tests}
 use Rattle.rules.specs.ModuleFile.{edition, short, other_total, over_limit, not_packed, tables_in}
 use Rattle.rules.specs.Writing.{file_of, Wrote, write_with}
 

@@ -1,8 +1,7 @@
 -- 01, Demand 3, its words. The statement alone; its proof is `demand3` of the crate soundness. Every s is a file of any edition, and
 -- `read s` has the rules of its own (02, A5).
-use Rattle.std.specs.Prelude.{◌≡◌, refl, ◌⊎◌, ℕ, zero, suc, ◌+◌, ◌-◌, ◌*◌, ◌≤◌, ◌<◌, List, [], ◌∷◌, length, take, drop}
-use Rattle.std.proofs.Common.{inl, inr}
-use Rattle.std.proofs.Math.Option.{Option, none, some}
+use Rattle.std.specs.Prelude.{◌≡◌, ◌⊎◌, ℕ, suc, ◌+◌, ◌-◌, ◌*◌, ◌≤◌, ◌<◌, List, length, take, drop}
+use Rattle.std.proofs.Math.Option.{some}
 use Rattle.rules.specs.Bytes.{zeros}
 use Rattle.rules.specs.Numbers.{done}
 use Rattle.rules.specs.Instructions.{call}
@@ -10,10 +9,10 @@ use Rattle.rules.specs.Tables.{Body, entry, fn, body_of, body_number, Function, 
 use Rattle.rules.specs.ModuleFile.{refusal, labels, functions, read}
 use Rattle.rules.specs.Stack.{Slot, Lent, capacity, pointer_to, at}
 use Rattle.rules.specs.Heap.{LentHeap, heap_capacity}
-use Rattle.rules.specs.Machine.{Memory, State, Next, goes, finishes, advance, Outcome, outcome, run}
+use Rattle.rules.specs.Machine.{Memory, State, goes, finishes, advance, Outcome, outcome, run}
 use Rattle.rules.specs.Typing.{Lists, Typing, Consistent, WellTyped, Reached}
 use Rattle.rules.specs.Check.{record_bytes}
-use Rattle.rules.specs.Answers.{CheckAnswer, Untyped, check_number, check, run_number, run_refusal, scan_refusal, run_module, start_state, arguments}
+use Rattle.rules.specs.Answers.{Untyped, check_number, check, run_number, run_refusal, scan_refusal, run_module, start_state, arguments}
 
 -- ---- the first part: "what the checker accepts"
 

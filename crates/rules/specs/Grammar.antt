@@ -1,6 +1,6 @@
 -- 02, A4: the grammar of a formula line, as derivations over bytes. "State the grammar without the reader": nothing here reads,
 -- a derivation says which bytes spell which tree.
-use Rattle.std.specs.Prelude.{ℕ, zero, suc, ◌+◌, ◌*◌, ◌-◌, ◌≤◌, ◌<◌, max, List, [], ◌∷◌, ◌++◌, length, take}
+use Rattle.std.specs.Prelude.{ℕ, suc, ◌+◌, ◌*◌, ◌-◌, ◌≤◌, ◌<◌, max, List, [], ◌∷◌, ◌++◌, length, take}
 
 -- `+ - * /`
 pub data Sign : Type 0 where

@@ -1,7 +1,7 @@
 -- 02, A6 and A9: the heap. Blocks by serial, addresses, what `new`, `delete`, `gcnew` do to the blocks, and the heap as it is lent.
 -- A block holds its cells' payloads itself, so a heap is its blocks: which cells they lie in decides only where the next one
 -- goes, and what the lent memory shows.
-use Rattle.std.specs.Prelude.{ℕ, zero, suc, ◌+◌, ◌*◌, ◌-◌, ◌/◌, ◌%◌, ◌^◌, min, Bool, true, false, not, ◌&&◌, ◌||◌, cond, List, [], ◌∷◌, ◌++◌, length, get_or, set, drop, ltb, leb, eqb}
+use Rattle.std.specs.Prelude.{ℕ, zero, suc, ◌+◌, ◌*◌, ◌-◌, ◌/◌, ◌%◌, min, Bool, true, false, not, ◌&&◌, ◌||◌, cond, List, [], ◌∷◌, ◌++◌, length, get_or, set, drop, ltb, leb, eqb}
 use Rattle.std.proofs.Math.Option.{Option, none, some}
 use Rattle.rules.specs.Bytes.{maybe, within, bytes, zeros}
 use Rattle.rules.specs.Instructions.{Num, num_kind, num_of, Pointee, cell, struct}

@@ -1,10 +1,10 @@
 -- A table that is not of the paper: 02's A6 and A9, runs of edition 4 on a heap of four cells, each new exception, what has a typing, and files.
-use Rattle.std.specs.Prelude.{◌≡◌, refl, ℕ, zero, suc, ◌+◌, ◌-◌, ◌*◌, ◌^◌, Bool, true, false, List, [], ◌∷◌, ◌++◌, length, set, take}
+use Rattle.std.specs.Prelude.{◌≡◌, refl, ℕ, ◌+◌, ◌-◌, ◌*◌, ◌^◌, true, false, List, [], ◌∷◌, ◌++◌, length, set, take}
 use Rattle.rules.specs.Bytes.{bytes, zeros}
 use Rattle.rules.specs.Instructions.{Instruction, two, cmp, tload, new, delete, flea}
 use Rattle.rules.specs.Tables.{entry}
 use Rattle.rules.specs.ModuleFile.{read}
-use Rattle.rules.specs.Stack.{Slot, slot, Lent}
+use Rattle.rules.specs.Stack.{Slot, slot}
 use Rattle.rules.specs.Heap.{Block, LentHeap, heap_capacity}
 use Rattle.rules.specs.Machine.{Next, goes, stops, finishes, opened, exec_in}
 use Rattle.rules.specs.Answers.{CheckAnswer, Untyped, Accepted, run_number, Ran, answered}

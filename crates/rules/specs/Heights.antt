@@ -1,10 +1,10 @@
 -- 02, A11, computed: the largest ground_level at each place of a body, and from these and the callees' needs its need and frames. That they
 -- are those of `Need` is `suffices` of the crate need.
-use Rattle.std.specs.Prelude.{ℕ, zero, suc, ◌+◌, ◌*◌, max, Bool, true, false, cond, List, [], ◌∷◌, ◌++◌, length, get_or, set, replicate, leb}
+use Rattle.std.specs.Prelude.{ℕ, zero, suc, ◌+◌, ◌*◌, max, Bool, true, false, List, [], ◌∷◌, ◌++◌, length, get_or, set, replicate, leb}
 use Rattle.std.proofs.Math.Option.{Option, none, some}
 use Rattle.rules.specs.Bytes.{maybe}
 use Rattle.rules.specs.Instructions.{Ty}
-use Rattle.rules.specs.Tables.{Body, entry, fn, Module}
+use Rattle.rules.specs.Tables.{Body, fn, Module}
 use Rattle.rules.specs.Typing.{Lists, lists, place_flow, start_of}
 use Rattle.rules.specs.Need.{raised, height, call_at, argument_at}
 

@@ -1,10 +1,9 @@
 -- A table that is not of the paper: calls for rows, with the outputs and all lent memory after.
 use Rattle.std.specs.Prelude.{◌≡◌, refl, ℕ, ◌+◌, ◌-◌, ◌*◌, ◌^◌, List, [], ◌∷◌, ◌++◌, length, set}
 use Rattle.rules.specs.Bytes.{bytes, zeros}
-use Rattle.rules.specs.Stack.{Lent}
 use Rattle.rules.specs.Heap.{LentHeap}
 use Rattle.rules.specs.Mapping.{Mapped, mapped}
-use Rattle.rules.specs.Files.{PUSH, POP, LOAD, TLOAD, DIV, RET, NEW, Fn, function, function_for, file, file4, nines, leaving, scratch, scratch_heap}
+use Rattle.rules.specs.Files.{PUSH, LOAD, TLOAD, DIV, RET, NEW, function, function_for, file, file4, nines, leaving, scratch, scratch_heap}
 use Rattle.rules.specs.Evaluate.{map_now}
 
 -- 0 (int, int) to int, their quotient; 1 (int) none; 2 (pointer to int) to int; 3 () to int, 5; 4 (long, int) to long, the first, made for

@@ -1,9 +1,9 @@
 -- 02, A11: need and frames of a body, by paths of flow; chains of reached calls that come back. Nothing here computes: `Heights` does.
-use Rattle.std.specs.Prelude.{◌≡◌, ◌⊎◌, ℕ, suc, ◌+◌, ◌-◌, ◌≤◌, Bool, true, false, cond, List, [], ◌∷◌, length, eqb}
+use Rattle.std.specs.Prelude.{◌≡◌, ◌⊎◌, ℕ, suc, ◌+◌, ◌-◌, ◌≤◌, cond, List, [], ◌∷◌, length, eqb}
 use Rattle.std.proofs.Math.Option.{Option, none, some}
 use Rattle.rules.specs.Bytes.{maybe}
 use Rattle.rules.specs.Instructions.{Ty, Instruction, push, load, store, lea, one, two, tload, tstore, bump, jmp, branch, call, ret, null, new, delete, flea}
-use Rattle.rules.specs.Tables.{Body, entry, fn, Function, Module}
+use Rattle.rules.specs.Tables.{Body, fn, Module}
 use Rattle.rules.specs.Typing.{Lists, lists, place_flow, start_of, end_of, past}
 
 -- ---- "paths of flow from its start, branch values ignored": every way that a typing follows is a way

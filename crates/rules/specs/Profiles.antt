@@ -1,9 +1,9 @@
 -- A table that is not of the paper: 02's A7, runs for scans of these profiles, and conversions of these files.
 use Rattle.std.specs.Prelude.{◌≡◌, refl, ℕ, List, [], ◌∷◌, ◌++◌, take, set}
-use Rattle.rules.specs.Answers.{Untyped, Accepted, Rejected, run_number, Ran}
-use Rattle.rules.specs.Writing.{write_number, Unwritten, Written, wrote, Wrote}
+use Rattle.rules.specs.Answers.{Untyped, Accepted, Rejected, run_number}
+use Rattle.rules.specs.Writing.{write_number, Unwritten, Written, wrote}
 use Rattle.rules.specs.Stack.{Lent}
-use Rattle.rules.specs.Files.{PUSH, POP, LOAD, STORE, LEA, CMP, CALL, RET, NULL, NEW, DELETE, GCNULL, GCNEW, FLEA, Fn, function, function_for, file_in, file, file4, nines, lent, scratch, scratch_heap}
+use Rattle.rules.specs.Files.{PUSH, POP, LOAD, STORE, LEA, CMP, CALL, RET, NULL, NEW, DELETE, GCNULL, GCNEW, FLEA, function, function_for, file, file4, nines, lent, scratch, scratch_heap}
 use Rattle.rules.specs.Evaluate.{up_now, down_now, check_now, run_heap_now}
 
 -- ---- runs

@@ -2,7 +2,7 @@
 use Rattle.std.specs.Prelude.{◌≡◌, refl, ℕ, List, [], ◌∷◌, ◌++◌, set, take}
 use Rattle.rules.specs.Bytes.{zeros}
 use Rattle.rules.specs.Answers.{CheckAnswer, Refused, Untyped, Accepted}
-use Rattle.rules.specs.Recording.{RecordingAnswer, Unrecorded, RecordedUntyped, Recorded, Recording, recording, Rechecked, rechecked}
+use Rattle.rules.specs.Recording.{Unrecorded, RecordedUntyped, Recorded, Recording, recording, Rechecked, rechecked}
 use Rattle.rules.specs.Files.{PUSH, POP, ADD, RET, function, function_for, file_in, file, file4, nines}
 use Rattle.rules.specs.Samples.{w1}
 use Rattle.rules.specs.Evaluate.{recording_now, recheck_now}

@@ -1,5 +1,5 @@
 -- A table that is not of the paper: reports of the stack that modules need, with all lent memory after.
-use Rattle.std.specs.Prelude.{◌≡◌, refl, ℕ, zero, suc, ◌*◌, List, [], ◌∷◌, ◌++◌}
+use Rattle.std.specs.Prelude.{◌≡◌, refl, ℕ, zero, suc, List, [], ◌∷◌, ◌++◌}
 use Rattle.std.proofs.Math.Option.{some}
 use Rattle.rules.specs.Bytes.{bytes, zeros}
 use Rattle.rules.specs.Reporting.{Unreported, ReportUntyped, ReportLoops, Reported, Reporting, reporting}

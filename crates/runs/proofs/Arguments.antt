@@ -20,7 +20,7 @@ use Rattle.soundness.specs.Tests.{decide}
 use Rattle.format.proofs.Tests.{and_left, and_right, and_no}
 use Rattle.memory.proofs.Words.{drop_written, length_written}
 use Rattle.state.specs.Slots.{payloads_with, types_with}
-use Rattle.state.proofs.Stack.{length_slots, slots_push}
+use Rattle.state.proofs.Stack.{slots_push}
 use Rattle.runs.specs.Runs.{lent_of, suits, Copied}
 
 -- ---- one argument

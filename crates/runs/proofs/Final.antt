@@ -1,13 +1,12 @@
 -- The bytes that a run leaves: those of the slots that it holds, zeros up to the capacity, and the untouched rest.
-use Prim.Native.Nat.{ℕ, zero, suc, ◌+◌, ◌*◌, ◌-◌, ◌/◌, ◌%◌, ◌≤◌, ◌<◌}
+use Prim.Native.Nat.{ℕ, zero, suc, ◌+◌, ◌*◌, ◌-◌, ◌≤◌, ◌<◌}
 use native.Mathlib.Omega.{arith}
 use mathlib.Core.Path.{◌≡◌, refl, sym, ap, ◌∙◌}
 use mathlib.Core.List.{List, [], ◌∷◌, ◌++◌}
 use lib.ListN.{length, take, drop, get_or, replicate, length-drop}
-use lib.Seq.{take-add, get_or-drop, length-take-le, take-suc, drop-drop}
+use lib.Seq.{take-add, length-take-le, take-suc, drop-drop}
 use Rattle.rules.specs.declared.RunAnswer.{RunAnswer}
 use Rattle.rules.specs.declared.RunAnswer.TheVariants.{Stopped, Finished}
-use Rattle.rules.specs.Bytes.{bytes, word}
 use Rattle.rules.specs.Stack.{Lent, slot_at, slots_of, payload_bytes, type_bytes, payloads_after, types_after}
 use Rattle.rules.specs.Heap.{empty_heap, LentHeap, cells_after, table_after}
 use Rattle.rules.specs.Machine.{Outcome, outcome}

@@ -1,5 +1,5 @@
 -- The records of a function table, which are longer in edition 4: where they stand, and how many there are.
-use Rattle.std.specs.Prelude.{◌≡◌, ℕ, ◌+◌, ◌*◌, ◌/◌, ◌%◌, ◌≤◌, ◌<◌, true, false, List, length, eqb}
+use Rattle.std.specs.Prelude.{◌≡◌, ℕ, ◌+◌, ◌*◌, ◌/◌, ◌%◌, ◌≤◌, ◌<◌, List, length, eqb}
 use Rattle.std.proofs.Common.{arith}
 use Rattle.rules.specs.Tables.{function_size, function_count, function_at}
 use Rattle.soundness.specs.Tests.{decide}

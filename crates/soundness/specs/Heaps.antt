@@ -1,21 +1,21 @@
 -- Laws of the heap: what an address is to, and what `new`, `delete`, `gcnew` and writes do to blocks and addresses.
-use Rattle.std.specs.Prelude.{◌≡◌, refl, ◌≢◌, ◌⊎◌, Bool, true, false, not, cond, ◌&&◌, ◌||◌, List, [], ◌∷◌, ◌++◌, length, get_or, set, replicate, ltb, leb, eqb}
+use Rattle.std.specs.Prelude.{◌≡◌, refl, ◌≢◌, ◌⊎◌, Bool, true, false, List, [], ◌∷◌, length, get_or, set, ltb, eqb}
 use Rattle.std.proofs.Common.{sym, ap, ◌∙◌, inl, inr, arith, get_or-set_same, get_or-set_other}
 use Rattle.std.proofs.Math.Path.{subst}
-use Prim.Native.Nat.{ℕ, zero, suc, ◌+◌, ◌-◌, ◌*◌, ◌/◌, ◌%◌, ◌≤◌, ◌<◌}
+use Prim.Native.Nat.{ℕ, zero, suc, ◌+◌, ◌≤◌, ◌<◌}
 use Rattle.std.proofs.Math.Option.{Option, none, some}
 use Rattle.std.proofs.lemmas.List.{length-replicate}
 use Rattle.std.proofs.Math.Seq.{set_out}
 use Rattle.soundness.specs.Names.{Slot, Num}
 use Rattle.rules.specs.Bytes.{maybe, zeros}
-use Rattle.rules.specs.Instructions.{Pointee, void, cell, struct, num_kind, num_of, is_pointer}
+use Rattle.rules.specs.Instructions.{Pointee, void, cell, struct, num_kind, num_of}
 use Rattle.rules.specs.Tables.{Module}
 use Rattle.rules.specs.Stack.{slot, at}
-use Rattle.rules.specs.Heap.{serial_in, offset_in, block_address, field_address, null_address, Shape, single, fields, shape_of, cells_in, pointee_in, Block, Heap, having, find, Spot, on_stack, in_heap, Target, nowhere, entire, this, field_in, target_in, target_of, with_cell, stored, place_for, heap_with, address_given, without, held, swept, total, moved, packed, lowest_run, roomy, collected, apart, serial_limit}
+use Rattle.rules.specs.Heap.{serial_in, offset_in, block_address, field_address, null_address, Shape, single, fields, shape_of, cells_in, pointee_in, Block, Heap, having, find, Spot, on_stack, in_heap, nowhere, this, field_in, target_in, target_of, with_cell, stored, place_for, heap_with, address_given, without, total, moved, packed, lowest_run, collected, apart, serial_limit}
 use Rattle.rules.specs.Machine.{Next, stops, as_number, as_structure}
-use Rattle.rules.specs.Claims.{Each, Laid, HeapLaid, cell_type}
-use Rattle.soundness.specs.Layout.{each_find, each_stored, each_without, each_swept, each_packed, each_collected, each_map, find_serial, collected_next, run_is_free, laid_without, laid_stored, laid_collected}
-use Rattle.soundness.specs.Tests.{decide, none_some, some_inj, eqb_is, eqb_isnt, eqb_same, eqb_other, ltb_is, ltb_isnt}
+use Rattle.rules.specs.Claims.{Each, HeapLaid, cell_type}
+use Rattle.soundness.specs.Layout.{each_find, each_stored, each_without, each_collected, each_map, find_serial, collected_next, run_is_free, laid_without, laid_stored, laid_collected}
+use Rattle.soundness.specs.Tests.{decide, none_some, some_inj, eqb_is, eqb_isnt, eqb_other, ltb_is, ltb_isnt}
 
 -- ---- what an address is to, of a shape
 

@@ -1,13 +1,13 @@
 -- Where blocks lie: apart and inside the heap, through `new`, `delete`, writes, sweeping and packing.
-use Rattle.std.specs.Prelude.{◌≡◌, refl, ◌≢◌, ℕ, zero, suc, ◌+◌, ◌-◌, ◌≤◌, ◌<◌, min, Bool, true, false, not, cond, ◌&&◌, ◌||◌, List, [], ◌∷◌, length, set, ltb, leb, eqb}
+use Rattle.std.specs.Prelude.{◌≡◌, refl, ℕ, zero, suc, ◌+◌, ◌-◌, ◌≤◌, ◌<◌, min, Bool, true, false, not, cond, ◌&&◌, ◌||◌, List, [], ◌∷◌, length, set, ltb, leb, eqb}
 use Rattle.std.proofs.Common.{sym, ap, ◌∙◌, subst, arith, length-set}
 use Rattle.std.proofs.Math.Option.{Option, none, some}
 use Rattle.soundness.specs.Names.{Slot}
 use Rattle.rules.specs.Bytes.{maybe, within}
 use Rattle.rules.specs.Tables.{Module}
-use Rattle.rules.specs.Heap.{shape_of, Block, Heap, having, find, apart, free, lowest_below, lowest_run, with_cell, stored, without, held, swept, total, moved, packed, roomy, collected}
-use Rattle.rules.specs.Claims.{Each, Shaped, Laid}
-use Rattle.soundness.specs.Tests.{decide, none_some, some_inj, eqb_is, leb_is, leb_isnt, leb_yes, leb_no, ltb_is, ltb_isnt, ltb_yes, ltb_no, and_both, and_intro, false_true}
+use Rattle.rules.specs.Heap.{Block, Heap, having, find, apart, free, lowest_below, lowest_run, with_cell, stored, without, held, swept, total, moved, packed, roomy, collected}
+use Rattle.rules.specs.Claims.{Each, Laid}
+use Rattle.soundness.specs.Tests.{decide, none_some, some_inj, eqb_is, leb_is, leb_isnt, leb_yes, leb_no, ltb_is, ltb_isnt, ltb_no, and_both, and_intro}
 
 -- ---- each block
 

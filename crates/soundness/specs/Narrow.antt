@@ -1,32 +1,29 @@
 -- "an int's upper four zero": instructions keep the payload of every int below 2 ^ 32; and the numbers that operations raise.
-use Rattle.std.specs.Prelude.{◌≡◌, Bool, true, false, not, cond, ◌&&◌, ◌||◌, length, take, get_or, ltb, eqb, ℤ, pos, negsuc, neg_ℤ, Float}
+use Rattle.std.specs.Prelude.{◌≡◌, Bool, true, false, ◌&&◌, ◌||◌, take, get_or, ltb, eqb, ℤ, pos, negsuc, Float}
 use Rattle.std.proofs.Common.{sym, ◌∙◌, div-le_self, drop-drop, get_or-drop}
 use Rattle.std.proofs.Math.Path.{ap, subst}
-use Prim.Native.Nat.{ℕ, zero, suc, ◌+◌, ◌-◌, ◌*◌, ◌/◌, ◌%◌, ◌^◌, ◌≤◌, ◌<◌, min}
+use Prim.Native.Nat.{ℕ, ◌+◌, ◌*◌, ◌/◌, ◌%◌, ◌^◌, ◌≤◌, ◌<◌, min}
 use native.Mathlib.Omega.{arith}
 use Rattle.std.proofs.Math.Nat.{mod-le}
 use Rattle.std.proofs.Math.Option.{Option, none, some}
 use mathlib.Core.List.{List, [], ◌∷◌}
 use Rattle.std.proofs.Math.ListN.{drop}
-use Rattle.std.specs.Int.Bits.{bit_and, bit_or, bit_xor, and_lt}
+use Rattle.std.specs.Int.Bits.{and_lt}
 use Rattle.std.proofs.lemmas.Nat.{or_lt, xor_lt}
 use Rattle.std.specs.Int.Signed.{quot_z, rem_z, shr_z}
-use Rattle.std.specs.Float.{nan, inf, fin}
-use Rattle.std.specs.Float.Ieee.{up, down}
-use Rattle.soundness.specs.Names.{Num, int, long, double, Slot, Operator, add, sub, mul, imul, div, idiv, rem, irem, and, or, xor, shl, sal, shr, sar, Unary, pop, copy, neg, complement, convert, count, Binary, swap, arith as arithmetic, cmp}
-use Rattle.rules.specs.Bytes.{byte, number, word, maybe}
+use Rattle.soundness.specs.Names.{int, long, double, Slot, Operator, add, sub, mul, imul, div, idiv, rem, irem, and, or, xor, shl, sal, shr, sar, Unary, pop, copy, neg, complement, convert, count, Binary, swap, arith as arithmetic, cmp}
+use Rattle.rules.specs.Bytes.{number, word, maybe}
 use Rattle.rules.specs.Words.{signed_of, pattern_of, idiv_of, imod_of, shl_of, shr_of, sar_of, not_of, order_of, cmp_of, icmp_of}
 use Rattle.rules.specs.Doubles.{decode_of, truncated, cut_fits, cut_of}
 use Rattle.rules.specs.Instructions.{is_pointer}
-use Rattle.rules.specs.Tables.{constant_count, constant_at, bad_constants, differs, odd_constant, bad_constant, constant_of, Module, module_of}
+use Rattle.rules.specs.Tables.{constant_count, constant_at, bad_constants, differs, odd_constant, bad_constant, constant_of, module_of}
 use Rattle.rules.specs.ModuleFile.{constants, constants_at, constants_in, refusal, read}
-use Rattle.rules.specs.Stack.{slot, pointer_to}
-use Rattle.rules.specs.Operations.{low, on_words, computed, zero_divide, negated, complemented, converted, compared, unordered, bumped, Class, any, number as numbers, whole, class1, class2, refuse, Result, yields, raises, eval1, eval2, apply1, apply2, unfit}
+use Rattle.rules.specs.Operations.{low, on_words, computed, zero_divide, negated, complemented, converted, compared, unordered, bumped, Class, any, number as numbers, whole, class1, class2, refuse, Result, raises, eval1, eval2, unfit}
 use Rattle.rules.specs.Claims.{RunEnd, AreBytes, no_fit}
 use Rattle.soundness.specs.Tests.{decide, none_some, some_inj, eqb_is, ltb_is, or_neither, not_false, false_true}
 use Rattle.soundness.specs.Readable.{good_constant, constant_word}
 use Rattle.soundness.specs.Cutting.{constants_good, bytes_cut}
-use Rattle.soundness.specs.Started.{All, Yielded, Closed, exception}
+use Rattle.soundness.specs.Started.{Yielded, Closed, exception}
 
 -- an int is narrow, where B holds
 abbrev pub Narrow : Type 0 → Slot → Type 0

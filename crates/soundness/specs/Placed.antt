@@ -6,7 +6,7 @@ use Rattle.soundness.specs.Names.{Slot, Instruction}
 use Rattle.rules.specs.Instructions.{size}
 use Rattle.rules.specs.Tables.{body_end, due, module_of}
 use Rattle.rules.specs.ModuleFile.{edition, code_in, bodies_in, code_length, read, refusal, tables_in}
-use Rattle.rules.specs.Machine.{State, Next, advance, step}
+use Rattle.rules.specs.Machine.{State, advance, step}
 use Rattle.soundness.specs.Tests.{leb_no}
 use Rattle.soundness.specs.Readable.{end_is, place_is, place_inside, orderly}
 use Rattle.soundness.specs.Cutting.{code_length_lem, good_file}

@@ -1,29 +1,26 @@
 -- Flow to nodes: by jumps, branches and falls; and calls.
 use Rattle.std.proofs.Math.Path.{◌≡◌}
-use Rattle.std.specs.Prelude.{refl, ◌≢◌, ◌⊎◌, ℕ, zero, suc, ◌+◌, ◌*◌, ◌-◌, ◌%◌, ◌≤◌, ◌<◌, max, Bool, true, false, cond, List, [], ◌∷◌, length, get_or, set, leb, eqb, ltb}
+use Rattle.std.specs.Prelude.{refl, ◌≢◌, ℕ, suc, ◌+◌, ◌-◌, ◌≤◌, ◌<◌, max, true, List, [], ◌∷◌, length, get_or, set, eqb, ltb}
 use Rattle.std.proofs.Common.{sym, ap, ◌∙◌, subst, inl, inr, length-set, get_or-set_same, get_or-set_other}
 use native.Mathlib.Omega.{arith}
-use Rattle.std.proofs.Math.Option.{Option, none, some}
-use Rattle.soundness.specs.Names.{Condition, Instruction, store, jmp, branch, call, ret}
-use Rattle.rules.specs.Bytes.{maybe, byte, word}
+use Rattle.std.proofs.Math.Option.{some}
+use Rattle.soundness.specs.Names.{Condition, Instruction, jmp, branch, call}
 use Rattle.rules.specs.Instructions.{Ty, size}
-use Rattle.rules.specs.Tables.{Body, entry, fn, Function, Module, body_of, body_end}
-use Rattle.rules.specs.ModuleFile.{labels, refusal, read, bodies_in, tables_in}
+use Rattle.rules.specs.Tables.{Body, Function, body_of, body_end}
+use Rattle.rules.specs.ModuleFile.{labels, read, bodies_in, tables_in}
 use Rattle.rules.specs.Machine.{owned}
 use Rattle.rules.specs.Typing.{Lists, lists, place_flow}
 use Rattle.format.specs.declared.Sections.{Sections}
-use Rattle.soundness.specs.Tests.{decide, none_some, some_inj, eqb_is, eqb_isnt, ltb_is, ltb_isnt, ltb_yes, ltb_no}
+use Rattle.soundness.specs.Tests.{decide, some_inj, eqb_is, eqb_isnt, ltb_is, ltb_isnt}
 use Rattle.soundness.specs.Invariant.{owned_is}
-use Rattle.soundness.specs.Exact.{In}
 use Rattle.soundness.specs.Readable.{orderly, label_own, label_inside}
 use Rattle.soundness.specs.Cutting.{good_file}
 use Rattle.keys.specs.Keys.{Keyed}
-use Rattle.nodes.specs.Nodes.{place_of, owner_of, Tabled}
+use Rattle.nodes.specs.Nodes.{place_of, owner_of}
 use Rattle.nodes.proofs.Numbering.{label_at}
 use Rattle.rules.specs.Need.{raised, height, Path, goes_on, called, call_at, arity, argument_at}
-use Rattle.need.specs.Rises.{Notes}
-use Rattle.tracks.specs.Plans.{Plan, falls, stores, jumps, forks, calls, stops, plan_of, result_slots, Leaves}
-use Rattle.tracks.specs.Walks.{Goes, ends, meets, passes, Walked, Grows, grows_refl, mark_of, ground_of, offset_of, Met, Noted, WalkedIn, GoesIn, OwnMet, RowMet, Climbing, Standing, Ready, Arrived, arrived_grows, arrived_met, climbing_arrived, met_grows, grows_trans}
+use Rattle.tracks.specs.Plans.{Plan, jumps, forks, calls, plan_of, result_slots, Leaves}
+use Rattle.tracks.specs.Walks.{ends, meets, Grows, offset_of, Met, WalkedIn, RowMet, Climbing, Standing, Ready, Arrived, arrived_grows, arrived_met, climbing_arrived, met_grows}
 use Rattle.tracks.specs.Steps.{raised_same, calls_plan, climbing_notes, ended, here, call_here, leaves}
 use Rattle.tracks.specs.Leads.{Complete, Leads, noted}
 

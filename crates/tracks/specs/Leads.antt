@@ -1,24 +1,20 @@
 -- Where one instruction of a walk leads: an end, or a place from which the rest of the walk completes it.
-use Rattle.std.specs.Prelude.{◌≡◌, refl, ◌≢◌, ◌⊎◌, ℕ, zero, suc, ◌+◌, ◌*◌, ◌-◌, ◌%◌, ◌≤◌, ◌<◌, max, Bool, true, false, cond, List, [], ◌∷◌, length, get_or, set, leb, eqb, ltb}
-use Rattle.std.proofs.Common.{sym, ap, ◌∙◌, subst, inl, inr, arith, length-set, get_or-set_same, get_or-set_other}
-use Rattle.std.proofs.Math.Option.{Option, none, some}
-use Rattle.soundness.specs.Names.{Condition, Instruction, store, jmp, branch, call, ret}
-use Rattle.rules.specs.Bytes.{maybe, byte, word}
+use Rattle.std.specs.Prelude.{◌≡◌, refl, ℕ, suc, ◌+◌, ◌-◌, ◌≤◌, ◌<◌, true, cond, List, [], ◌∷◌, length, set, ltb}
+use Rattle.std.proofs.Common.{sym, ap, ◌∙◌, subst, inl, arith}
+use Rattle.std.proofs.Math.Option.{none, some}
+use Rattle.soundness.specs.Names.{Instruction, store, ret}
 use Rattle.rules.specs.Instructions.{Ty, size}
-use Rattle.rules.specs.Tables.{Body, entry, fn, Function, Module, body_of, body_end}
-use Rattle.rules.specs.ModuleFile.{labels, refusal, read, bodies_in, tables_in}
-use Rattle.rules.specs.Machine.{owned}
+use Rattle.rules.specs.Tables.{Body, entry, fn, body_of, body_end}
+use Rattle.rules.specs.ModuleFile.{read, bodies_in}
 use Rattle.rules.specs.Typing.{Lists, lists, place_flow, end_flow, end_of, past}
 use Rattle.format.specs.declared.Sections.{Sections}
-use Rattle.soundness.specs.Tests.{decide, none_some, some_inj, eqb_is, eqb_isnt, leb_yes, ltb_is, ltb_isnt}
-use Rattle.soundness.specs.Exact.{In}
+use Rattle.soundness.specs.Tests.{none_some, some_inj, leb_yes}
 use Rattle.soundness.specs.Walks.{size_some}
 use Rattle.keys.specs.Keys.{Keyed}
-use Rattle.rules.specs.Need.{raised, height, Path, goes_on, called, call_at, arity, argument_at}
-use Rattle.need.specs.Rises.{Notes}
-use Rattle.tracks.specs.Plans.{Plan, falls, stores, jumps, forks, calls, stops, plan_of, result_slots, Leaves, Means, narrow, broad, storing, jumping, forking, calling, returning}
-use Rattle.tracks.specs.Walks.{Goes, ends, meets, passes, Walked, Grows, mark_of, ground_of, offset_of, Met, Noted, WalkedIn, GoesIn, OwnMet, RowMet, Climbing, Standing, Ready, walked_grows, met_grows, noted_grows}
-use Rattle.tracks.specs.Steps.{raised_same, raised_bind, calls_plan, climbing_notes, one_lists, has_flow, ended, here, inside, call_here, leaves}
+use Rattle.rules.specs.Need.{raised, height, Path, goes_on, call_at}
+use Rattle.tracks.specs.Plans.{falls, stores, calls, stops, plan_of, Leaves}
+use Rattle.tracks.specs.Walks.{ends, Grows, offset_of, Noted, WalkedIn, GoesIn, Climbing, Standing, Ready}
+use Rattle.tracks.specs.Steps.{raised_same, raised_bind, calls_plan, has_flow, ended, here, call_here, leaves}
 
 module _ (s table : List ℕ) (b : Body) (marks grounds row : List ℕ) (most : ℕ) (at : ℕ) (l : Lists) (f : ℕ) where
   -- whatever comes later, the place has been walked from

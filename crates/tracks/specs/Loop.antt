@@ -1,13 +1,12 @@
 -- The loop of a walk: started at p₀ with ground_level f₀, now at another place.
-use Rattle.std.specs.Prelude.{◌≡◌, refl, ℕ, zero, suc, ◌+◌, ◌≤◌, ◌<◌, max, true, List, [], ◌∷◌, length, get_or}
-use Rattle.std.proofs.Common.{sym, ap, ◌∙◌, subst, arith}
-use Rattle.std.proofs.Math.Option.{some}
+use Rattle.std.specs.Prelude.{◌≡◌, ℕ, suc, ◌≤◌, ◌<◌, max, List, [], get_or}
+use Rattle.std.proofs.Common.{subst}
 use Rattle.rules.specs.Tables.{Body, body_of, body_end}
 use Rattle.rules.specs.ModuleFile.{read, bodies_in}
 use Rattle.rules.specs.Typing.{Lists}
 use Rattle.format.specs.declared.Sections.{Sections}
-use Rattle.rules.specs.Need.{raised, height, Path}
-use Rattle.tracks.specs.Walks.{Goes, ends, meets, passes, Walked, Grows, grows_refl, grows_trans, Met, Noted, WalkedIn, GoesIn, Climbing, Standing, Ready, Arrived}
+use Rattle.rules.specs.Need.{raised, Path}
+use Rattle.tracks.specs.Walks.{ends, meets, passes, Grows, grows_refl, grows_trans, Met, WalkedIn, Climbing, Standing, Ready, Arrived}
 use Rattle.tracks.specs.Steps.{climbing_most, one_lists}
 use Rattle.tracks.specs.Leads.{Complete, Leads}
 use Rattle.tracks.specs.Jumps.{arrival_climbs, arrival_grows, arrival_met}

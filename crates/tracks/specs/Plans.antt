@@ -1,10 +1,10 @@
 -- What an instruction does to the height, with what a typing's flow from it leaves: by lengths alone. By its number in a table of keys.
-use Rattle.std.specs.Prelude.{◌≡◌, refl, ◌≢◌, ℕ, zero, suc, ◌+◌, ◌≤◌, ◌<◌, Bool, true, false, cond, ◌&&◌, List, [], ◌∷◌, ◌++◌, length, get_or, ltb, leb, eqb}
-use Rattle.std.proofs.Common.{sym, ap, ◌∙◌, subst, arith, length-append}
+use Rattle.std.specs.Prelude.{◌≡◌, refl, ◌≢◌, ℕ, zero, suc, ◌+◌, ◌≤◌, ◌<◌, Bool, true, false, ◌&&◌, List, [], ◌∷◌, ◌++◌, length, get_or, ltb, eqb}
+use Rattle.std.proofs.Common.{sym, subst, arith}
 use Rattle.std.proofs.Math.Option.{Option, none, some}
-use Rattle.soundness.specs.Names.{Slot, Num, int, Unary, pop, copy, neg, complement, convert, count, Binary, swap, arith as arithmetic, cmp, Condition, Instruction, push, load, store, lea, one, two, tload, tstore, bump, jmp, branch, call, ret, null, new, delete, flea}
+use Rattle.soundness.specs.Names.{int, Unary, pop, copy, neg, complement, convert, count, Binary, swap, arith as arithmetic, cmp, Condition, Instruction, push, load, store, lea, one, two, tload, tstore, bump, jmp, branch, call, ret, null, new, delete, flea}
 use Rattle.rules.specs.Bytes.{maybe}
-use Rattle.rules.specs.Instructions.{Pointee, void, cell, struct, Ty, num, ptr, kind_of, num_of, eq_ty, size, Opcode, absent, bare, wide, opcode_of, instruction_of}
+use Rattle.rules.specs.Instructions.{void, cell, Ty, num, ptr, kind_of, num_of, eq_ty, size, Opcode, absent, bare, wide, opcode_of, instruction_of}
 use Rattle.rules.specs.Tables.{Body, Function, Module}
 use Rattle.rules.specs.Stack.{at}
 use Rattle.rules.specs.Heap.{shape_of, pointee_in}
@@ -12,8 +12,8 @@ use Rattle.rules.specs.Operations.{class1, class2, refuse}
 use Rattle.rules.specs.Machine.{owned, own}
 use Rattle.rules.specs.Typing.{Lists, lists, Flow, to, operand, only, agree, strip, with_result, judge, gives1, gives2}
 use Rattle.soundness.specs.Numbering.{key_table}
-use Rattle.soundness.specs.Tests.{decide, none_some, some_inj, eqb_is, eqb_isnt, and_both, ltb_is, ltb_isnt}
-use Rattle.soundness.specs.Exact.{by_maybe, by_no, by_operand, by_only, by_ptr, by_num, by_unmanaged, by_struct, by_fields, by_ret}
+use Rattle.soundness.specs.Tests.{decide, none_some, some_inj, eqb_is, eqb_isnt}
+use Rattle.soundness.specs.Exact.{by_maybe, by_no, by_only, by_ptr, by_num, by_unmanaged, by_struct, by_fields, by_ret}
 
 -- ---- plans
 

@@ -1,30 +1,26 @@
 -- One instruction of a walk: where it leads, by numbers, and how the rest of the walk completes it.
-use Rattle.std.specs.Prelude.{◌≡◌, refl, ◌≢◌, ◌⊎◌, ℕ, zero, suc, ◌+◌, ◌*◌, ◌-◌, ◌%◌, ◌≤◌, ◌<◌, max, Bool, true, false, cond, List, [], ◌∷◌, length, get_or, leb, eqb, ltb}
+use Rattle.std.specs.Prelude.{◌≡◌, refl, ◌⊎◌, ℕ, suc, ◌+◌, ◌-◌, ◌%◌, ◌≤◌, ◌<◌, max, true, false, List, ◌∷◌, length, leb}
 use Rattle.std.proofs.Common.{sym, ap, ◌∙◌, subst, inl, inr, arith}
-use Rattle.std.proofs.Math.Option.{Option, none, some}
-use Rattle.soundness.specs.Names.{Condition, Instruction, push, load, store, lea, one, two, tload, tstore, bump, jmp, branch, call, ret, null, new, delete, flea, pop, copy, neg, complement, convert, count, swap, arith as arithmetic, cmp}
-use Rattle.rules.specs.Bytes.{maybe, byte, word}
+use Rattle.std.proofs.Math.Option.{none, some}
+use Rattle.soundness.specs.Names.{Instruction, push, load, store, lea, one, two, tload, tstore, bump, jmp, branch, call, ret, null, new, delete, flea}
+use Rattle.rules.specs.Bytes.{byte, word}
 use Rattle.rules.specs.Instructions.{Ty, size, opcode_of, instruction_of}
-use Rattle.rules.specs.Tables.{Body, entry, fn, Function, Module, body_of, body_end, module_of}
-use Rattle.rules.specs.ModuleFile.{labels, code_length, refusal, read, bodies_in, tables_in, code_in}
-use Rattle.rules.specs.Machine.{owned}
-use Rattle.rules.specs.Typing.{Lists, lists, Flow, judge, Flows, Gives, end_of, end_flow, past, place_flow, Consistent, WellTyped}
+use Rattle.rules.specs.Tables.{Body, body_of, body_end, module_of}
+use Rattle.rules.specs.ModuleFile.{code_length, read, bodies_in, tables_in, code_in}
+use Rattle.rules.specs.Typing.{Lists, lists, Flow, judge, Flows, Gives, end_of, past, place_flow, Consistent}
 use Rattle.format.specs.declared.Sections.{Sections}
-use Rattle.format.specs.Layout.{Packed}
-use Rattle.soundness.specs.Tests.{decide, none_some, some_inj, eqb_is, eqb_isnt, eqb_same, eqb_other, leb_yes, leb_no, leb_is, leb_isnt, ltb_is, ltb_isnt}
-use Rattle.soundness.specs.Readable.{Has, Orderly, orderly, has_end, place_is, place_inside, place_extent}
+use Rattle.soundness.specs.Tests.{decide, none_some, some_inj, eqb_same, eqb_other, leb_no, leb_is, leb_isnt}
+use Rattle.soundness.specs.Readable.{orderly, has_end, place_is, place_inside}
 use Rattle.soundness.specs.Cutting.{code_length_lem, good_file}
-use Rattle.soundness.specs.Exact.{In}
 use Rattle.soundness.specs.Numbering.{key_table}
 use Rattle.keys.specs.Keys.{Says, Keyed}
 use Rattle.keys.proofs.Places.{says_key}
 use Rattle.keys.proofs.Files.{says_at}
-use Rattle.rules.specs.Need.{raised, height, Path, goes_on, called, call_at, arity, argument_at}
+use Rattle.rules.specs.Need.{raised, height, Path, goes_on, called, call_at}
 use Rattle.need.specs.Safe.{path_given}
 use Rattle.need.specs.Grounds.{ground_bound, height_bound}
-use Rattle.need.specs.Rises.{Notes}
-use Rattle.tracks.specs.Plans.{Plan, falls, stores, jumps, forks, calls, stops, plan_of, result_slots, Leaves, Follows, judge_follows, Means, narrow, broad, storing, jumping, forking, calling, returning, effect_at, means_at}
-use Rattle.tracks.specs.Walks.{Goes, ends, meets, passes, Walked, Grows, grows_refl, mark_of, ground_of, offset_of, Met, Noted, WalkedIn, GoesIn, OwnMet, RowMet, Climbing, Standing, Ready, walked_grows, met_grows}
+use Rattle.tracks.specs.Plans.{calls, plan_of, Leaves, Follows, judge_follows, Means, effect_at, means_at}
+use Rattle.tracks.specs.Walks.{offset_of, OwnMet, RowMet, Climbing, Standing, Ready, walked_grows}
 
 -- ---- lists and grounds
 

@@ -1,27 +1,27 @@
 -- A body from its start to its last node, and what is known of it then.
-use Rattle.std.specs.Prelude.{◌≡◌, refl, ◌≢◌, ◌⊎◌, ℕ, zero, suc, ◌+◌, ◌*◌, ◌-◌, ◌≤◌, ◌<◌, Bool, true, false, List, [], ◌∷◌, length, get_or, ltb}
-use Rattle.std.proofs.Common.{sym, ap, ◌∙◌, subst, inl, inr, arith}
-use Rattle.std.proofs.Math.Option.{Option, none, some}
+use Rattle.std.specs.Prelude.{◌≡◌, refl, ◌⊎◌, ℕ, zero, suc, ◌-◌, ◌≤◌, ◌<◌, true, List, [], length, get_or, ltb}
+use Rattle.std.proofs.Common.{sym, ◌∙◌, subst, inl, inr, arith}
+use Rattle.std.proofs.Math.Option.{some}
 use Rattle.std.proofs.Math.ListN.{get_or-eq_default}
 use Rattle.rules.specs.Instructions.{Ty}
-use Rattle.rules.specs.Tables.{Body, Module, body_of, body_end}
+use Rattle.rules.specs.Tables.{Body, body_of, body_end}
 use Rattle.rules.specs.ModuleFile.{labels, read, bodies_in, tables_in}
-use Rattle.rules.specs.Typing.{Lists, lists, place_flow, start_of}
+use Rattle.rules.specs.Typing.{Lists, lists, start_of}
 use Rattle.format.specs.declared.Sections.{Sections}
 use Rattle.soundness.specs.Tests.{decide, some_inj, ltb_is, ltb_isnt}
 use Rattle.soundness.specs.Readable.{orderly, place_inside}
 use Rattle.soundness.specs.Cutting.{good_file}
-use Rattle.nodes.specs.Nodes.{place_of, owner_of}
+use Rattle.nodes.specs.Nodes.{owner_of}
 use Rattle.rules.specs.Need.{raised, height, Path, begins}
 use Rattle.need.specs.Grounds.{height_bound}
 use Rattle.need.specs.Safe.{path_given}
 use Rattle.need.specs.Settle.{Summed}
 use Rattle.need.specs.Rises as Rises
-use Rattle.need.specs.Rises.{Notes, Climbed, summed}
-use Rattle.tracks.specs.Walks.{Moved, Arrived, Goes, ends, meets, passes, Walked, mark_of, ground_of, low_of, high_of, offset_of, Met, Noted, WalkedIn, Climbing, Standing, Ready}
+use Rattle.need.specs.Rises.{Notes, summed}
+use Rattle.tracks.specs.Walks.{Moved, Arrived, Goes, ends, meets, passes, Walked, mark_of, ground_of, high_of, offset_of, Met, Noted, WalkedIn, Climbing, Standing, Ready}
 use Rattle.tracks.specs.Steps.{one_lists}
 use Rattle.tracks.specs.Jumps.{node_of, arrival_climbs, arrival_met}
-use Rattle.tracks.specs.Visits.{Quiet, Drained, Later, walked_later}
+use Rattle.tracks.specs.Visits.{Quiet, Drained, walked_later}
 use Rattle.tracks.specs.Loop.{Finished}
 
 -- before a body is walked: none waits, its own nodes are unmarked, no call is noted

@@ -1,16 +1,14 @@
 -- Walks from node to node until none waits.
-use Rattle.std.specs.Prelude.{◌≡◌, refl, ◌≢◌, ◌⊎◌, ℕ, zero, suc, ◌+◌, ◌*◌, ◌-◌, ◌≤◌, ◌<◌, Bool, true, false, cond, List, [], ◌∷◌, length, get_or, set, eqb, ltb}
-use Rattle.std.proofs.Common.{sym, ap, ◌∙◌, subst, inl, inr, arith, length-set, get_or-set_same, get_or-set_other}
-use Rattle.std.proofs.Math.Option.{Option, none, some}
+use Rattle.std.specs.Prelude.{◌≡◌, refl, ◌≢◌, ◌⊎◌, ℕ, zero, suc, ◌+◌, ◌*◌, ◌-◌, ◌≤◌, ◌<◌, List, length, get_or, set, eqb, ltb}
+use Rattle.std.proofs.Common.{sym, ◌∙◌, subst, inl, inr, arith, length-set, get_or-set_same, get_or-set_other}
 use Rattle.std.proofs.Math.ListN.{get_or-eq_default}
-use Rattle.rules.specs.Tables.{Body, Module, body_of, body_end}
-use Rattle.rules.specs.ModuleFile.{labels, refusal, read, bodies_in}
+use Rattle.rules.specs.Tables.{Body}
+use Rattle.rules.specs.ModuleFile.{labels, read}
 use Rattle.rules.specs.Typing.{Lists}
 use Rattle.soundness.specs.Tests.{decide, eqb_is, eqb_isnt, ltb_is, ltb_isnt}
 use Rattle.nodes.specs.Nodes.{place_of, owner_of}
-use Rattle.rules.specs.Need.{height, Path, call_at, argument_at}
-use Rattle.need.specs.Rises.{Notes}
-use Rattle.tracks.specs.Walks.{Walked, walked_map, Moved, Grows, mark_of, ground_of, low_of, high_of, offset_of, Met, Noted, WalkedIn, Climbing}
+use Rattle.rules.specs.Need.{height, Path, argument_at}
+use Rattle.tracks.specs.Walks.{walked_map, Moved, Grows, mark_of, ground_of, low_of, high_of, offset_of, Met, Noted, WalkedIn, Climbing}
 use Rattle.tracks.specs.Loop.{Finished}
 
 -- ---- later states: what was met is met, what was noted is noted

@@ -1,12 +1,11 @@
 -- What walks leave: nodes with a mark and the largest ground_level that came to them, the largest height, and for each callee where its first argument lies at most.
-use Rattle.std.specs.Prelude.{◌≡◌, refl, ◌≢◌, ◌⊎◌, ℕ, zero, suc, ◌+◌, ◌*◌, ◌-◌, ◌≤◌, ◌<◌, Bool, true, false, List, [], ◌∷◌, length, get_or, eqb, ltb}
-use Rattle.std.proofs.Common.{sym, ap, ◌∙◌, subst, inl, inr, arith}
-use Rattle.std.proofs.Math.Option.{Option, none, some}
+use Rattle.std.specs.Prelude.{◌≡◌, refl, ◌≢◌, ◌⊎◌, ℕ, suc, ◌+◌, ◌-◌, ◌≤◌, ◌<◌, true, List, [], ◌∷◌, length, get_or, eqb, ltb}
+use Rattle.std.proofs.Common.{sym, ◌∙◌, subst, inl, inr, arith}
+use Rattle.std.proofs.Math.Option.{some}
 use Rattle.std.proofs.Math.ListN.{get_or-eq_default}
-use Rattle.rules.specs.Instructions.{Ty}
 use Rattle.rules.specs.Tables.{Body, Module, body_of, body_end}
 use Rattle.rules.specs.ModuleFile.{labels, refusal, read, bodies_in}
-use Rattle.rules.specs.Typing.{Lists, lists, place_flow, WellTyped}
+use Rattle.rules.specs.Typing.{Lists, place_flow, WellTyped}
 use Rattle.format.specs.declared.Sections.{Sections}
 use Rattle.format.specs.Layout.{Packed}
 use Rattle.soundness.specs.Readable.{Has}

@@ -14,7 +14,7 @@ use Rattle.rules.specs.declared.Num.{Num}
 use Rattle.rules.specs.declared.Num.TheVariants.{Int as int, Long as long, Double as double}
 use Rattle.rules.specs.declared.Instruction.TheVariants.{New, Flea}
 use Rattle.rules.specs.Instructions.{Pointee, void, cell, struct, pointee_of, Ty, ptr, num_kind, num_of, pointer_byte, ty_of, type_byte}
-use Rattle.rules.specs.Tables.{structure_count, structure_at, structure_of, Body, Module, number_type, field_of, fields_from, params_from, module_of}
+use Rattle.rules.specs.Tables.{structure_at, structure_of, Body, Module, number_type, field_of, fields_from, params_from, module_of}
 use Rattle.rules.specs.ModuleFile.{read, refusal, edition, structures, constants_at, structures_at, structures_in}
 use Rattle.rules.specs.Stack.{at}
 use Rattle.rules.specs.Heap.{Shape, single, fields, shape_of, pointee_in}

@@ -1,5 +1,5 @@
 -- Values, and what operations give for them, in the rules' terms.
-use Rattle.std.specs.Prelude.{◌≡◌, Bool, true, false, cond, [], ◌∷◌, ℕ, eqb, leb}
+use Rattle.std.specs.Prelude.{◌≡◌, Bool, cond, [], ◌∷◌, ℕ, eqb, leb}
 use Rattle.rules.specs.Doubles.{decode_of, encode_of}
 use Rattle.rules.specs.Instructions.{num_kind, ptr_kind}
 use Rattle.rules.specs.Operations.{low, apply1, apply2, Result, yields, raises}

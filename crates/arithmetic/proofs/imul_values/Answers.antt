@@ -1,6 +1,5 @@
 -- `arithmetic::imul_values` meets its contract. Assumes nothing.
 use mathlib.Core.Path.{refl, ap}
-use borrow.Author.Rules.{rules}
 use Rattle.rules.specs.Operations.{on_words, on_doubles}
 use Rattle.rules.specs.declared.Operator.TheVariants.{Imul}
 use Rattle.values.specs.Values.{gives}

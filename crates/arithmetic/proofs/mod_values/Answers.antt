@@ -1,7 +1,6 @@
 -- `arithmetic::mod_values` meets its contract. Assumes nothing.
 use mathlib.Core.Path.{refl, ap}
 use borrow.Author.Tests.{eq-eqb, ne_eqb}
-use borrow.Author.Rules.{rules}
 use Rattle.rules.specs.Operations.{on_words}
 use Rattle.rules.specs.declared.Operator.TheVariants.{Mod}
 use Rattle.values.specs.Values.{gives}

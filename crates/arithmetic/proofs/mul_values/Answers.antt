@@ -1,6 +1,5 @@
 -- `arithmetic::mul_values` meets its contract. Assumes nothing.
 use mathlib.Core.Path.{refl, ap}
-use borrow.Author.Rules.{rules}
 use Rattle.rules.specs.Operations.{on_words, on_doubles}
 use Rattle.rules.specs.declared.Operator.TheVariants.{Mul}
 use Rattle.values.specs.Values.{gives}

@@ -1,6 +1,5 @@
 -- `arithmetic::shl_values` meets its contract. Assumes nothing.
 use mathlib.Core.Path.{refl, ap}
-use borrow.Author.Rules.{rules}
 use Rattle.rules.specs.Operations.{on_words}
 use Rattle.rules.specs.declared.Operator.TheVariants.{Shl}
 use Rattle.values.specs.Values.{gives}

@@ -1,7 +1,6 @@
 -- `arithmetic::unlike` meets its contract. Assumes nothing.
 use mathlib.Core.Path.{sym}
 use borrow.Author.Tests.{ne_eqb}
-use borrow.Author.Rules.{rules}
 use Rattle.arithmetic.specs.Arithmetic.{unlike_of}
 use Rattle.soundness.specs.Invariant.{ptr_is_pointer}
 use Rattle.values.specs.Values.{kind_of_value}

@@ -1,6 +1,5 @@
 use Rattle.beside.proofs.Laws.{other_length, other_count, other_offset, good_head}
 use mathlib.Core.Path.{sym, ◌∙◌}
-use borrow.Author.Rules.{rules}
 use Rattle.beside.proofs.differs.Goals as goal
 
 pub returns-then-beside-bodies : goal.returns-then-beside-bodies

@@ -1,9 +1,8 @@
-use Rattle.beside.proofs.Laws.{bodies_from, search_first, search_found, search_on, search_done}
+use Rattle.beside.proofs.Laws.{search_first, search_found, search_on, search_done}
 use Rattle.rules.specs.declared.CheckAnswer.TheVariants.{Untyped}
-use Rattle.rules.specs.Recording.{first_zero, answer_from}
-use Rattle.rules.specs.Check.{bodies as bodyList}
-use Prim.Native.Nat.{ℕ, ◌+◌, ◌≤◌, ◌<◌, ◌-◌}
-use mathlib.Core.Path.{◌≡◌, refl, ◌∙◌, ap, sym}
+use Rattle.rules.specs.Recording.{answer_from}
+use Prim.Native.Nat.{◌-◌}
+use mathlib.Core.Path.{◌∙◌, ap, sym}
 use native.Mathlib.Omega.{arith}
 use Rattle.beside.proofs.first_zero.Goals as goal
 

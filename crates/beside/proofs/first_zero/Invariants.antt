@@ -1,11 +1,9 @@
 -- The invariants and measures of `beside::first_zero`.
-use Rattle.beside.proofs.Laws.{bodies_from, search_first, search_found, search_on, search_done}
-use Rattle.rules.specs.declared.CheckAnswer.TheVariants.{Untyped}
-use Rattle.rules.specs.Recording.{first_zero, answer_from}
+use Rattle.beside.proofs.Laws.{bodies_from}
+use Rattle.rules.specs.Recording.{first_zero}
 use Rattle.rules.specs.Check.{bodies as bodyList}
-use Prim.Native.Nat.{ℕ, ◌+◌, ◌≤◌, ◌<◌, ◌-◌}
-use mathlib.Core.Path.{◌≡◌, refl, ◌∙◌, ap, sym}
-use native.Mathlib.Omega.{arith}
+use Prim.Native.Nat.{◌≤◌, ◌-◌}
+use mathlib.Core.Path.{◌≡◌}
 use Rattle.beside.proofs.first_zero.Given as goal
 
 abbrev pub invariant-loop-i : goal.invariant-loop-i

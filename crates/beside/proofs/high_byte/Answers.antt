@@ -1,9 +1,6 @@
 use Rattle.beside.proofs.Laws.{some_end}
 use Rattle.beside.proofs.Laws.{some_more, some_none}
-use Rattle.rules.specs.Bytes.{byte, some_below}
-use lib.Dec.{ltb}
-use Prim.Native.Nat.{ℕ, ◌+◌, ◌≤◌, ◌<◌, ◌-◌}
-use mathlib.Core.Path.{◌≡◌, refl, ◌∙◌, ap}
+use Prim.Native.Nat.{◌-◌}
 use native.Mathlib.Omega.{arith}
 use Rattle.beside.proofs.high_byte.Goals as goal
 

@@ -1,11 +1,8 @@
 -- The invariants and measures of `beside::high_byte`.
-use Rattle.beside.proofs.Laws.{some_end}
-use Rattle.beside.proofs.Laws.{some_more, some_none}
 use Rattle.rules.specs.Bytes.{byte, some_below}
 use lib.Dec.{ltb}
-use Prim.Native.Nat.{ℕ, ◌+◌, ◌≤◌, ◌<◌, ◌-◌}
-use mathlib.Core.Path.{◌≡◌, refl, ◌∙◌, ap}
-use native.Mathlib.Omega.{arith}
+use Prim.Native.Nat.{◌+◌, ◌≤◌, ◌-◌}
+use mathlib.Core.Path.{◌≡◌}
 use Rattle.beside.proofs.high_byte.Given as goal
 
 abbrev pub invariant-loop-i : goal.invariant-loop-i

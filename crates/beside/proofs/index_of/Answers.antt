@@ -1,5 +1,4 @@
 use Rattle.beside.proofs.Laws.{entry_index, function_index}
-use borrow.Author.Rules.{rules}
 use Rattle.beside.proofs.index_of.Goals as goal
 
 pub returns-then-owner-eq-ENTRY : goal.returns-then-owner-eq-ENTRY

@@ -1,5 +1,4 @@
 use Rattle.beside.proofs.Laws.{later_body}
-use borrow.Author.Rules.{rules}
 use Rattle.beside.proofs.owner_of.Goals as goal
 
 pub returns : goal.returns

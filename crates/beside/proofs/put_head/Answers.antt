@@ -1,6 +1,5 @@
 use Rattle.rules.specs.Bytes.{written}
-use mathlib.Core.Path.{◌≡◌, refl, ◌∙◌, ap}
-use borrow.Author.Rules.{rules}
+use mathlib.Core.Path.{◌∙◌, ap}
 use Rattle.beside.proofs.put_head.Goals as goal
 
 pub returns : goal.returns

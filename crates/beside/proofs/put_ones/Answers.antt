@@ -1,7 +1,7 @@
 use Rattle.beside.proofs.Laws.{oned_none, oned_more}
 use Rattle.beside.specs.Bodies.{oned}
-use lib.ListN.{length, length-set}
-use Prim.Native.Nat.{ℕ, ◌+◌, ◌≤◌, ◌<◌, ◌-◌}
+use lib.ListN.{length-set}
+use Prim.Native.Nat.{◌-◌}
 use mathlib.Core.Path.{◌≡◌, refl, ◌∙◌, ap}
 use native.Mathlib.Omega.{arith}
 use Rattle.beside.proofs.put_ones.Goals as goal

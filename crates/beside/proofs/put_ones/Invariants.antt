@@ -1,10 +1,8 @@
 -- The invariants and measures of `beside::put_ones`.
-use Rattle.beside.proofs.Laws.{oned_none, oned_more}
 use Rattle.beside.specs.Bodies.{oned}
-use lib.ListN.{length, length-set}
-use Prim.Native.Nat.{ℕ, ◌+◌, ◌≤◌, ◌<◌, ◌-◌}
-use mathlib.Core.Path.{◌≡◌, refl, ◌∙◌, ap}
-use native.Mathlib.Omega.{arith}
+use lib.ListN.{length}
+use Prim.Native.Nat.{◌≤◌, ◌-◌}
+use mathlib.Core.Path.{◌≡◌}
 use Rattle.beside.proofs.put_ones.Given as goal
 
 abbrev pub invariant-loop-i : goal.invariant-loop-i

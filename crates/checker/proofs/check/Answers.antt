@@ -1,11 +1,6 @@
 use mathlib.Core.Path.{◌∙◌, sym}
 use Rattle.reader.proofs.Opening.{opened_sections, opened_packed}
 use Rattle.checker.proofs.Verdicts.{refused_check, exactly}
-use borrow.Author.Rules.{rules}
-use Rattle.checker.proofs.check.Reads as reads
-use Rattle.checker.proofs.check.Lts as lts
-use Rattle.checker.proofs.check_opened.Reads as check-opened-reads
-use Rattle.reader.proofs.open.Reads as open-reads
 use Rattle.checker.proofs.check.Goals as goal
 
 pub check_opened-requires : goal.check_opened-requires

@@ -3,7 +3,6 @@ use mathlib.Core.Path.{sym, ◌∙◌}
 use Rattle.transfer.proofs.Structures.{header_long}
 use Rattle.checker.proofs.Lent.{lent_file}
 use Rattle.checker.proofs.Verdicts.{short_check}
-use borrow.Author.Rules.{rules}
 use Rattle.checker.proofs.check_opened.Goals as goal
 
 pub returns-then-room-c : goal.returns-then-room-c

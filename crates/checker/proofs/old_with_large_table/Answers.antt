@@ -1,7 +1,6 @@
 use native.Mathlib.Omega.{arith}
 use Rattle.nodes.proofs.Copies.{zeros_at}
 use Rattle.checker.proofs.Lent.{part_long, lent_first}
-use borrow.Author.Rules.{rules}
 use Rattle.checker.proofs.old_with_large_table.Goals as goal
 
 pub translate-requires : goal.translate-requires

@@ -1,6 +1,5 @@
 use native.Mathlib.Omega.{arith}
 use Rattle.nodes.proofs.Copies.{zeros_at}
-use borrow.Author.Rules.{rules}
 use Rattle.checker.proofs.with_large_table.Goals as goal
 
 pub check_with-requires : goal.check_with-requires

@@ -1,5 +1,4 @@
 use Rattle.nodes.proofs.Copies.{zeros_at}
-use borrow.Author.Rules.{rules}
 use Rattle.checker.proofs.with_middle_table.Goals as goal
 
 pub check_with-requires : goal.check_with-requires

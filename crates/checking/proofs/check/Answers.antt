@@ -1,5 +1,4 @@
 -- The proof of `checking::check`.
-use borrow.Author.Rules.{rules}
 use Rattle.promises.proofs.Promised.{check_keeps}
 use Rattle.checking.proofs.check.Goals as goal
 

@@ -1,5 +1,4 @@
 -- The proof of `compiling::formula`.
-use borrow.Author.Rules.{rules}
 use Rattle.promises.specs.FormulaPromised.{formula_keeps}
 use Rattle.compiling.proofs.formula.Goals as goal
 

@@ -1,6 +1,5 @@
 -- The proof of `convert::deliver_fourth`.
 use mathlib.Core.Path.{refl}
-use borrow.Author.Rules.{rules}
 use Rattle.editions.specs.Conversions.{edition_is}
 use Rattle.convert.proofs.Parts.{up_short, up_written}
 use Rattle.convert.proofs.deliver_fourth.Goals as goal

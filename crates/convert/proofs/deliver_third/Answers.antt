@@ -1,5 +1,4 @@
 -- The proof of `convert::deliver_third`.
-use borrow.Author.Rules.{rules}
 use Rattle.convert.proofs.Parts.{third_places, down_short, down_written}
 use Rattle.convert.proofs.deliver_third.Goals as goal
 

@@ -1,7 +1,6 @@
 -- The proof of `convert::down_refusal`.
 use native.Mathlib.Omega.{arith}
 use mathlib.Core.Path.{sym, ◌∙◌, refl}
-use borrow.Author.Rules.{rules}
 use Rattle.reader.proofs.Opening.{opened_refused, opened_sections}
 use Rattle.convert.proofs.Refusals.{same_refusal, refused_number, down_early, down_newer}
 use Rattle.convert.proofs.down_refusal.Goals as goal

@@ -1,5 +1,4 @@
 -- The proof of `convert::in_third`.
-use borrow.Author.Rules.{rules}
 use Rattle.convert.proofs.Down.{structures_newer, not_down}
 use Rattle.convert.proofs.in_third.Goals as goal
 

@@ -1,10 +1,9 @@
 -- The proof of `convert::in_third_with`.
 use native.Mathlib.Omega.{arith}
 use mathlib.Core.Path.{refl, sym, ◌∙◌}
-use borrow.Author.Rules.{rules}
 use Rattle.reader.proofs.Opening.{tables_same}
 use Rattle.rules.specs.ModuleFile.{tables_in}
-use Rattle.convert.proofs.Parts.{from_front, third_places, third_lent, third_fits, profiles_lent}
+use Rattle.convert.proofs.Parts.{third_places, third_lent, third_fits, profiles_lent}
 use Rattle.convert.proofs.Down.{has_profile, not_down, goes_down}
 use Rattle.convert.proofs.in_third_with.Goals as goal
 

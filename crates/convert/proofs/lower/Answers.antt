@@ -1,13 +1,10 @@
 -- The proof of `convert::lower`.
-use Prim.Native.Nat.{◌+◌, ◌-◌, ◌*◌, ◌≤◌}
+use Prim.Native.Nat.{◌-◌}
 use native.Mathlib.Omega.{arith}
-use mathlib.Core.List.{◌++◌}
-use mathlib.Core.Path.{◌≡◌, refl, ap}
-use lib.ListN.{length, drop}
+use mathlib.Core.Path.{refl, ap}
 use Rattle.format.proofs.Gathered.{some_none, some_more, some_end}
-use Rattle.rules.specs.Converting.{lowered, profiled}
+use Rattle.rules.specs.Converting.{profiled}
 use Rattle.rules.specs.Tables.{differs}
-use Rattle.rules.specs.Bytes.{some_below}
 use Rattle.convert.proofs.Records.{lower_none, lower_more, lower_end}
 use Rattle.convert.proofs.lower.Goals as goal
 

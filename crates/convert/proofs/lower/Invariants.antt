@@ -1,14 +1,10 @@
 -- The invariants and measures of `convert::lower`.
 use Prim.Native.Nat.{◌+◌, ◌-◌, ◌*◌, ◌≤◌}
-use native.Mathlib.Omega.{arith}
 use mathlib.Core.List.{◌++◌}
-use mathlib.Core.Path.{◌≡◌, refl, ap}
+use mathlib.Core.Path.{◌≡◌}
 use lib.ListN.{length, drop}
-use Rattle.format.proofs.Gathered.{some_none, some_more, some_end}
 use Rattle.rules.specs.Converting.{lowered, profiled}
-use Rattle.rules.specs.Tables.{differs}
 use Rattle.rules.specs.Bytes.{some_below}
-use Rattle.convert.proofs.Records.{lower_none, lower_more, lower_end}
 use Rattle.convert.proofs.lower.Given as goal
 
 abbrev pub invariant-loop-i : goal.invariant-loop-i

@@ -1,7 +1,6 @@
 -- The proof of `convert::other_edition`.
 use native.Mathlib.Omega.{arith}
 use mathlib.Core.Path.{◌∙◌}
-use borrow.Author.Rules.{rules}
 use Rattle.convert.proofs.Refusals.{under_header, under_fourth, over_header, first_short, first_other}
 use Rattle.convert.proofs.other_edition.Goals as goal
 

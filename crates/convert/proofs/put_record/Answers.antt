@@ -1,6 +1,5 @@
 -- The proof of `convert::put_record`.
 use native.Mathlib.Omega.{arith}
-use borrow.Author.Rules.{rules}
 use Rattle.convert.proofs.Records.{record_put_lem}
 use Rattle.convert.proofs.put_record.Goals as goal
 

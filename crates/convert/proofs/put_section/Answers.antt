@@ -1,9 +1,7 @@
 -- The proof of `convert::put_section`.
-use Prim.Native.Nat.{◌+◌, ◌-◌, ◌≤◌}
+use Prim.Native.Nat.{◌-◌}
 use native.Mathlib.Omega.{arith}
-use mathlib.Core.List.{◌++◌}
-use mathlib.Core.Path.{◌≡◌, refl}
-use lib.ListN.{length, take, drop}
+use mathlib.Core.Path.{refl}
 use Rattle.convert.proofs.Records.{copy_none, copy_more, copy_last}
 use Rattle.convert.proofs.put_section.Goals as goal
 

@@ -1,10 +1,8 @@
 -- The invariants and measures of `convert::put_section`.
 use Prim.Native.Nat.{◌+◌, ◌-◌, ◌≤◌}
-use native.Mathlib.Omega.{arith}
 use mathlib.Core.List.{◌++◌}
-use mathlib.Core.Path.{◌≡◌, refl}
+use mathlib.Core.Path.{◌≡◌}
 use lib.ListN.{length, take, drop}
-use Rattle.convert.proofs.Records.{copy_none, copy_more, copy_last}
 use Rattle.convert.proofs.put_section.Given as goal
 
 abbrev pub invariant-loop-i : goal.invariant-loop-i

@@ -1,10 +1,7 @@
 -- The proof of `convert::raise`.
-use Prim.Native.Nat.{◌+◌, ◌-◌, ◌*◌, ◌≤◌}
+use Prim.Native.Nat.{◌-◌}
 use native.Mathlib.Omega.{arith}
-use mathlib.Core.List.{◌++◌}
-use mathlib.Core.Path.{◌≡◌, refl}
-use lib.ListN.{length, drop}
-use Rattle.rules.specs.Converting.{raised}
+use mathlib.Core.Path.{refl}
 use Rattle.convert.proofs.Records.{raise_none, raise_more, raise_end}
 use Rattle.convert.proofs.raise.Goals as goal
 

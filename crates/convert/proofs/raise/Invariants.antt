@@ -1,11 +1,9 @@
 -- The invariants and measures of `convert::raise`.
 use Prim.Native.Nat.{◌+◌, ◌-◌, ◌*◌, ◌≤◌}
-use native.Mathlib.Omega.{arith}
 use mathlib.Core.List.{◌++◌}
-use mathlib.Core.Path.{◌≡◌, refl}
+use mathlib.Core.Path.{◌≡◌}
 use lib.ListN.{length, drop}
 use Rattle.rules.specs.Converting.{raised}
-use Rattle.convert.proofs.Records.{raise_none, raise_more, raise_end}
 use Rattle.convert.proofs.raise.Given as goal
 
 abbrev pub invariant-loop-i : goal.invariant-loop-i

@@ -1,7 +1,6 @@
 -- The proof of `convert::to_edition_3`.
 use native.Mathlib.Omega.{arith}
 use mathlib.Core.Path.{◌≡◌, refl, sym, ◌∙◌, subst}
-use borrow.Author.Rules.{rules}
 use Rattle.reader.proofs.Opening.{fourth_header}
 use Rattle.format.proofs.Rows.{header_of_lem, packed_of}
 use Rattle.format.specs.Layout.{Packed}

@@ -1,6 +1,5 @@
 -- The proof of `convert::to_edition_4`.
 use mathlib.Core.Path.{refl, sym, ◌∙◌}
-use borrow.Author.Rules.{rules}
 use Rattle.reader.proofs.Opening.{opened_refused, opened_sections, opened_packed}
 use Rattle.convert.proofs.Refusals.{same_refusal, refused_number, refused_up}
 use Rattle.convert.proofs.to_edition_4.Goals as goal

@@ -1,6 +1,5 @@
 -- The proof of `converting::to_edition_3`.
 use Rattle.promises.specs.ConvertPromised.{lowered_so, delivers}
-use borrow.Author.Rules.{rules}
 use Rattle.converting.proofs.to_edition_3.Goals as goal
 
 pub returns : goal.returns

@@ -1,6 +1,5 @@
 -- The proof of `converting::to_edition_4`.
 use Rattle.promises.specs.ConvertPromised.{raised_so, delivers}
-use borrow.Author.Rules.{rules}
 use Rattle.converting.proofs.to_edition_4.Goals as goal
 
 pub returns : goal.returns

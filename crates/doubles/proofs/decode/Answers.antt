@@ -1,5 +1,5 @@
 -- `doubles::decode` meets its contract. Assumes nothing.
-use Rattle.std.proofs.Common.{T, sym, ◌∙◌, subst, rules}
+use Rattle.std.proofs.Common.{T, sym, ◌∙◌, subst}
 use lib.Ieee.{of_bits, div}
 use Rattle.doubles.proofs.Nan.{nan_pattern}
 use Rattle.doubles.proofs.decode.Goals as goal

@@ -1,5 +1,5 @@
 -- `doubles::encode` meets its contract. Assumes nothing.
-use Rattle.std.proofs.Common.{T, sym, ap, subst, rules}
+use Rattle.std.proofs.Common.{T, sym, ap, subst}
 use lib.Ieee.{binary64, to_bits}
 use lib.Ieee.Compare.{differs_from_itself}
 use Rattle.doubles.proofs.Nan.{equals_itself}

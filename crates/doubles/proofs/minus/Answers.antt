@@ -1,5 +1,5 @@
 -- `doubles::minus` meets its contract. Assumes nothing.
-use Rattle.std.proofs.Common.{arith, rules}
+use Rattle.std.proofs.Common.{arith}
 use Rattle.doubles.proofs.minus.Goals as goal
 
 pub returns-then-wide : goal.returns-then-wide

@@ -1,5 +1,5 @@
 -- `doubles::number` meets its contract. Assumes nothing.
-use Rattle.std.proofs.Common.{arith, rules}
+use Rattle.std.proofs.Common.{arith}
 use Rattle.doubles.proofs.Nan.{doubled}
 use Rattle.doubles.proofs.number.Goals as goal
 

@@ -3,7 +3,7 @@ use Rattle.doubles.proofs.Cut.{plus_fits, plus_over, plus_out, minus_fits, minus
 use Rattle.doubles.specs.Width.{width}
 use lib.Ieee.Casts.{to_unsigned-lt}
 use lib.Ieee.{of_bits, neg}
-use Rattle.std.proofs.Common.{T, sym, subst, rules}
+use Rattle.std.proofs.Common.{T, sym, subst}
 use Rattle.doubles.proofs.truncate.Goals as goal
 
 pub truncating_f64_to_u64-t-requires : goal.truncating_f64_to_u64-t-requires

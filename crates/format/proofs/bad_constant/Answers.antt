@@ -1,5 +1,4 @@
 -- The proof of `format::bad_constant`.
-use borrow.Author.Rules.{rules}
 use Rattle.rules.specs.Tables.{bad_constant}
 use Rattle.format.proofs.bad_constant.Goals as goal
 

@@ -1,10 +1,8 @@
 -- The proof of `format::bad_constants`.
-use Prim.Native.Nat.{◌≤◌, ◌-◌}
 use native.Mathlib.Omega.{arith}
-use mathlib.Core.Path.{◌≡◌, refl}
+use mathlib.Core.Path.{refl}
 use Rattle.format.proofs.Gathered.{some_none, some_more, some_end}
-use Rattle.rules.specs.Bytes.{some_below}
-use Rattle.rules.specs.Tables.{bad_constant, bad_constants}
+use Rattle.rules.specs.Tables.{bad_constants}
 use Rattle.format.proofs.bad_constants.Goals as goal
 
 pub loop-i-init : goal.loop-i-init

@@ -1,6 +1,5 @@
 -- The proof of `format::bad_field`.
 use native.Mathlib.Omega.{arith}
-use borrow.Author.Rules.{rules}
 use Rattle.rules.specs.Tables.{bad_field}
 use Rattle.format.proofs.bad_field.Goals as goal
 

@@ -1,8 +1,6 @@
 -- The invariants and measures of `format::bad_fields`.
 use Prim.Native.Nat.{◌≤◌, ◌-◌}
-use native.Mathlib.Omega.{arith}
-use mathlib.Core.Path.{◌≡◌, refl}
-use Rattle.format.proofs.Gathered.{some_none, some_more, some_end}
+use mathlib.Core.Path.{◌≡◌}
 use Rattle.rules.specs.Bytes.{some_below}
 use Rattle.rules.specs.Tables.{bad_field}
 use Rattle.format.proofs.bad_fields.Given as goal

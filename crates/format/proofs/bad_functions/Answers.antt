@@ -2,7 +2,6 @@
 use native.Mathlib.Nat.{le_trans}
 use native.Mathlib.Omega.{arith}
 use mathlib.Core.Path.{refl}
-use borrow.Author.Rules.{rules}
 use Rattle.format.proofs.Editions.{limit_small, functions_old, functions_third}
 use Rattle.format.proofs.bad_functions.Goals as goal
 

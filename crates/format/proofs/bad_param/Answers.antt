@@ -1,7 +1,6 @@
 -- The proof of `format::bad_param`.
 use Prim.Native.Nat.{◌+◌}
 use native.Mathlib.Omega.{arith}
-use borrow.Author.Rules.{rules}
 use Rattle.rules.specs.Tables.{bad_param}
 use Rattle.format.proofs.bad_param.Goals as goal
 

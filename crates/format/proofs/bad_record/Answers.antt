@@ -1,5 +1,4 @@
 -- The proof of `format::bad_record`.
-use borrow.Author.Rules.{rules}
 use Rattle.rules.specs.Tables.{bad_record}
 use Rattle.format.proofs.bad_record.Goals as goal
 

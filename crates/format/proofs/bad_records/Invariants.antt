@@ -1,16 +1,10 @@
 -- The invariants and measures of `format::bad_records`.
 use Prim.Native.Nat.{◌≤◌, ◌-◌, ◌+◌, ◌*◌}
-use native.Mathlib.Numerals.{add-one}
-use native.Mathlib.Omega.{arith}
-use borrow.Author.Rules.{rules}
-use Rattle.format.proofs.Editions.{limit_types}
-use Rattle.format.proofs.Strides.{stride_under, record_from}
-use mathlib.Core.Path.{◌≡◌, refl}
+use mathlib.Core.Path.{◌≡◌}
 use mathlib.Core.List.{[]}
-use Rattle.format.proofs.Gathered.{some_none, some_more}
 use Rattle.rules.specs.Bytes.{some_below}
 use Rattle.rules.specs.Tables.{bodies, function_at, bad_record, end_before}
-use Rattle.format.specs.Layout.{types_of, bad_table}
+use Rattle.format.specs.Layout.{types_of}
 use Rattle.format.proofs.bad_records.Given as goal
 
 abbrev pub invariant-loop-i : goal.invariant-loop-i

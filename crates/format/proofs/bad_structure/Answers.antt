@@ -1,5 +1,4 @@
 -- The proof of `format::bad_structure`.
-use borrow.Author.Rules.{rules}
 use Rattle.rules.specs.Tables.{bad_structure, bad_structure_record}
 use Rattle.format.proofs.bad_structure.Goals as goal
 

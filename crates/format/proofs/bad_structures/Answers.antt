@@ -1,10 +1,7 @@
 -- The proof of `format::bad_structures`.
-use Prim.Native.Nat.{◌≤◌, ◌-◌}
 use native.Mathlib.Omega.{arith}
-use mathlib.Core.Path.{◌≡◌, refl, sym, ◌∙◌}
-use mathlib.Core.Bool.{false}
+use mathlib.Core.Path.{refl, sym, ◌∙◌}
 use Rattle.format.proofs.Gathered.{some_none, some_more, some_end, some_hit}
-use Rattle.rules.specs.Bytes.{some_below}
 use Rattle.rules.specs.Tables.{bad_structure, bad_structures}
 use Rattle.format.proofs.bad_structures.Goals as goal
 

@@ -1,11 +1,9 @@
 -- The invariants and measures of `format::bad_structures`.
 use Prim.Native.Nat.{◌≤◌, ◌-◌}
-use native.Mathlib.Omega.{arith}
-use mathlib.Core.Path.{◌≡◌, refl, sym, ◌∙◌}
+use mathlib.Core.Path.{◌≡◌}
 use mathlib.Core.Bool.{false}
-use Rattle.format.proofs.Gathered.{some_none, some_more, some_end, some_hit}
 use Rattle.rules.specs.Bytes.{some_below}
-use Rattle.rules.specs.Tables.{bad_structure, bad_structures}
+use Rattle.rules.specs.Tables.{bad_structure}
 use Rattle.format.proofs.bad_structures.Given as goal
 
 abbrev pub invariant-loop-i : goal.invariant-loop-i

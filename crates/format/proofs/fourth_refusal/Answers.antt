@@ -1,5 +1,4 @@
 -- The proof of `format::fourth_refusal`.
-use borrow.Author.Rules.{rules}
 use mathlib.Core.Path.{refl, sym, ◌∙◌}
 use Rattle.rules.specs.Tables.{first_of}
 use Rattle.format.proofs.Rows.{short_fourth, long_fourth, from_sizes, fourth_declares}

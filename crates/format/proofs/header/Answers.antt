@@ -1,7 +1,6 @@
 -- The proof of `format::header`.
 use native.Mathlib.Omega.{arith}
 use Rattle.format.proofs.Strides.{stride_under}
-use borrow.Author.Rules.{rules}
 use Rattle.format.proofs.header.Goals as goal
 
 pub overflow_mul-targets : goal.overflow_mul-targets

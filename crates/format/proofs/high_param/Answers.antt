@@ -1,10 +1,7 @@
 -- The proof of `format::high_param`.
-use Prim.Native.Nat.{◌≤◌, ◌-◌}
 use native.Mathlib.Omega.{arith}
-use mathlib.Core.Path.{◌≡◌, refl}
+use mathlib.Core.Path.{refl}
 use Rattle.format.proofs.Gathered.{some_none, some_more, some_end}
-use Rattle.rules.specs.Bytes.{some_below}
-use Rattle.format.specs.Layout.{high_param}
 use Rattle.format.proofs.high_param.Goals as goal
 
 pub loop-j-init : goal.loop-j-init

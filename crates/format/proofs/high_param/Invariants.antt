@@ -1,8 +1,6 @@
 -- The invariants and measures of `format::high_param`.
 use Prim.Native.Nat.{◌≤◌, ◌-◌}
-use native.Mathlib.Omega.{arith}
-use mathlib.Core.Path.{◌≡◌, refl}
-use Rattle.format.proofs.Gathered.{some_none, some_more, some_end}
+use mathlib.Core.Path.{◌≡◌}
 use Rattle.rules.specs.Bytes.{some_below}
 use Rattle.format.specs.Layout.{high_param}
 use Rattle.format.proofs.high_param.Given as goal

@@ -1,11 +1,8 @@
 -- The proof of `format::high_params`.
-use Prim.Native.Nat.{◌≤◌, ◌-◌}
 use native.Mathlib.Omega.{arith}
-use mathlib.Core.Path.{◌≡◌, refl}
+use mathlib.Core.Path.{refl}
 use Rattle.format.proofs.Gathered.{some_none, some_more, some_end}
-use Rattle.rules.specs.Bytes.{some_below}
-use Rattle.rules.specs.Tables.{function_at}
-use Rattle.format.specs.Layout.{high_param, high_params}
+use Rattle.format.specs.Layout.{high_params}
 use Rattle.format.proofs.high_params.Goals as goal
 
 pub loop-i-init : goal.loop-i-init

@@ -1,7 +1,6 @@
 -- The proof of `format::not_packed`.
 use native.Mathlib.Omega.{arith}
 use Rattle.format.proofs.Strides.{stride_under}
-use borrow.Author.Rules.{rules}
 use Rattle.rules.specs.Bytes.{word}
 use Rattle.rules.specs.ModuleFile.{structures_at, not_packed}
 use Rattle.format.proofs.Rows.{offset_fourth}

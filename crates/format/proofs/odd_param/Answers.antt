@@ -1,9 +1,6 @@
 -- The proof of `format::odd_param`.
 use borrow.Author.Tests.{ne_eqb}
 use native.Mathlib.Omega.{arith}
-use borrow.Author.Rules.{rules}
-use lib.Dec.{eqb}
-use Rattle.rules.specs.Tables.{number_type, structure_type, managed_type}
 use Rattle.format.proofs.Tests.{or_assoc}
 use Rattle.format.proofs.odd_param.Goals as goal
 

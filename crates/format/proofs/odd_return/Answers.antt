@@ -1,8 +1,5 @@
 -- The proof of `format::odd_return`.
-use mathlib.Core.Bool.{Bool, not, ◌&&◌}
-use mathlib.Core.Path.{ap}
-use borrow.Author.Rules.{rules}
-use Rattle.rules.specs.Tables.{differs, number_type, structure_type, managed_type}
+use Rattle.rules.specs.Tables.{number_type, structure_type, managed_type}
 use Rattle.format.proofs.Tests.{or_assoc}
 use Rattle.format.proofs.odd_return.Goals as goal
 

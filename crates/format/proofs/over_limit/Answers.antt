@@ -1,5 +1,4 @@
 -- The proof of `format::over_limit`.
-use borrow.Author.Rules.{rules}
 use Rattle.rules.specs.ModuleFile.{over_limit}
 use Rattle.format.proofs.over_limit.Goals as goal
 

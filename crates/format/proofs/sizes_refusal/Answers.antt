@@ -1,5 +1,4 @@
 -- The proof of `format::sizes_refusal`.
-use borrow.Author.Rules.{rules}
 use borrow.Author.Tests.{eq-eqb, ne_eqb}
 use Rattle.rules.specs.Tables.{first_of}
 use Rattle.format.proofs.sizes_refusal.Goals as goal

@@ -1,5 +1,4 @@
 use Rattle.keys.proofs.Places.{decoded_end, decoded_key}
-use borrow.Author.Rules.{rules}
 use Rattle.keys.proofs.decode.Goals as goal
 
 pub returns-then-stop-place : goal.returns-then-stop-place

@@ -1,9 +1,5 @@
 use Rattle.machine.specs.Ends.{end_at_stop}
 use borrow.Author.Tests.{eq-eqb, ne_eqb}
-use borrow.Author.Rules.{rules}
-use Rattle.machine.proofs.at_end.Reads as reads
-use Rattle.machine.proofs.at_end.Lts as lts
-use Rattle.machine.proofs.ending.Reads as ending-reads
 use Rattle.machine.proofs.at_end.Goals as goal
 
 pub returns-then-f-a : goal.returns-then-f-a

@@ -1,10 +1,9 @@
 -- The proof of `machine::run_from`.
 use native.Mathlib.Omega.{arith}
 use mathlib.Core.Path.{sym, ◌∙◌}
-use borrow.Author.Rules.{rules}
 use Rattle.keys.proofs.Places.{at_end_lem, at_key}
 use Rattle.keys.proofs.Files.{code_part}
-use Rattle.machine.proofs.Turns.{Going, starts, stop_there, stands, stepped, computes, ends, used_up, goes_on, returned, stopped}
+use Rattle.machine.proofs.Turns.{starts, stop_there, stands, stepped, computes, ends, used_up, goes_on, returned, stopped}
 use Rattle.machine.proofs.run_from.Goals as goal
 
 pub slice_bounds-code-count : goal.slice_bounds-code-count

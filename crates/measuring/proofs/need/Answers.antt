@@ -1,5 +1,4 @@
 use Rattle.promises.proofs.NeedPromised.{need_keeps}
-use borrow.Author.Rules.{rules}
 use Rattle.measuring.proofs.need.Goals as goal
 
 pub returns : goal.returns

@@ -1,6 +1,5 @@
 -- The proof of `memory::load32`.
 use native.Mathlib.Omega.{arith}
-use borrow.Author.Rules.{rules}
 use Rattle.memory.proofs.Words.{word_4}
 use Rattle.memory.proofs.load32.Goals as goal
 

@@ -2,7 +2,6 @@
 use native.Mathlib.Omega.{arith}
 use mathlib.Core.Path.{◌∙◌}
 use lib.ListN.{get_or-eq_default}
-use borrow.Author.Rules.{rules}
 use Rattle.memory.proofs.Words.{part, word_4, word_out, word_part}
 use Rattle.memory.proofs.load32_padded.Goals as goal
 

@@ -1,6 +1,5 @@
 -- The proof of `memory::load64`.
 use native.Mathlib.Omega.{arith}
-use borrow.Author.Rules.{rules}
 use Rattle.memory.proofs.Words.{word_8}
 use Rattle.memory.proofs.load64.Goals as goal
 

@@ -1,7 +1,6 @@
 -- The proof of `memory::load8_padded`.
 use mathlib.Core.Path.{sym}
 use lib.ListN.{get_or-eq_default}
-use borrow.Author.Rules.{rules}
 use Rattle.memory.proofs.load8_padded.Goals as goal
 
 pub returns : goal.returns

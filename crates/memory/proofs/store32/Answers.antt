@@ -1,7 +1,6 @@
 -- The proof of `memory::store32`.
 use native.Mathlib.Omega.{arith}
 use lib.ListN.{length-set}
-use borrow.Author.Rules.{rules}
 use Rattle.memory.proofs.Words.{put_4}
 use Rattle.memory.proofs.store32.Goals as goal
 

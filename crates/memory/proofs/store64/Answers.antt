@@ -1,7 +1,6 @@
 -- The proof of `memory::store64`.
 use native.Mathlib.Omega.{arith}
 use lib.ListN.{length-set}
-use borrow.Author.Rules.{rules}
 use Rattle.memory.proofs.Words.{put_8}
 use Rattle.memory.proofs.store64.Goals as goal
 

@@ -1,5 +1,4 @@
 use mathlib.Core.Path.{refl}
-use borrow.Author.Rules.{rules}
 use Rattle.nodes.proofs.merge.Goals as goal
 
 pub append-requires : goal.append-requires

@@ -3,7 +3,6 @@ use Rattle.reader.proofs.Opening.{sixth_structures, from_functions, seventh, fro
 use Rattle.reader.proofs.Bodies.{filled_of}
 use Rattle.rules.specs.Tables.{bodies}
 use mathlib.Core.Path.{sym, ◌∙◌}
-use borrow.Author.Rules.{rules}
 use Rattle.reader.proofs.bodies_refusal.Goals as goal
 
 pub returns-then-sixth : goal.returns-then-sixth

@@ -2,7 +2,6 @@
 use Rattle.reader.proofs.Opening.{sixth, from_bodies}
 use Rattle.rules.specs.Tables.{tables}
 use mathlib.Core.Path.{refl}
-use borrow.Author.Rules.{rules}
 use Rattle.reader.proofs.content_refusal.Goals as goal
 
 pub returns-then-sixth : goal.returns-then-sixth

@@ -6,7 +6,6 @@ use Rattle.rules.specs.Tables.{Tables, label_count}
 use Rattle.rules.specs.ModuleFile.{structures_in, labels_in}
 use mathlib.Core.Path.{◌≡◌, refl, sym, ap, ◌∙◌}
 use native.Mathlib.Omega.{arith}
-use borrow.Author.Rules.{rules}
 use Rattle.reader.proofs.file_refusal.Goals as goal
 
 pub slice_bounds-bad_constants-count : goal.slice_bounds-bad_constants-count

@@ -2,7 +2,6 @@
 use Rattle.reader.proofs.Opening.{tables_same}
 use Rattle.reader.proofs.Records.{few_rest, structures_rest, lent_tables, lent_fits}
 use mathlib.Core.Path.{refl, sym}
-use borrow.Author.Rules.{rules}
 use Rattle.reader.proofs.fourth_refusal.Goals as goal
 
 pub content_refusal-requires : goal.content_refusal-requires

@@ -5,7 +5,6 @@ use Rattle.format.specs.Layout.{Packed}
 use Rattle.format.proofs.Rows.{header_of_lem, packed_of}
 use mathlib.Core.Path.{sym, ◌∙◌, subst}
 use native.Mathlib.Omega.{arith}
-use borrow.Author.Rules.{rules}
 use Rattle.reader.proofs.open.Goals as goal
 
 pub returns-then-file-lt48 : goal.returns-then-file-lt48

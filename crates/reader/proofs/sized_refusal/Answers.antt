@@ -1,5 +1,4 @@
 -- The proof of `reader::sized_refusal`.
-use borrow.Author.Rules.{rules}
 use Rattle.reader.proofs.sized_refusal.Goals as goal
 
 pub with_small_table-requires : goal.with_small_table-requires

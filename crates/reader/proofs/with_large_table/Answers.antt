@@ -1,6 +1,5 @@
 -- The proof of `reader::with_large_table`.
 use native.Mathlib.Omega.{arith}
-use borrow.Author.Rules.{rules}
 use Rattle.reader.proofs.Bodies.{blank}
 use Rattle.reader.proofs.with_large_table.Goals as goal
 

@@ -1,6 +1,5 @@
 -- The proof of `reader::with_middle_table`.
 use native.Mathlib.Omega.{arith}
-use borrow.Author.Rules.{rules}
 use Rattle.reader.proofs.Bodies.{blank}
 use Rattle.reader.proofs.with_middle_table.Goals as goal
 

@@ -1,5 +1,4 @@
 -- The proof of `reader::without_table`.
-use borrow.Author.Rules.{rules}
 use Rattle.reader.proofs.Bodies.{blank}
 use Rattle.rules.specs.Tables.{first_of}
 use Rattle.reader.proofs.without_table.Goals as goal

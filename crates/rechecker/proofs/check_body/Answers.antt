@@ -1,8 +1,6 @@
 use Rattle.rechecker.proofs.Laws.{recheck_refused}
 use Rattle.reader.proofs.Opening.{opened_sections, opened_packed}
-use mathlib.Core.Path.{◌≡◌, refl, sym, ◌∙◌, ap}
-use native.Mathlib.Omega.{arith}
-use borrow.Author.Rules.{rules}
+use mathlib.Core.Path.{sym, ◌∙◌}
 use Rattle.rechecker.proofs.check_body.Goals as goal
 
 pub recheck_opened-requires : goal.recheck_opened-requires

@@ -1,9 +1,7 @@
 use Rattle.rechecker.proofs.Laws.{recording_refused}
 use Rattle.checker.proofs.Verdicts.{refused_check}
 use Rattle.reader.proofs.Opening.{opened_sections, opened_packed}
-use mathlib.Core.Path.{◌≡◌, refl, sym, ◌∙◌, ap}
-use native.Mathlib.Omega.{arith}
-use borrow.Author.Rules.{rules}
+use mathlib.Core.Path.{sym, ◌∙◌}
 use Rattle.rechecker.proofs.check_recording.Goals as goal
 
 pub recording_opened-requires : goal.recording_opened-requires

@@ -1,7 +1,5 @@
 use Rattle.rechecker.proofs.Laws.{recheck_missing, recheck_bad, recheck_good, lends_one, record_long}
-use mathlib.Core.Path.{◌≡◌, refl, sym, ◌∙◌, ap}
 use native.Mathlib.Omega.{arith}
-use borrow.Author.Rules.{rules}
 use Rattle.rechecker.proofs.recheck_opened.Goals as goal
 
 pub overflow_add-bodies : goal.overflow_add-bodies

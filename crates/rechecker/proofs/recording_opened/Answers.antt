@@ -1,7 +1,6 @@
 use Rattle.rechecker.proofs.Laws.{recording_refused, recording_short, recordable}
 use Rattle.checker.proofs.Verdicts.{short_check}
 use native.Mathlib.Omega.{arith}
-use borrow.Author.Rules.{rules}
 use Rattle.rechecker.proofs.recording_opened.Goals as goal
 
 pub returns-then-room-c : goal.returns-then-room-c

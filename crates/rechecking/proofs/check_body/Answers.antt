@@ -1,5 +1,4 @@
 use Rattle.promises.specs.RecordingPromised.{recheck_keeps}
-use borrow.Author.Rules.{rules}
 use Rattle.rechecking.proofs.check_body.Goals as goal
 
 pub returns : goal.returns

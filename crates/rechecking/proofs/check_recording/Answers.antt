@@ -1,5 +1,4 @@
 use Rattle.promises.specs.RecordingPromised.{recording_keeps}
-use borrow.Author.Rules.{rules}
 use Rattle.rechecking.proofs.check_recording.Goals as goal
 
 pub returns : goal.returns

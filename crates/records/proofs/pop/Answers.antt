@@ -1,5 +1,4 @@
 -- The proof of `records::pop`.
-use borrow.Author.Rules.{rules}
 use Rattle.records.proofs.Edits.{popped}
 use Rattle.records.proofs.pop.Goals as goal
 

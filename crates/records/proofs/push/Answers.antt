@@ -1,5 +1,4 @@
 -- The proof of `records::push`.
-use borrow.Author.Rules.{rules}
 use Rattle.records.proofs.Edits.{pushed}
 use Rattle.records.proofs.push.Goals as goal
 

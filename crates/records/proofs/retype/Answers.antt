@@ -1,5 +1,4 @@
 -- The proof of `records::retype`.
-use borrow.Author.Rules.{rules}
 use Rattle.records.proofs.Edits.{retyped}
 use Rattle.records.proofs.retype.Goals as goal
 

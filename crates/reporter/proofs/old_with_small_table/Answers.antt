@@ -1,10 +1,5 @@
 use Rattle.checker.proofs.Lent.{part_long, lent_first}
 use native.Mathlib.Omega.{arith}
-use borrow.Author.Rules.{rules}
-use Rattle.reporter.proofs.old_with_small_table.Reads as reads
-use Rattle.reporter.proofs.old_with_small_table.Lts as lts
-use Rattle.keys.proofs.edition1.translate.Reads as translate-reads
-use Rattle.reporter.proofs.with_small_table.Reads as with-small-table-reads
 use Rattle.reporter.proofs.old_with_small_table.Goals as goal
 
 pub translate-requires : goal.translate-requires

@@ -3,11 +3,6 @@ use Rattle.reader.proofs.Opening.{opened_sections, opened_packed}
 use Rattle.checker.proofs.Verdicts.{refused_check}
 use Rattle.rules.specs.declared.CheckAnswer.TheVariants.{Refused}
 use mathlib.Core.Path.{sym, ◌∙◌}
-use borrow.Author.Rules.{rules}
-use Rattle.reporter.proofs.report_needs.Reads as reads
-use Rattle.reporter.proofs.report_needs.Lts as lts
-use Rattle.reader.proofs.open.Reads as open-reads
-use Rattle.reporter.proofs.report_opened.Reads as report-opened-reads
 use Rattle.reporter.proofs.report_needs.Goals as goal
 
 pub report_opened-requires : goal.report_opened-requires

@@ -5,15 +5,6 @@ use Rattle.checker.proofs.Lent.{lent_file}
 use Rattle.rules.specs.declared.CheckAnswer.TheVariants.{Refused}
 use native.Mathlib.Omega.{arith}
 use mathlib.Core.Path.{◌∙◌}
-use borrow.Author.Rules.{rules}
-use Rattle.reporter.proofs.report_opened.Reads as reads
-use Rattle.reporter.proofs.report_opened.Lts as lts
-use Rattle.format.proofs.word.Reads as word-reads
-use Rattle.reporter.proofs.old_with_large_table.Reads as old-with-large-table-reads
-use Rattle.reporter.proofs.old_with_small_table.Reads as old-with-small-table-reads
-use Rattle.reporter.proofs.with_large_table.Reads as with-large-table-reads
-use Rattle.reporter.proofs.with_middle_table.Reads as with-middle-table-reads
-use Rattle.reporter.proofs.with_small_table.Reads as with-small-table-reads
 use Rattle.reporter.proofs.report_opened.Goals as goal
 
 pub returns-then-room-c : goal.returns-then-room-c

@@ -2,11 +2,6 @@ use Rattle.reporter.proofs.Settling.{report_checked, asks_after}
 use Rattle.rules.specs.declared.CheckAnswer.TheVariants.{Refused, Untyped, Accepted}
 use native.Mathlib.Omega.{arith}
 use mathlib.Core.Path.{◌∙◌}
-use borrow.Author.Rules.{rules}
-use Rattle.reporter.proofs.report_with.Reads as reads
-use Rattle.reporter.proofs.report_with.Lts as lts
-use Rattle.checker.proofs.check_with.Reads as check-with-reads
-use Rattle.reporter.proofs.report.accepted.Reads as accepted-reads
 use Rattle.reporter.proofs.report_with.Goals as goal
 
 pub accepted-requires : goal.accepted-requires

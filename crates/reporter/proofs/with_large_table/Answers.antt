@@ -1,9 +1,5 @@
 use Rattle.nodes.proofs.Copies.{zeros_at}
 use native.Mathlib.Omega.{arith}
-use borrow.Author.Rules.{rules}
-use Rattle.reporter.proofs.with_large_table.Reads as reads
-use Rattle.reporter.proofs.with_large_table.Lts as lts
-use Rattle.reporter.proofs.report_with.Reads as report-with-reads
 use Rattle.reporter.proofs.with_large_table.Goals as goal
 
 pub report_with-requires : goal.report_with-requires

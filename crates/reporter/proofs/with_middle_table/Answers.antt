@@ -1,8 +1,4 @@
 use Rattle.nodes.proofs.Copies.{zeros_at}
-use borrow.Author.Rules.{rules}
-use Rattle.reporter.proofs.with_middle_table.Reads as reads
-use Rattle.reporter.proofs.with_middle_table.Lts as lts
-use Rattle.reporter.proofs.report_with.Reads as report-with-reads
 use Rattle.reporter.proofs.with_middle_table.Goals as goal
 
 pub report_with-requires : goal.report_with-requires

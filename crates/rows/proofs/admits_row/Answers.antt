@@ -1,13 +1,6 @@
-use borrow.Author.Tests.{not-true, not-false}
 use Rattle.rows.proofs.Types.{low_other, low_next, low_not, low_end}
-use Rattle.rows.specs.Rows.{low_ints}
-use lib.ListN.{length}
 use native.Mathlib.Omega.{arith}
-use mathlib.Core.Path.{◌≡◌, refl, sym, ◌∙◌}
-use Prim.Native.Nat.{◌≤◌}
-use Rattle.rows.proofs.admits_row.Reads as reads
-use Rattle.rows.proofs.admits_row.Lts as lts
-use Rattle.memory.proofs.load64.Reads as load64-reads
+use mathlib.Core.Path.{refl, sym, ◌∙◌}
 use Rattle.rows.proofs.admits_row.Goals as goal
 
 pub loop-j-init : goal.loop-j-init

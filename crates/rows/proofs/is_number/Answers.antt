@@ -1,7 +1,5 @@
 use Rattle.rows.proofs.Types.{number_byte}
 use mathlib.Core.Path.{sym}
-use Rattle.rows.proofs.is_number.Reads as reads
-use Rattle.rows.proofs.is_number.Lts as lts
 use Rattle.rows.proofs.is_number.Goals as goal
 
 pub returns : goal.returns

@@ -1,12 +1,6 @@
 use mathlib.Core.Path.{sym, ◌∙◌}
 use Rattle.reader.proofs.Opening.{opened_sections, opened_packed}
 use Rattle.rows.proofs.Opening.{map_unread}
-use borrow.Author.Rules.{rules}
-use Rattle.rows.proofs.map.Reads as reads
-use Rattle.rows.proofs.map.Lts as lts
-use Rattle.reader.proofs.open.Reads as open-reads
-use Rattle.rows.proofs.map_opened.Reads as map-opened-reads
-use Rattle.rows.proofs.stopped.Reads as stopped-reads
 use Rattle.rows.proofs.map.Goals as goal
 
 pub map_opened-requires : goal.map_opened-requires

@@ -1,11 +1,6 @@
 use native.Mathlib.Omega.{arith}
 use Rattle.runs.proofs.Resumed.{lent_old}
 use Rattle.runs.proofs.Waits.{old_structures}
-use borrow.Author.Rules.{rules}
-use Rattle.rows.proofs.map_old.Reads as reads
-use Rattle.rows.proofs.map_old.Lts as lts
-use Rattle.keys.proofs.edition1.translate.Reads as translate-reads
-use Rattle.rows.proofs.map_rows.Reads as map-rows-reads
 use Rattle.rows.proofs.map_old.Goals as goal
 
 pub translate-requires : goal.translate-requires

@@ -1,18 +1,8 @@
-use Prim.Native.Nat.{ℕ, ◌<◌}
 use Rattle.rows.proofs.Opening.{part_0, map_entry, map_12, map_13, map_17, map_none, map_rows_lem, mappable_is}
 use Rattle.runs.proofs.Bodies.{names_none, names_function}
 use borrow.Author.Tests.{not-true, not-false}
-use mathlib.Core.Path.{◌≡◌, refl, sym, ap, ◌∙◌}
+use mathlib.Core.Path.{refl, sym}
 use native.Mathlib.Omega.{arith}
-use borrow.Author.Rules.{rules}
-use Rattle.rows.proofs.map_opened.Reads as reads
-use Rattle.rows.proofs.map_opened.Lts as lts
-use Rattle.rows.proofs.same_rows.Reads as same-rows-reads
-use Rattle.rows.proofs.start_rows.Reads as start-rows-reads
-use Rattle.rows.proofs.stopped.Reads as stopped-reads
-use Rattle.rows.proofs.types_of.Reads as types-of-reads
-use Rattle.runs.proofs.other_profile.Reads as other-profile-reads
-use Rattle.view.proofs.function.Reads as function-reads
 use Rattle.rows.proofs.map_opened.Goals as goal
 
 pub returns-then-function-eq-ENTRY : goal.returns-then-function-eq-ENTRY

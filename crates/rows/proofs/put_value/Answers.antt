@@ -1,10 +1,5 @@
 use native.Mathlib.Omega.{arith}
 use Rattle.rows.proofs.Cleared.{value_put, value_none}
-use borrow.Author.Rules.{rules}
-use Rattle.rows.proofs.put_value.Reads as reads
-use Rattle.rows.proofs.put_value.Lts as lts
-use Rattle.memory.proofs.load64.Reads as load64-reads
-use Rattle.memory.proofs.store64.Reads as store64-reads
 use Rattle.rows.proofs.put_value.Goals as goal
 
 pub returns-then-height-gt0 : goal.returns-then-height-gt0

@@ -1,14 +1,8 @@
 use Rattle.control.proofs.Frames.{length_opened}
 use lib.ListN.{length}
 use mathlib.Core.Path.{ap}
-use mathlib.Core.Path.{◌≡◌, refl, sym, ◌∙◌}
+use mathlib.Core.Path.{◌∙◌}
 use Rattle.rows.proofs.Started.{row_room, row_fits, row_is}
-use borrow.Author.Rules.{rules}
-use Rattle.rows.proofs.row.Reads as reads
-use Rattle.rows.proofs.row.Lts as lts
-use Rattle.control.proofs.calls.first_frame.Reads as first-frame-reads
-use Rattle.rows.proofs.run_row.Reads as run-row-reads
-use Rattle.runs.proofs.copy_arguments.Reads as copy-arguments-reads
 use Rattle.rows.proofs.row.Goals as goal
 
 pub copy_arguments-requires : goal.copy_arguments-requires

@@ -1,14 +1,8 @@
 use mathlib.Core.Logic.{inr}
 use Rattle.soundness.specs.Tests.{false_true}
-use mathlib.Core.Path.{◌≡◌, refl, sym, ◌∙◌}
+use mathlib.Core.Path.{refl, sym, ◌∙◌}
 use borrow.Author.Tests.{not-true, not-false}
 use Rattle.rows.proofs.Runs.{over, onward}
-use borrow.Author.Rules.{rules}
-use Rattle.rows.proofs.run_row.Reads as reads
-use Rattle.rows.proofs.run_row.Lts as lts
-use Rattle.machine.proofs.left.Reads as left-reads
-use Rattle.machine.proofs.run_from.Reads as run-from-reads
-use Rattle.runs.proofs.run_over.Reads as run-over-reads
 use Rattle.rows.proofs.run_row.Goals as goal
 
 pub returns-then-not-waits : goal.returns-then-not-waits

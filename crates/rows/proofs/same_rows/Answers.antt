@@ -1,9 +1,5 @@
 use Rattle.rows.proofs.Types.{part_row, no_arguments, quotient}
 use native.Mathlib.Omega.{arith}
-use mathlib.Core.Path.{◌≡◌}
-use borrow.Author.Rules.{rules}
-use Rattle.rows.proofs.same_rows.Reads as reads
-use Rattle.rows.proofs.same_rows.Lts as lts
 use Rattle.rows.proofs.same_rows.Goals as goal
 
 pub returns-then-out-ne0 : goal.returns-then-out-ne0

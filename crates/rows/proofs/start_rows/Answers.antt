@@ -6,20 +6,9 @@ use Rattle.keys.proofs.Files.{file_keyed}
 use borrow.Author.Tests.{not-true, not-false}
 use lib.ListN.{length}
 use mathlib.Core.List.{List}
-use mathlib.Core.Path.{◌≡◌, refl, sym, ap, ◌∙◌}
-use Prim.Native.Nat.{ℕ, ◌*◌, ◌<◌}
+use mathlib.Core.Path.{sym, ap, ◌∙◌}
+use Prim.Native.Nat.{ℕ, ◌*◌}
 use native.Mathlib.Omega.{arith}
-use borrow.Author.Rules.{rules}
-use Rattle.rows.proofs.start_rows.Reads as reads
-use Rattle.rows.proofs.start_rows.Lts as lts
-use Rattle.format.proofs.word.Reads as word-reads
-use Rattle.rows.proofs.admits_row.Reads as admits-row-reads
-use Rattle.rows.proofs.close.Reads as close-reads
-use Rattle.rows.proofs.map_old.Reads as map-old-reads
-use Rattle.rows.proofs.map_rows.Reads as map-rows-reads
-use Rattle.rows.proofs.stopped.Reads as stopped-reads
-use Rattle.runs.proofs.capacity.Reads as capacity-reads
-use Rattle.runs.proofs.clear_heap.Reads as clear-heap-reads
 use Rattle.rows.proofs.start_rows.Goals as goal
 
 pub slice_bounds-admits_row-end : goal.slice_bounds-admits_row-end

@@ -1,21 +1,13 @@
 -- The invariants and measures of `rows::types_of`.
 use Prim.Native.Nat.{◌-◌}
-use Rattle.rows.proofs.Types.{takes_next, takes_not, takes_end, put_type}
 use Rattle.rows.specs.Rows.{param_types}
 use Rattle.rules.specs.Mapping.{takes_numbers}
-use Rattle.soundness.specs.Tests.{false_true}
 use Rattle.rules.specs.ModuleFile.{edition, functions_in}
 use Rattle.rules.specs.Tables.{function_at}
 use Rattle.rules.specs.Bytes.{byte}
-use borrow.Author.Tests.{not-true, not-false}
-use lib.ListN.{length, get_or, length-set}
-use native.Mathlib.Omega.{arith}
-use mathlib.Core.Path.{◌≡◌, refl, sym, ◌∙◌}
+use lib.ListN.{length, get_or}
+use mathlib.Core.Path.{◌≡◌}
 use Prim.Native.Nat.{ℕ, ◌+◌, ◌≤◌, ◌<◌}
-use Rattle.rows.proofs.types_of.Reads as reads
-use Rattle.rows.proofs.types_of.Lts as lts
-use Rattle.reader.proofs.entries.param.Reads as param-reads
-use Rattle.rows.proofs.is_number.Reads as is-number-reads
 use Rattle.rows.proofs.types_of.Given as goal
 
 abbrev pub invariant-loop-j : goal.invariant-loop-j

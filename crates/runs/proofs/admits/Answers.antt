@@ -1,12 +1,10 @@
 -- The proof of `runs::admits`.
-use Prim.Native.Nat.{◌+◌, ◌≤◌}
+use Prim.Native.Nat.{◌+◌}
 use native.Mathlib.Omega.{arith}
-use mathlib.Core.Path.{◌≡◌, refl, ◌∙◌}
+use mathlib.Core.Path.{refl, ◌∙◌}
 use borrow.Author.Tests.{not-true, not-false}
-use Rattle.rules.specs.Stack.{slots_of}
-use Rattle.rules.specs.Tables.{function_at, params_from}
+use Rattle.rules.specs.Tables.{function_at}
 use Rattle.rules.specs.ModuleFile.{edition, functions_in}
-use Rattle.rules.specs.Answers.{declared}
 use Rattle.runs.proofs.Arguments.{declared_next, declared_not, declared_end, admitted_other, admitted_part, admitted_is}
 use Rattle.runs.proofs.admits.Goals as goal
 

@@ -1,9 +1,9 @@
 -- The proof of `runs::clear`.
-use Prim.Native.Nat.{ℕ, ◌-◌, ◌≤◌}
+use Prim.Native.Nat.{ℕ, ◌-◌}
 use native.Mathlib.Omega.{arith}
 use mathlib.Core.Path.{◌≡◌, refl, ap, ◌∙◌}
-use mathlib.Core.List.{List, ◌++◌, append-nil}
-use lib.ListN.{length, drop, set, replicate, length-set}
+use mathlib.Core.List.{List, append-nil}
+use lib.ListN.{length, set, length-set}
 use lib.Seq.{drop-length}
 use borrow.Author.Fill.{fill_more}
 use Rattle.runs.proofs.clear.Goals as goal

@@ -1,5 +1,4 @@
 -- The proof of `runs::clear_part`.
-use borrow.Author.Rules.{rules}
 use Rattle.runs.proofs.Final.{cleared}
 use Rattle.runs.proofs.clear_part.Goals as goal
 

@@ -1,5 +1,4 @@
 -- The proof of `runs::close`.
-use borrow.Author.Rules.{rules}
 use Rattle.runs.proofs.Final.{finished, stopped}
 use Rattle.runs.proofs.close.Goals as goal
 

@@ -1,8 +1,7 @@
 -- The proof of `runs::copy_arguments`.
-use Prim.Native.Nat.{ℕ, ◌-◌, ◌≤◌}
+use Prim.Native.Nat.{◌-◌}
 use native.Mathlib.Omega.{arith}
 use mathlib.Core.Path.{◌≡◌}
-use Rattle.runs.specs.Runs.{Copied}
 use Rattle.runs.proofs.Arguments.{copied_none, copied_more}
 use Rattle.runs.proofs.copy_arguments.Goals as goal
 

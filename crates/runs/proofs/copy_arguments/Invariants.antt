@@ -1,9 +1,6 @@
 -- The invariants and measures of `runs::copy_arguments`.
-use Prim.Native.Nat.{ℕ, ◌-◌, ◌≤◌}
-use native.Mathlib.Omega.{arith}
-use mathlib.Core.Path.{◌≡◌}
+use Prim.Native.Nat.{◌-◌, ◌≤◌}
 use Rattle.runs.specs.Runs.{Copied}
-use Rattle.runs.proofs.Arguments.{copied_none, copied_more}
 use Rattle.runs.proofs.copy_arguments.Given as goal
 
 abbrev pub invariant-loop-i : goal.invariant-loop-i

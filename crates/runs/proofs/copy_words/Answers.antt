@@ -1,8 +1,8 @@
 -- The proof of `runs::copy_words`.
-use Prim.Native.Nat.{ℕ, ◌-◌, ◌≤◌, ◌<◌}
+use Prim.Native.Nat.{◌-◌}
 use native.Mathlib.Omega.{arith}
-use mathlib.Core.Path.{◌≡◌, refl}
-use lib.ListN.{length, get_or, length-set}
+use mathlib.Core.Path.{refl}
+use lib.ListN.{length-set}
 use Rattle.runs.proofs.Resumed.{copied_more}
 use Rattle.runs.proofs.copy_words.Goals as goal
 

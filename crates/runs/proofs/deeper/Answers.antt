@@ -3,13 +3,6 @@ use Rattle.runs.proofs.Resumed.{stands_longer, rest_longer}
 use Rattle.keys.proofs.Files.{file_keyed}
 use mathlib.Core.Path.{sym, ◌∙◌}
 use native.Mathlib.Omega.{arith}
-use borrow.Author.Rules.{rules}
-use Rattle.runs.proofs.deeper.Reads as reads
-use Rattle.runs.proofs.deeper.Lts as lts
-use Rattle.format.proofs.word.Reads as word-reads
-use Rattle.runs.proofs.copy_words.Reads as copy-words-reads
-use Rattle.runs.proofs.finish.Reads as finish-reads
-use Rattle.runs.proofs.finish_old.Reads as finish-old-reads
 use Rattle.runs.proofs.deeper.Goals as goal
 
 pub word-edition-requires : goal.word-edition-requires

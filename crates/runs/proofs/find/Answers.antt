@@ -1,6 +1,5 @@
 -- The proof of `runs::find`.
 use mathlib.Core.Path.{◌≡◌, sym, ap, ◌∙◌}
-use borrow.Author.Rules.{rules}
 use Rattle.reader.specs.declared.entries.FoundFunction.{FoundFunction}
 use Rattle.reader.specs.declared.entries.FoundFunction.TheVariants.{Nothing}
 use Rattle.reader.specs.Answers.{function_found}

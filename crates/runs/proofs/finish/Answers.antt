@@ -1,11 +1,5 @@
 use Rattle.runs.proofs.Resumed.{finished_over}
 use native.Mathlib.Omega.{arith}
-use borrow.Author.Rules.{rules}
-use Rattle.runs.proofs.finish.Reads as reads
-use Rattle.runs.proofs.finish.Lts as lts
-use Rattle.runs.proofs.close.Reads as close-reads
-use Rattle.runs.proofs.heap_capacity.Reads as heap-capacity-reads
-use Rattle.runs.proofs.run_over.Reads as run-over-reads
 use Rattle.runs.proofs.finish.Goals as goal
 
 pub run_over-g-requires : goal.run_over-g-requires

@@ -1,11 +1,6 @@
 use Rattle.runs.proofs.Waits.{old_structures}
 use Rattle.runs.proofs.Resumed.{lent_old}
 use native.Mathlib.Omega.{arith}
-use borrow.Author.Rules.{rules}
-use Rattle.runs.proofs.finish_old.Reads as reads
-use Rattle.runs.proofs.finish_old.Lts as lts
-use Rattle.keys.proofs.edition1.translate.Reads as translate-reads
-use Rattle.runs.proofs.finish.Reads as finish-reads
 use Rattle.runs.proofs.finish_old.Goals as goal
 
 pub translate-requires : goal.translate-requires

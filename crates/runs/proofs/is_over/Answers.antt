@@ -1,9 +1,5 @@
 use borrow.Author.Tests.{eq-eqb, ne_eqb}
 use mathlib.Core.Path.{refl}
-use borrow.Author.Rules.{rules}
-use Rattle.runs.proofs.is_over.Reads as reads
-use Rattle.runs.proofs.is_over.Lts as lts
-use Rattle.machine.proofs.left.Reads as left-reads
 use Rattle.runs.proofs.is_over.Goals as goal
 
 pub returns-then-number-eq-STACK_OVERFLOW : goal.returns-then-number-eq-STACK_OVERFLOW

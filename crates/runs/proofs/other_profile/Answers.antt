@@ -1,7 +1,6 @@
 -- The proof of `runs::other_profile`.
 use Rattle.runs.proofs.Profiles.{for_any_entry, for_any, profile_in_file, made_for_lem}
 use native.Mathlib.Omega.{arith}
-use borrow.Author.Rules.{rules}
 use Rattle.runs.proofs.other_profile.Goals as goal
 
 pub returns-then-c-ne24 : goal.returns-then-c-ne24

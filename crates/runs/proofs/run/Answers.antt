@@ -1,11 +1,6 @@
 use Rattle.runs.proofs.Returns.{run_unread}
 use Rattle.reader.proofs.Opening.{opened_sections, opened_packed}
 use mathlib.Core.Path.{sym, ◌∙◌}
-use borrow.Author.Rules.{rules}
-use Rattle.runs.proofs.run.Reads as reads
-use Rattle.runs.proofs.run.Lts as lts
-use Rattle.reader.proofs.open.Reads as open-reads
-use Rattle.runs.proofs.run_opened.Reads as run-opened-reads
 use Rattle.runs.proofs.run.Goals as goal
 
 pub run_opened-requires : goal.run_opened-requires

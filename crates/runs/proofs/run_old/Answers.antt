@@ -2,14 +2,6 @@ use Rattle.runs.proofs.Waits.{waits, no_overflow, not_left, old_structures}
 use Rattle.runs.proofs.Resumed.{lent_old, still, closed_over, closed_deeper}
 use borrow.Author.Tests.{not-true, not-false}
 use native.Mathlib.Omega.{arith}
-use borrow.Author.Rules.{rules}
-use Rattle.runs.proofs.run_old.Reads as reads
-use Rattle.runs.proofs.run_old.Lts as lts
-use Rattle.keys.proofs.edition1.translate.Reads as translate-reads
-use Rattle.machine.proofs.run_from.Reads as run-from-reads
-use Rattle.runs.proofs.close.Reads as close-reads
-use Rattle.runs.proofs.deeper.Reads as deeper-reads
-use Rattle.runs.proofs.is_over.Reads as is-over-reads
 use Rattle.runs.proofs.run_old.Goals as goal
 
 pub translate-requires : goal.translate-requires

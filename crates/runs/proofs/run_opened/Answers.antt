@@ -6,20 +6,6 @@ use borrow.Author.Tests.{not-true, not-false}
 use mathlib.Core.Path.{◌≡◌, refl, ◌∙◌}
 use native.Mathlib.Omega.{arith}
 use Prim.Native.Nat.{◌-◌}
-use borrow.Author.Rules.{rules}
-use Rattle.runs.proofs.run_opened.Reads as reads
-use Rattle.runs.proofs.run_opened.Lts as lts
-use Rattle.control.proofs.calls.first_frame.Reads as first-frame-reads
-use Rattle.format.proofs.word.Reads as word-reads
-use Rattle.machine.proofs.run_from.Reads as run-from-reads
-use Rattle.runs.proofs.admits.Reads as admits-reads
-use Rattle.runs.proofs.capacity.Reads as capacity-reads
-use Rattle.runs.proofs.clear_heap.Reads as clear-heap-reads
-use Rattle.runs.proofs.close.Reads as close-reads
-use Rattle.runs.proofs.copy_arguments.Reads as copy-arguments-reads
-use Rattle.runs.proofs.find.Reads as find-reads
-use Rattle.runs.proofs.is_over.Reads as is-over-reads
-use Rattle.runs.proofs.run_rest.Reads as run-rest-reads
 use Rattle.runs.proofs.run_opened.Goals as goal
 
 pub returns-in_default : goal.returns-in_default

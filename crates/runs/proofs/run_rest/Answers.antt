@@ -1,12 +1,6 @@
 use Rattle.runs.proofs.Waits.{long_enough}
 use mathlib.Core.Path.{sym, ◌∙◌}
 use native.Mathlib.Omega.{arith}
-use borrow.Author.Rules.{rules}
-use Rattle.runs.proofs.run_rest.Reads as reads
-use Rattle.runs.proofs.run_rest.Lts as lts
-use Rattle.format.proofs.word.Reads as word-reads
-use Rattle.runs.proofs.deeper.Reads as deeper-reads
-use Rattle.runs.proofs.run_old.Reads as run-old-reads
 use Rattle.runs.proofs.run_rest.Goals as goal
 
 pub word-edition-requires : goal.word-edition-requires

@@ -1,9 +1,5 @@
 use Rattle.rules.specs.Tables.{tables}
 use Rattle.promises.specs.WritePromised.{write_keeps}
-use borrow.Author.Rules.{rules}
-use Rattle.saving.proofs.write.Reads as reads
-use Rattle.saving.proofs.write.Lts as lts
-use Rattle.writer.proofs.write.Reads as write-reads
 use Rattle.saving.proofs.write.Goals as goal
 
 pub returns : goal.returns

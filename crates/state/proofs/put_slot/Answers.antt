@@ -1,7 +1,6 @@
 -- The proof of `state::put_slot`.
 use mathlib.Core.Path.{refl}
 use Rattle.state.specs.Slots.{payloads_with, types_with}
-use borrow.Author.Rules.{rules}
 use Rattle.state.proofs.put_slot.Goals as goal
 
 pub returns : goal.returns

@@ -1,6 +1,5 @@
 -- The proof of `state::slot_at`.
 use Rattle.rules.specs.Stack.{slot_at}
-use borrow.Author.Rules.{rules}
 use Rattle.state.proofs.slot_at.Goals as goal
 
 pub returns : goal.returns

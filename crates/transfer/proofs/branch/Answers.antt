@@ -1,7 +1,6 @@
 -- The proof of `transfer::branch`.
 use native.Mathlib.Omega.{arith}
 use mathlib.Core.Path.{◌≡◌, sym, ap, ◌∙◌}
-use borrow.Author.Rules.{rules}
 use Rattle.transfer.specs.declared.FoundPlace.TheVariants.{Nothing}
 use Rattle.transfer.specs.declared.FoundPlace.{FoundPlace}
 use Rattle.transfer.specs.Transfers.{place_of}

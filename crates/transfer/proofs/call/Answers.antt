@@ -5,7 +5,6 @@ use Rattle.reader.specs.declared.entries.FoundFunction.{FoundFunction}
 use Rattle.reader.specs.declared.entries.FoundFunction.TheVariants.{Nothing}
 use borrow.Author.Tests.{not-true, not-false}
 use mathlib.Core.Path.{◌≡◌, sym, ap, ◌∙◌}
-use borrow.Author.Rules.{rules}
 use Rattle.transfer.proofs.call.Goals as goal
 
 pub returns-in_default : goal.returns-in_default

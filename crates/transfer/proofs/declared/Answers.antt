@@ -3,7 +3,6 @@ use Rattle.transfer.proofs.Structures.{none_declared, some_declared, fourth_long
 use borrow.Author.Tests.{not-true, not-false}
 use mathlib.Core.Path.{sym, ◌∙◌}
 use native.Mathlib.Omega.{arith}
-use borrow.Author.Rules.{rules}
 use Rattle.transfer.proofs.declared.Goals as goal
 
 pub returns-then-not-some : goal.returns-then-not-some

@@ -2,7 +2,6 @@
 use Rattle.transfer.proofs.Structures.{field_none, fourth_long, some_fourth, inside, few_fields, field_past, field_there}
 use native.Mathlib.Omega.{arith}
 use mathlib.Core.Path.{sym}
-use borrow.Author.Rules.{rules}
 use Rattle.transfer.proofs.field.Goals as goal
 
 pub returns-then-count-i : goal.returns-then-count-i

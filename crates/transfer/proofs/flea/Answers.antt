@@ -5,7 +5,6 @@ use Rattle.rules.specs.ModuleFile.{read}
 use native.Mathlib.Omega.{arith}
 use Prim.Native.Nat.{ℕ, ◌+◌, ◌-◌, ◌%◌}
 use mathlib.Core.Path.{refl, sym, ap, ◌∙◌}
-use borrow.Author.Rules.{rules}
 use Rattle.transfer.proofs.flea.Goals as goal
 
 pub returns-then-h-lt1 : goal.returns-then-h-lt1

@@ -1,6 +1,5 @@
 -- The proof of `transfer::jmp`.
 use mathlib.Core.Path.{◌≡◌, sym, ap, ◌∙◌}
-use borrow.Author.Rules.{rules}
 use Rattle.transfer.specs.declared.FoundPlace.TheVariants.{Nothing}
 use Rattle.transfer.specs.declared.FoundPlace.{FoundPlace}
 use Rattle.transfer.specs.Transfers.{place_of}

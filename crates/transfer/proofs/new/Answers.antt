@@ -4,7 +4,6 @@ use Rattle.soundness.specs.Readable.{pointer_back}
 use borrow.Author.Tests.{not-true, not-false}
 use native.Mathlib.Omega.{arith}
 use mathlib.Core.Path.{sym, ◌∙◌}
-use borrow.Author.Rules.{rules}
 use Rattle.transfer.proofs.new.Goals as goal
 
 pub returns-then-not-there : goal.returns-then-not-there

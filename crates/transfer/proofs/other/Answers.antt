@@ -8,7 +8,6 @@ use Rattle.rules.specs.declared.Unary.TheVariants.{Neg, Not, Convert, Count}
 use Rattle.rules.specs.declared.Operator.TheVariants.{And, Or, Xor, Shl, Sal, Shr, Sar}
 use Rattle.rules.specs.declared.Binary.TheVariants.{Arith}
 use Rattle.rules.specs.declared.Instruction.TheVariants.{One, Two, Bump, Null, Delete}
-use borrow.Author.Rules.{rules}
 use Rattle.transfer.proofs.other.Goals as goal
 
 pub returns-in-19 : goal.returns-in-19

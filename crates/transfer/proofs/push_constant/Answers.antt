@@ -1,6 +1,5 @@
 -- The proof of `transfer::push_constant`.
 use mathlib.Core.Path.{◌≡◌, sym, ap, ◌∙◌}
-use borrow.Author.Rules.{rules}
 use Rattle.rules.specs.ModuleFile.{read}
 use Rattle.reader.specs.declared.entries.FoundConstant.TheVariants.{Nothing}
 use Rattle.reader.specs.declared.entries.FoundConstant.{FoundConstant}

@@ -1,5 +1,4 @@
 -- The proof of `transfer::push_type`.
-use borrow.Author.Rules.{rules}
 use Rattle.transfer.proofs.Flows.{push_full, push_goes}
 use Rattle.transfer.proofs.push_type.Goals as goal
 

@@ -4,7 +4,6 @@ use Rattle.reader.specs.Answers.{function_found}
 use Rattle.reader.specs.declared.entries.FoundFunction.{FoundFunction}
 use Rattle.reader.specs.declared.entries.FoundFunction.TheVariants.{Nothing}
 use mathlib.Core.Path.{◌≡◌, sym, ap, ◌∙◌}
-use borrow.Author.Rules.{rules}
 use Rattle.transfer.proofs.ret.Goals as goal
 
 pub returns-in_default : goal.returns-in_default

@@ -9,7 +9,6 @@ use Rattle.keys.proofs.Chain.{outside_both}
 use Rattle.keys.specs.Keys.{each}
 use Rattle.transfer.specs.Transfers.{firsts}
 use Rattle.transfer.proofs.Matches.{moves}
-use borrow.Author.Rules.{rules}
 use Rattle.transfer.proofs.single.Goals as goal
 
 pub other-requires : goal.other-requires

@@ -1,10 +1,8 @@
 -- The proof of `transfer::take_arguments`.
-use Prim.Native.Nat.{◌+◌, ◌-◌, ◌≤◌}
+use Prim.Native.Nat.{◌-◌}
 use native.Mathlib.Omega.{arith}
 use mathlib.Core.Path.{sym, ◌∙◌}
-use Rattle.rules.specs.Tables.{function_at}
-use Rattle.rules.specs.ModuleFile.{edition, functions_in}
-use Rattle.transfer.proofs.Arguments.{Left, left_all, left_none, left_empty, left_other, left_same}
+use Rattle.transfer.proofs.Arguments.{left_all, left_none, left_empty, left_other, left_same}
 use Rattle.transfer.proofs.take_arguments.Goals as goal
 
 pub loop-j-init : goal.loop-j-init

@@ -1,10 +1,8 @@
 -- The invariants and measures of `transfer::take_arguments`.
 use Prim.Native.Nat.{◌+◌, ◌-◌, ◌≤◌}
-use native.Mathlib.Omega.{arith}
-use mathlib.Core.Path.{sym, ◌∙◌}
 use Rattle.rules.specs.Tables.{function_at}
 use Rattle.rules.specs.ModuleFile.{edition, functions_in}
-use Rattle.transfer.proofs.Arguments.{Left, left_all, left_none, left_empty, left_other, left_same}
+use Rattle.transfer.proofs.Arguments.{Left}
 use Rattle.transfer.proofs.take_arguments.Given as goal
 
 abbrev pub invariant-loop-j : goal.invariant-loop-j

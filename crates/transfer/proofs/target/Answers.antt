@@ -1,6 +1,5 @@
 -- The proof of `transfer::target`.
 use mathlib.Core.Path.{◌≡◌, sym, ap, ◌∙◌}
-use borrow.Author.Rules.{rules}
 use Rattle.rules.specs.Tables.{body_of}
 use Rattle.rules.specs.Machine.{owned}
 use Rattle.reader.specs.declared.entries.FoundLabel.TheVariants.{Nothing}

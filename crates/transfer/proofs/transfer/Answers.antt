@@ -8,7 +8,6 @@ use mathlib.Core.Bool.{true, false}
 use Rattle.rules.specs.declared.Condition.TheVariants.{Je, Jne, Ja, Jae, Jb, Jbe}
 use Rattle.rules.specs.declared.Binary.TheVariants.{Cmp}
 use Rattle.rules.specs.declared.Instruction.TheVariants.{Push, Load, Store, Lea, Two, Jmp, Branch, Call, Ret, New, Flea}
-use borrow.Author.Rules.{rules}
 use Rattle.transfer.proofs.transfer.Goals as goal
 
 pub operand-requires : goal.operand-requires

@@ -1,6 +1,5 @@
 -- `values::payload_of` meets its contract. Assumes nothing.
 use mathlib.Core.Path.{sym, ap, ◌∙◌}
-use borrow.Author.Rules.{rules}
 use Rattle.values.specs.Values.{payload_of}
 use Rattle.values.proofs.payload_of.Goals as goal
 

@@ -1,6 +1,5 @@
 -- `values::slot_of` meets its contract. Assumes nothing.
 use mathlib.Core.Path.{ap₂}
-use borrow.Author.Rules.{rules}
 use Rattle.rules.specs.Stack.{slot}
 use Rattle.values.proofs.slot_of.Goals as goal
 

@@ -1,6 +1,5 @@
 -- `values::value_of` meets its contract. Assumes nothing.
 use mathlib.Core.Path.{sym, ap, ◌∙◌}
-use borrow.Author.Rules.{rules}
 use Rattle.values.proofs.Cases.{int_value, double_value, high_value, low_value}
 use Rattle.values.specs.declared.Value.TheVariants.{Int, Double}
 use Rattle.values.proofs.value_of.Goals as goal

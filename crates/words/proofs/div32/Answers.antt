@@ -1,5 +1,5 @@
 -- `words::div32` meets its contract. Assumes nothing.
-use Rattle.std.proofs.Common.{sym, rules}
+use Rattle.std.proofs.Common.{sym}
 use Rattle.words.proofs.Laws.{div_by_zero}
 use Rattle.words.proofs.div32.Goals as goal
 

@@ -1,5 +1,5 @@
 -- `words::div64` meets its contract. Assumes nothing.
-use Rattle.std.proofs.Common.{sym, rules}
+use Rattle.std.proofs.Common.{sym}
 use Rattle.words.proofs.Laws.{div_by_zero}
 use Rattle.words.proofs.div64.Goals as goal
 

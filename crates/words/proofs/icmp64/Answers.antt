@@ -1,5 +1,5 @@
 -- `words::icmp64` meets its contract. Assumes nothing.
-use Rattle.std.proofs.Common.{sym, ◌∙◌, ap₂, lit<, rules}
+use Rattle.std.proofs.Common.{sym, ◌∙◌, ap₂, lit<}
 use Rattle.rules.specs.Words.{cmp_of}
 use Rattle.words.proofs.Laws.{icmp_law}
 use Rattle.words.proofs.icmp64.Goals as goal

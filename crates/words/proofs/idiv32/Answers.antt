@@ -1,5 +1,4 @@
 -- `words::idiv32` meets its contract. Assumes nothing.
-use Rattle.std.proofs.Common.{rules}
 use Rattle.words.proofs.Laws.{idiv_law}
 use Rattle.words.proofs.idiv32.Goals as goal
 

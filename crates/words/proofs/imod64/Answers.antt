@@ -1,5 +1,5 @@
 -- `words::imod64` meets its contract. Assumes nothing.
-use Rattle.std.proofs.Common.{rules, le-ltb, lt-ltb}
+use Rattle.std.proofs.Common.{le-ltb, lt-ltb}
 use Rattle.words.proofs.Laws.{imod_law, sign}
 use Rattle.words.proofs.imod64.Goals as goal
 

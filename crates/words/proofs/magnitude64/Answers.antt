@@ -1,5 +1,5 @@
 -- `words::magnitude64` meets its contract. Assumes nothing.
-use Rattle.std.proofs.Common.{sym, ◌∙◌, rules}
+use Rattle.std.proofs.Common.{sym, ◌∙◌}
 use Rattle.words.proofs.Laws.{magnitude_low, magnitude_high}
 use Rattle.words.proofs.magnitude64.Goals as goal
 

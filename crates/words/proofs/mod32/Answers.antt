@@ -1,5 +1,5 @@
 -- `words::mod32` meets its contract. Assumes nothing.
-use Rattle.std.proofs.Common.{sym, rules}
+use Rattle.std.proofs.Common.{sym}
 use Rattle.words.proofs.Laws.{mod_by_zero}
 use Rattle.words.proofs.mod32.Goals as goal
 

@@ -1,5 +1,4 @@
 -- `words::mul32` meets its contract. Assumes nothing.
-use Rattle.std.proofs.Common.{rules}
 use Rattle.words.proofs.Laws.{below}
 use Rattle.words.proofs.mul32.Goals as goal
 

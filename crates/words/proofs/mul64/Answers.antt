@@ -1,5 +1,5 @@
 -- `words::mul64` meets its contract. Assumes nothing.
-use Rattle.std.proofs.Common.{mod-lt, pow_pos, shr_lt, rules}
+use Rattle.std.proofs.Common.{mod-lt, pow_pos, shr_lt}
 use Rattle.words.proofs.Laws.{below, mul_halves}
 use Rattle.words.proofs.mul64.Goals as goal
 

@@ -1,5 +1,5 @@
 -- `words::sar32` meets its contract. Assumes nothing.
-use Rattle.std.proofs.Common.{sym, ap, ◌∙◌, rules}
+use Rattle.std.proofs.Common.{sym, ap, ◌∙◌}
 use Rattle.rules.specs.Words.{not_of}
 use Rattle.words.proofs.Laws.{sar_low, sar_high}
 use Rattle.words.proofs.sar32.Goals as goal

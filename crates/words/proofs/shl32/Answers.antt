@@ -1,5 +1,5 @@
 -- `words::shl32` meets its contract. Assumes nothing.
-use Rattle.std.proofs.Common.{sym, rules}
+use Rattle.std.proofs.Common.{sym}
 use Rattle.words.proofs.Laws.{shl_in, shl_out}
 use Rattle.words.proofs.shl32.Goals as goal
 

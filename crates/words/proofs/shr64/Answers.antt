@@ -1,5 +1,5 @@
 -- `words::shr64` meets its contract. Assumes nothing.
-use Rattle.std.proofs.Common.{sym, rules}
+use Rattle.std.proofs.Common.{sym}
 use Rattle.words.proofs.Laws.{shr_in, shr_out}
 use Rattle.words.proofs.shr64.Goals as goal
 

@@ -1,6 +1,5 @@
 use Rattle.checker.proofs.Starting.{start_standing, begin_breaks, begin_ends, begin_goes}
 use Rattle.checker.proofs.Turns.{still_working}
-use borrow.Author.Rules.{rules}
 use Rattle.checker.proofs.bodies.begin.Goals as goal
 
 pub land-turn-requires : goal.land-turn-requires

@@ -1,10 +1,9 @@
 use Prim.Native.Nat.{◌-◌}
 use native.Mathlib.Omega.{arith}
-use mathlib.Core.Path.{◌≡◌, refl, ◌∙◌}
-use lib.ListN.{length}
+use mathlib.Core.Path.{refl, ◌∙◌}
 use borrow.Author.Rules.{rules}
 use borrow.Author.Tests.{not-true, not-false}
-use Rattle.checker.proofs.Starting.{AtBody, entry_first, function_next, more_left, all_settled}
+use Rattle.checker.proofs.Starting.{entry_first, function_next, more_left, all_settled}
 use Rattle.checker.proofs.bodies.bodies.Goals as goal
 
 pub loop-c-init : goal.loop-c-init

@@ -1,11 +1,8 @@
 -- The invariants and measures of `checker::bodies::bodies`.
 use Prim.Native.Nat.{◌-◌}
-use native.Mathlib.Omega.{arith}
-use mathlib.Core.Path.{◌≡◌, refl, ◌∙◌}
+use mathlib.Core.Path.{◌≡◌}
 use lib.ListN.{length}
-use borrow.Author.Rules.{rules}
-use borrow.Author.Tests.{not-true, not-false}
-use Rattle.checker.proofs.Starting.{AtBody, entry_first, function_next, more_left, all_settled}
+use Rattle.checker.proofs.Starting.{AtBody}
 use Rattle.checker.proofs.bodies.bodies.Given as goal
 
 abbrev pub invariant-loop-c : goal.invariant-loop-c

@@ -1,11 +1,8 @@
-use Rattle.checker.proofs.Draining.{Draining, drain_first, draining_works, first_fits, next_is, drained, drain_on, drain_less, drain_stops}
-use Rattle.nodes.specs.Nodes.{done_of}
+use Rattle.checker.proofs.Draining.{drain_first, draining_works, first_fits, next_is, drained, drain_on, drain_less, drain_stops}
 use borrow.Author.Tests.{not-true, not-false}
-use Rattle.rules.specs.ModuleFile.{labels}
 use borrow.Author.Rules.{rules}
 use Prim.Native.Nat.{◌-◌}
-use lib.ListN.{length}
-use mathlib.Core.Path.{◌≡◌, refl, ◌∙◌, sym}
+use mathlib.Core.Path.{refl, ◌∙◌, sym}
 use Rattle.checker.proofs.bodies.drain.Goals as goal
 
 pub loop-k-init : goal.loop-k-init

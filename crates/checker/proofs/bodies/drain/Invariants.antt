@@ -1,12 +1,10 @@
 -- The invariants and measures of `checker::bodies::drain`.
-use Rattle.checker.proofs.Draining.{Draining, drain_first, draining_works, first_fits, next_is, drained, drain_on, drain_less, drain_stops}
+use Rattle.checker.proofs.Draining.{Draining}
 use Rattle.nodes.specs.Nodes.{done_of}
-use borrow.Author.Tests.{not-true, not-false}
 use Rattle.rules.specs.ModuleFile.{labels}
-use borrow.Author.Rules.{rules}
 use Prim.Native.Nat.{◌-◌}
 use lib.ListN.{length}
-use mathlib.Core.Path.{◌≡◌, refl, ◌∙◌, sym}
+use mathlib.Core.Path.{◌≡◌}
 use Rattle.checker.proofs.bodies.drain.Given as goal
 
 abbrev pub invariant-loop-k : goal.invariant-loop-k

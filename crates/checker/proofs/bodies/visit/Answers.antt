@@ -1,7 +1,6 @@
 use mathlib.Core.Path.{◌∙◌}
 use Rattle.checker.proofs.Draining.{next_numbered, node_standing, node_fits, node_refused, node_walked, advance_fits}
 use native.Mathlib.Omega.{arith}
-use borrow.Author.Rules.{rules}
 use Rattle.checker.proofs.bodies.visit.Goals as goal
 
 pub overflow_mul-k : goal.overflow_mul-k

@@ -1,5 +1,4 @@
 use Rattle.checker.proofs.Arrivals.{node_fits, node_arrived, node_done}
-use borrow.Author.Rules.{rules}
 use Rattle.checker.proofs.walk.arrive.Goals as goal
 
 pub merge-requires : goal.merge-requires

@@ -1,7 +1,6 @@
 use Rattle.checker.proofs.Turns.{node_met, node_breaks, stops_turn, breaks_turn, both_ways, from_earlier, turn_leads, still_working}
 use Rattle.records.specs.declared.Transfer.TheVariants.{Falls, Forks}
 use mathlib.Core.Path.{refl, ◌∙◌}
-use borrow.Author.Rules.{rules}
 use Rattle.checker.proofs.walk.follow.Goals as goal
 
 pub land-requires : goal.land-requires

@@ -1,6 +1,5 @@
 use Rattle.checker.proofs.Arrivals.{label_node, place_in_table}
 use native.Mathlib.Omega.{arith}
-use borrow.Author.Rules.{rules}
 use Rattle.checker.proofs.walk.jump.Goals as goal
 
 pub node_at-v-requires : goal.node_at-v-requires

@@ -3,7 +3,6 @@ use Rattle.checker.proofs.Turns.{passes_on, node_met, node_breaks}
 use mathlib.Core.Logic.{inl, inr}
 use mathlib.Core.Path.{refl, sym, ◌∙◌}
 use native.Mathlib.Omega.{arith}
-use borrow.Author.Rules.{rules}
 use Rattle.checker.proofs.walk.land.Goals as goal
 
 pub node_at-v-requires : goal.node_at-v-requires

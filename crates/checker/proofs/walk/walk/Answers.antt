@@ -1,9 +1,7 @@
-use Rattle.checker.proofs.Walking.{Walking, walk_first, walk_ended, heads, walk_on, walk_ends, walk_breaks, walk_bounds, walk_less, decode_fits, decoded_late, decoded_key, decoded_moved}
+use Rattle.checker.proofs.Walking.{walk_first, walk_ended, heads, walk_on, walk_ends, walk_breaks, walk_bounds, walk_less, decode_fits, decoded_late, decoded_key, decoded_moved}
 use Rattle.checker.proofs.Turns.{still_working}
-use Rattle.nodes.specs.Nodes.{done_of}
-use borrow.Author.Rules.{rules}
 use Prim.Native.Nat.{◌-◌}
-use mathlib.Core.Path.{◌≡◌, refl, ◌∙◌, sym}
+use mathlib.Core.Path.{refl, ◌∙◌, sym}
 use native.Mathlib.Omega.{arith}
 use Rattle.checker.proofs.walk.walk.Goals as goal
 

@@ -1,11 +1,8 @@
 -- The invariants and measures of `checker::walk::walk`.
-use Rattle.checker.proofs.Walking.{Walking, walk_first, walk_ended, heads, walk_on, walk_ends, walk_breaks, walk_bounds, walk_less, decode_fits, decoded_late, decoded_key, decoded_moved}
-use Rattle.checker.proofs.Turns.{still_working}
+use Rattle.checker.proofs.Walking.{Walking}
 use Rattle.nodes.specs.Nodes.{done_of}
-use borrow.Author.Rules.{rules}
 use Prim.Native.Nat.{◌-◌}
-use mathlib.Core.Path.{◌≡◌, refl, ◌∙◌, sym}
-use native.Mathlib.Omega.{arith}
+use mathlib.Core.Path.{◌≡◌}
 use Rattle.checker.proofs.walk.walk.Given as goal
 
 abbrev pub invariant-loop-key : goal.invariant-loop-key

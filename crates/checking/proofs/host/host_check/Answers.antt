@@ -1,5 +1,4 @@
 -- The proof of `limpetskein::host::limpetskein_check`.
-use borrow.Author.Rules.{rules}
 use Rattle.promises.proofs.Promised.{host_check_keeps}
 use Rattle.checking.proofs.host.host_check.Goals as goal
 

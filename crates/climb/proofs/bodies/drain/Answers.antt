@@ -1,17 +1,8 @@
-use borrow.Author.Rules.{rules}
-use native.Mathlib.Omega.{arith}
-use mathlib.Core.Path.{◌≡◌, refl, sym, ap, ◌∙◌, subst}
-use Rattle.climb.specs.Waits.{PickedIs}
-use Rattle.climb.specs.declared.waits.Picked.TheVariants.{Nothing, Node}
+use mathlib.Core.Path.{◌≡◌, sym, ◌∙◌}
+use Rattle.climb.specs.declared.waits.Picked.TheVariants.{Nothing}
 use Rattle.climb.specs.declared.waits.Picked.{Picked}
-use Rattle.rules.specs.Tables.{body_of}
-use Rattle.tracks.specs.Visits.{Drained, fuel, drained_start, drained_bounds, drained_visit}
+use Rattle.tracks.specs.Visits.{drained_start, drained_bounds, drained_visit}
 use Rattle.climb.proofs.Visiting.{roomy}
-use Rattle.climb.proofs.bodies.drain.Reads as reads
-use Rattle.climb.proofs.bodies.drain.Lts as lts
-use Rattle.climb.proofs.bodies.visit.Reads as visit-reads
-use Rattle.climb.proofs.waits.key.Reads as key_reads
-use Rattle.climb.proofs.waits.pick.Reads as pick-reads
 use Rattle.climb.proofs.bodies.drain.Goals as goal
 
 pub loop-k-init : goal.loop-k-init

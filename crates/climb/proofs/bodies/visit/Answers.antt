@@ -1,12 +1,5 @@
 use native.Mathlib.Omega.{arith}
 use Rattle.climb.proofs.Visiting.{roomy, numbered, stands, done, again}
-use borrow.Author.Rules.{rules}
-use Rattle.climb.proofs.bodies.visit.Reads as reads
-use Rattle.climb.proofs.bodies.visit.Lts as lts
-use Rattle.climb.proofs.walk.walk.Reads as walk-reads
-use Rattle.climb.proofs.effects.wide.Reads as wide-reads
-use Rattle.nodes.proofs.table.place_of.Reads as place-of-reads
-use Rattle.climb.proofs.waits.wide.Reads as wide-reads'
 use Rattle.climb.proofs.bodies.visit.Goals as goal
 
 pub place_of-requires : goal.place_of-requires

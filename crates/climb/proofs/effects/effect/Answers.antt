@@ -2,9 +2,6 @@ use mathlib.Core.List.{[], ◌∷◌}
 use mathlib.Core.Path.{refl}
 use Rattle.keys.proofs.Chain.{none_left}
 use Rattle.climb.proofs.Arms.{arm}
-use borrow.Author.Rules.{rules}
-use Rattle.climb.proofs.effects.effect.Reads as reads
-use Rattle.climb.proofs.effects.effect.Lts as lts
 use Rattle.climb.proofs.effects.effect.Goals as goal
 
 pub returns-in-8 : goal.returns-in-8

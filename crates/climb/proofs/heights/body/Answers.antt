@@ -1,21 +1,9 @@
-use native.Mathlib.Omega.{arith}
-use mathlib.Core.Path.{◌≡◌, sym, ap, ◌∙◌, subst}
+use mathlib.Core.Path.{sym, ◌∙◌, subst}
 use Prim.Native.Nat.{ℕ}
 use Rattle.rules.specs.Tables.{body_of}
 use Rattle.tracks.specs.Steps.{low_ground}
 use Rattle.tracks.specs.Summing.{Starts, start_stands, start_climbs, start_node, node_climbs, node_done, walked_done}
 use Rattle.climb.proofs.Starting.{start_in}
-use borrow.Author.Rules.{rules}
-use Rattle.climb.proofs.heights.body.Reads as reads
-use Rattle.climb.proofs.heights.body.Lts as lts
-use Rattle.climb.proofs.bodies.drain.Reads as drain-reads
-use Rattle.climb.proofs.walk.met.Reads as met-reads
-use Rattle.climb.proofs.walk.walk.Reads as walk-reads
-use Rattle.climb.proofs.heights.parameters.Reads as parameters-reads
-use Rattle.nodes.proofs.starts.end.Reads as end_reads
-use Rattle.nodes.proofs.starts.start.Reads as start-reads
-use Rattle.nodes.proofs.table.node_at.Reads as node-at-reads
-use Rattle.climb.proofs.waits.arrive.Reads as arrive-reads
 use Rattle.climb.proofs.heights.body.Goals as goal
 
 pub met-requires : goal.met-requires

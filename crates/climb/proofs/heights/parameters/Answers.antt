@@ -3,10 +3,6 @@ use Rattle.reader.specs.declared.entries.FoundFunction.TheVariants.{Nothing}
 use Rattle.reader.specs.declared.entries.FoundFunction.{FoundFunction}
 use Rattle.reader.specs.Answers.{function_found}
 use Rattle.climb.proofs.Starting.{entry_starts, function_there, function_starts}
-use borrow.Author.Rules.{rules}
-use Rattle.climb.proofs.heights.parameters.Reads as reads
-use Rattle.climb.proofs.heights.parameters.Lts as lts
-use Rattle.view.proofs.function.Reads as function-reads
 use Rattle.climb.proofs.heights.parameters.Goals as goal
 
 pub returns-then-owner-eq-ENTRY : goal.returns-then-owner-eq-ENTRY

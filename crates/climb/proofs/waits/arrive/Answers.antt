@@ -1,11 +1,5 @@
 use native.Mathlib.Omega.{arith}
-use mathlib.Core.Path.{◌≡◌}
 use Rattle.climb.proofs.Nodes.{arrived_first, arrived_again, arrive_stays, arrive_raises}
-use borrow.Author.Rules.{rules}
-use Rattle.climb.proofs.waits.arrive.Reads as reads
-use Rattle.climb.proofs.waits.arrive.Lts as lts
-use Rattle.climb.proofs.waits.wait.Reads as wait-reads
-use Rattle.climb.proofs.waits.wide.Reads as wide-reads
 use Rattle.climb.proofs.waits.arrive.Goals as goal
 
 pub returns-then-mark-eq0 : goal.returns-then-mark-eq0

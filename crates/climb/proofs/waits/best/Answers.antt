@@ -1,11 +1,5 @@
 use native.Mathlib.Omega.{arith}
-use Prim.Native.Nat.{ℕ, ◌≤◌, ◌<◌, ◌-◌}
-use mathlib.Core.Path.{◌≡◌}
-use Rattle.tracks.specs.Walks.{mark_of}
-use Rattle.climb.proofs.waits.best.Reads as reads
-use Rattle.climb.proofs.waits.best.Lts as lts
-use Rattle.climb.proofs.waits.better.Reads as better-reads
-use Rattle.climb.proofs.waits.key.Reads as key_reads
+use Prim.Native.Nat.{◌-◌}
 use Rattle.climb.proofs.waits.best.Goals as goal
 
 pub overflow_add-i : goal.overflow_add-i

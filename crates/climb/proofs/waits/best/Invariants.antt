@@ -1,12 +1,7 @@
 -- The invariants and measures of `climb::waits::best`.
-use native.Mathlib.Omega.{arith}
-use Prim.Native.Nat.{ℕ, ◌≤◌, ◌<◌, ◌-◌}
+use Prim.Native.Nat.{◌<◌, ◌-◌}
 use mathlib.Core.Path.{◌≡◌}
 use Rattle.tracks.specs.Walks.{mark_of}
-use Rattle.climb.proofs.waits.best.Reads as reads
-use Rattle.climb.proofs.waits.best.Lts as lts
-use Rattle.climb.proofs.waits.better.Reads as better-reads
-use Rattle.climb.proofs.waits.key.Reads as key_reads
 use Rattle.climb.proofs.waits.best.Given as goal
 
 abbrev pub invariant-loop-i : goal.invariant-loop-i

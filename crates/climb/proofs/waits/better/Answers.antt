@@ -1,8 +1,3 @@
-use native.Mathlib.Omega.{arith}
-use borrow.Author.Rules.{rules}
-use Rattle.climb.proofs.waits.better.Reads as reads
-use Rattle.climb.proofs.waits.better.Lts as lts
-use Rattle.climb.proofs.waits.key.Reads as key_reads
 use Rattle.climb.proofs.waits.better.Goals as goal
 
 pub key-requires : goal.key-requires

@@ -1,12 +1,7 @@
 -- The invariants and measures of `climb::waits::first`.
-use native.Mathlib.Omega.{arith}
 use Prim.Native.Nat.{ℕ, ◌≤◌, ◌<◌, ◌-◌}
 use mathlib.Core.Logic.{◌≢◌}
-use mathlib.Core.Path.{◌≡◌}
 use Rattle.tracks.specs.Walks.{mark_of}
-use Rattle.climb.proofs.Nodes.{first_more}
-use Rattle.climb.proofs.waits.first.Reads as reads
-use Rattle.climb.proofs.waits.first.Lts as lts
 use Rattle.climb.proofs.waits.first.Given as goal
 
 abbrev pub invariant-loop-i : goal.invariant-loop-i

@@ -1,11 +1,6 @@
 use native.Mathlib.Omega.{arith}
-use Prim.Native.Nat.{ℕ, ◌≤◌, ◌<◌, ◌-◌}
-use mathlib.Core.Logic.{◌≢◌}
-use mathlib.Core.Path.{◌≡◌}
-use Rattle.tracks.specs.Walks.{mark_of}
+use Prim.Native.Nat.{◌-◌}
 use Rattle.climb.proofs.Nodes.{last_more}
-use Rattle.climb.proofs.waits.last.Reads as reads
-use Rattle.climb.proofs.waits.last.Lts as lts
 use Rattle.climb.proofs.waits.last.Goals as goal
 
 pub loop-i-init : goal.loop-i-init

@@ -1,12 +1,5 @@
 use native.Mathlib.Omega.{arith}
 use Rattle.climb.proofs.Nodes.{pick_nothing, pick_low, pick_narrowed, bounds_long}
-use borrow.Author.Rules.{rules}
-use Rattle.climb.proofs.waits.pick.Reads as reads
-use Rattle.climb.proofs.waits.pick.Lts as lts
-use Rattle.climb.proofs.waits.best.Reads as best-reads
-use Rattle.climb.proofs.waits.first.Reads as first_reads
-use Rattle.climb.proofs.waits.last.Reads as last-reads
-use Rattle.climb.proofs.waits.wide.Reads as wide-reads
 use Rattle.climb.proofs.waits.pick.Goals as goal
 
 pub returns-then-to-low : goal.returns-then-to-low

@@ -1,11 +1,6 @@
 use Rattle.climb.proofs.Laws.{few_results}
 use native.Mathlib.Omega.{arith}
 use Rattle.climb.proofs.Laws.{call_is}
-use borrow.Author.Rules.{rules}
-use Rattle.climb.proofs.walk.call.Reads as reads
-use Rattle.climb.proofs.walk.call.Lts as lts
-use Rattle.climb.proofs.walk.note.Reads as note-reads
-use Rattle.climb.proofs.walk.slots.Reads as slots-reads
 use Rattle.climb.proofs.walk.call.Goals as goal
 
 pub overflow_sub-under : goal.overflow_sub-under

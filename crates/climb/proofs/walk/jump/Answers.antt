@@ -6,12 +6,6 @@ use Rattle.reader.specs.declared.entries.FoundLabel.{FoundLabel}
 use Rattle.reader.specs.Answers.{label_in}
 use Rattle.soundness.specs.Tests.{none_some}
 use Rattle.climb.proofs.Laws.{label_node, found_label, jump_is}
-use borrow.Author.Rules.{rules}
-use Rattle.climb.proofs.walk.jump.Reads as reads
-use Rattle.climb.proofs.walk.jump.Lts as lts
-use Rattle.nodes.proofs.table.node_at.Reads as node-at-reads
-use Rattle.view.proofs.label.Reads as label-reads
-use Rattle.climb.proofs.waits.arrive.Reads as arrive-reads
 use Rattle.climb.proofs.walk.jump.Goals as goal
 
 pub returns-in_default : goal.returns-in_default

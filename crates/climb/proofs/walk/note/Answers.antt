@@ -1,8 +1,4 @@
 use Rattle.climb.proofs.Laws.{note_larger, note_kept}
-use borrow.Author.Rules.{rules}
-use Rattle.climb.proofs.walk.note.Reads as reads
-use Rattle.climb.proofs.walk.note.Lts as lts
-use Rattle.climb.proofs.waits.wide.Reads as wide-reads
 use Rattle.climb.proofs.walk.note.Goals as goal
 
 pub returns-then-wide-x : goal.returns-then-wide-x

@@ -5,15 +5,8 @@ use Rattle.rules.specs.Tables.{Body}
 use Rattle.climb.specs.Turns.{Callable}
 use Rattle.climb.proofs.Laws.{either}
 use native.Mathlib.Omega.{arith}
-use mathlib.Core.Path.{◌≡◌, refl, sym, ap, ◌∙◌, subst}
+use mathlib.Core.Path.{◌≡◌, sym, subst}
 use Rattle.climb.proofs.Laws.{other_stops, other_stores, other_calls, other_jumps, other_forks}
-use borrow.Author.Rules.{rules}
-use Rattle.climb.proofs.walk.other.Reads as reads
-use Rattle.climb.proofs.walk.other.Lts as lts
-use Rattle.climb.proofs.walk.call.Reads as call-reads
-use Rattle.climb.proofs.walk.jump.Reads as jump-reads
-use Rattle.climb.proofs.walk.store.Reads as store-reads
-use Rattle.keys.proofs.operand.Reads as operand-reads
 use Rattle.climb.proofs.walk.other.Goals as goal
 
 pub returns-then-x-eq-RET : goal.returns-then-x-eq-RET

@@ -4,10 +4,6 @@ use Rattle.reader.specs.declared.entries.FoundFunction.{FoundFunction}
 use Rattle.reader.specs.Answers.{function_found}
 use Rattle.soundness.specs.Tests.{none_some}
 use Rattle.climb.proofs.Laws.{slots_params, slots_none, slots_one}
-use borrow.Author.Rules.{rules}
-use Rattle.climb.proofs.walk.slots.Reads as reads
-use Rattle.climb.proofs.walk.slots.Lts as lts
-use Rattle.view.proofs.function.Reads as function-reads
 use Rattle.climb.proofs.walk.slots.Goals as goal
 
 pub returns-in_default : goal.returns-in_default

@@ -1,8 +1,5 @@
 use native.Mathlib.Omega.{arith}
 use mathlib.Core.Path.{refl}
-use borrow.Author.Rules.{rules}
-use Rattle.climb.proofs.walk.store.Reads as reads
-use Rattle.climb.proofs.walk.store.Lts as lts
 use Rattle.climb.proofs.walk.store.Goals as goal
 
 pub overflow_sub-result : goal.overflow_sub-result

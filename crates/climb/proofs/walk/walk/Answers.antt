@@ -1,24 +1,12 @@
-use borrow.Author.Rules.{rules}
 use native.Mathlib.Omega.{arith}
-use mathlib.Core.Path.{◌≡◌, refl, sym, ap, ◌∙◌, subst}
-use Prim.Native.Nat.{ℕ, suc, ◌-◌}
-use Rattle.climb.specs.declared.walk.Turn.TheVariants.{Ends, Goes}
+use mathlib.Core.Path.{◌≡◌, sym, ◌∙◌}
+use Prim.Native.Nat.{◌-◌}
+use Rattle.climb.specs.declared.walk.Turn.TheVariants.{Ends}
 use Rattle.climb.specs.declared.walk.Turn.{Turn}
 use Rattle.keys.specs.declared.Decoded.TheVariants.{End}
 use Rattle.keys.specs.declared.Decoded.{Decoded}
-use Rattle.rules.specs.Tables.{body_of}
-use Rattle.tracks.specs.Loop.{Walking, walking_start}
-use Rattle.climb.proofs.Walking.{in_code, plain_step, plain_fits, other_asks, other_finishes, other_step, ends_here, code_fits, keyed}
-use Rattle.climb.proofs.walk.walk.Reads as reads
-use Rattle.climb.proofs.walk.walk.Lts as lts
-use Rattle.climb.proofs.walk.met.Reads as met-reads
-use Rattle.climb.proofs.walk.other.Reads as other-reads
-use Rattle.climb.proofs.effects.effect.Reads as effect-reads
-use Rattle.keys.proofs.decode.Reads as decode-reads
-use Rattle.nodes.proofs.starts.end.Reads as end_reads
-use Rattle.nodes.proofs.table.node_at.Reads as node-at-reads
-use Rattle.climb.proofs.waits.arrive.Reads as arrive-reads
-use Rattle.climb.proofs.waits.larger.Reads as larger-reads
+use Rattle.tracks.specs.Loop.{walking_start}
+use Rattle.climb.proofs.Walking.{plain_step, plain_fits, other_asks, other_finishes, other_step, ends_here, code_fits, keyed}
 use Rattle.climb.proofs.walk.walk.Goals as goal
 
 pub end-end-requires : goal.end-end-requires

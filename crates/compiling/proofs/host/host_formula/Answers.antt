@@ -1,5 +1,4 @@
 -- The proof of `limpetskein::host::limpetskein_formula`.
-use borrow.Author.Rules.{rules}
 use Rattle.promises.specs.FormulaPromised.{host_formula_keeps}
 use Rattle.compiling.proofs.host.host_formula.Goals as goal
 

@@ -1,17 +1,11 @@
 -- The invariants and measures of `control::calls::alike`.
 use Prim.Native.Nat.{ℕ, ◌+◌, ◌≤◌}
-use native.Mathlib.Omega.{arith}
 use mathlib.Core.List.{List}
-use mathlib.Core.Path.{◌≡◌, refl, sym, ap, ◌∙◌}
-use Rattle.rules.specs.Instructions.{ty_of, kind_of}
+use mathlib.Core.Path.{◌≡◌}
 use Rattle.rules.specs.Machine.{kinds_match}
 use Rattle.rules.specs.Tables.{function_at, params_from}
-use Rattle.rules.specs.ModuleFile.{edition, bodies_in, functions_in}
+use Rattle.rules.specs.ModuleFile.{edition, functions_in}
 use Rattle.rules.specs.Stack.{slots_of}
-use Rattle.reader.proofs.Records.{function_count_lem}
-use Rattle.control.proofs.CallLaws.{kinds_end, kinds_same, kinds_other}
-use Rattle.soundness.specs.Readable.{few_parameters, parameter_type}
-use Rattle.soundness.specs.Cutting.{functions_good}
 use Rattle.control.proofs.calls.alike.Given as goal
 
 abbrev pub invariant-loop-j : goal.invariant-loop-j

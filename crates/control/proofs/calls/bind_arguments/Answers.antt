@@ -1,8 +1,8 @@
 -- The proof of `control::calls::bind_arguments`.
-use Prim.Native.Nat.{◌-◌, ◌≤◌}
+use Prim.Native.Nat.{◌-◌}
 use native.Mathlib.Omega.{arith}
-use mathlib.Core.Path.{◌≡◌, refl, ap, ◌∙◌}
-use lib.ListN.{length, length-set}
+use mathlib.Core.Path.{refl, ap, ◌∙◌}
+use lib.ListN.{length-set}
 use Rattle.control.proofs.Frames.{arguments_none, arguments_more}
 use Rattle.control.specs.Control.{arguments_in}
 use Rattle.control.proofs.calls.bind_arguments.Goals as goal

@@ -1,9 +1,7 @@
 -- The invariants and measures of `control::calls::bind_arguments`.
 use Prim.Native.Nat.{◌-◌, ◌≤◌}
-use native.Mathlib.Omega.{arith}
-use mathlib.Core.Path.{◌≡◌, refl, ap, ◌∙◌}
-use lib.ListN.{length, length-set}
-use Rattle.control.proofs.Frames.{arguments_none, arguments_more}
+use mathlib.Core.Path.{◌≡◌}
+use lib.ListN.{length}
 use Rattle.control.specs.Control.{arguments_in}
 use Rattle.control.proofs.calls.bind_arguments.Given as goal
 

@@ -1,10 +1,6 @@
 use Rattle.rules.specs.Tables.{function_of}
 use Rattle.reader.proofs.Records.{function_in_file, stride_small, function_first, function_word}
 use native.Mathlib.Omega.{arith}
-use borrow.Author.Rules.{rules}
-use Rattle.control.proofs.calls.entered.Reads as reads
-use Rattle.control.proofs.calls.entered.Lts as lts
-use Rattle.format.proofs.word.Reads as word-reads
 use Rattle.control.proofs.calls.entered.Goals as goal
 
 pub overflow_mul-at : goal.overflow_mul-at

@@ -1,6 +1,5 @@
 -- The proof of `control::calls::leave`.
 use mathlib.Core.Path.{ap, ◌∙◌}
-use borrow.Author.Rules.{rules}
 use Rattle.state.specs.declared.Progress.TheVariants.{Goes, Finishes}
 use Rattle.control.proofs.ReturnLaws.{past_frame_lem, past_first}
 use Rattle.control.proofs.calls.leave.Goals as goal

@@ -2,7 +2,6 @@
 use native.Mathlib.Omega.{arith}
 use mathlib.Core.Path.{ap, ◌∙◌}
 use lib.ListN.{length, length-set}
-use borrow.Author.Rules.{rules}
 use Rattle.control.proofs.Frames.{length_opened}
 use Rattle.control.specs.Control.{opened_in}
 use Rattle.control.proofs.calls.open_frame.Goals as goal

@@ -1,5 +1,4 @@
 -- The proof of `control::calls::restored`.
-use borrow.Author.Rules.{rules}
 use Rattle.control.proofs.calls.restored.Goals as goal
 
 pub returns : goal.returns

@@ -1,8 +1,6 @@
 -- The proof of `control::calls::ret`.
 use native.Mathlib.Omega.{arith}
 use mathlib.Core.Path.{◌≡◌, sym, ap, ◌∙◌}
-use mathlib.Core.Logic.{⊎_elim}
-use borrow.Author.Rules.{rules}
 use Rattle.reader.specs.Answers.{function_found}
 use Rattle.reader.specs.declared.entries.FoundFunction.TheVariants.{Nothing}
 use Rattle.reader.specs.declared.entries.FoundFunction.{FoundFunction}

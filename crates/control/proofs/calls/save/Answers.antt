@@ -2,7 +2,6 @@
 use native.Mathlib.Omega.{arith}
 use mathlib.Core.Path.{refl}
 use lib.ListN.{length-set}
-use borrow.Author.Rules.{rules}
 use Rattle.control.specs.Control.{saved_in}
 use Rattle.control.proofs.calls.save.Goals as goal
 

@@ -1,6 +1,5 @@
 -- The proof of `control::jumps::branched`.
 use mathlib.Core.Path.{ap}
-use borrow.Author.Rules.{rules}
 use Rattle.state.specs.declared.Progress.TheVariants.{Goes}
 use Rattle.control.proofs.jumps.branched.Goals as goal
 

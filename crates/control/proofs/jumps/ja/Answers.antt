@@ -1,6 +1,5 @@
 -- The proof of `control::jumps::ja`.
 use native.Mathlib.Omega.{arith}
-use borrow.Author.Rules.{rules}
 use Rattle.rules.specs.declared.Condition.TheVariants.{Ja}
 use Rattle.control.proofs.jumps.ja.Goals as goal
 

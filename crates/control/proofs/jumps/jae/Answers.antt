@@ -1,6 +1,5 @@
 -- The proof of `control::jumps::jae`.
 use native.Mathlib.Omega.{arith}
-use borrow.Author.Rules.{rules}
 use Rattle.rules.specs.declared.Condition.TheVariants.{Jae}
 use Rattle.control.proofs.jumps.jae.Goals as goal
 

@@ -1,6 +1,5 @@
 -- The proof of `control::jumps::jb`.
 use native.Mathlib.Omega.{arith}
-use borrow.Author.Rules.{rules}
 use Rattle.rules.specs.declared.Condition.TheVariants.{Jb}
 use Rattle.control.proofs.jumps.jb.Goals as goal
 

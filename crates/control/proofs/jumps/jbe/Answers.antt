@@ -1,6 +1,5 @@
 -- The proof of `control::jumps::jbe`.
 use native.Mathlib.Omega.{arith}
-use borrow.Author.Rules.{rules}
 use Rattle.rules.specs.declared.Condition.TheVariants.{Jbe}
 use Rattle.control.proofs.jumps.jbe.Goals as goal
 

@@ -1,6 +1,5 @@
 -- The proof of `control::jumps::je`.
 use native.Mathlib.Omega.{arith}
-use borrow.Author.Rules.{rules}
 use Rattle.rules.specs.declared.Condition.TheVariants.{Je}
 use Rattle.control.proofs.jumps.je.Goals as goal
 

@@ -1,6 +1,5 @@
 -- The proof of `control::jumps::jmp`.
 use mathlib.Core.Path.{◌≡◌, sym, ap, ◌∙◌}
-use borrow.Author.Rules.{rules}
 use Rattle.control.proofs.JumpLaws.{jmp_27, jmp_goes}
 use Rattle.control.specs.Control.{place_of}
 use Rattle.control.specs.declared.jumps.FoundPlace.TheVariants.{Nothing}

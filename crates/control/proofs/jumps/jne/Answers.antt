@@ -1,6 +1,5 @@
 -- The proof of `control::jumps::jne`.
 use native.Mathlib.Omega.{arith}
-use borrow.Author.Rules.{rules}
 use Rattle.rules.specs.declared.Condition.TheVariants.{Jne}
 use Rattle.control.proofs.jumps.jne.Goals as goal
 

@@ -1,6 +1,5 @@
 -- The proof of `control::jumps::target`.
 use mathlib.Core.Path.{◌≡◌, sym, ap, ◌∙◌}
-use borrow.Author.Rules.{rules}
 use Rattle.reader.specs.Answers.{label_in}
 use Rattle.reader.specs.declared.entries.FoundLabel.TheVariants.{Nothing}
 use Rattle.reader.specs.declared.entries.FoundLabel.{FoundLabel}

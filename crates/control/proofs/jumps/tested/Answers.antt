@@ -1,7 +1,6 @@
 -- The proof of `control::jumps::tested`.
 use native.Mathlib.Omega.{arith}
 use mathlib.Core.Path.{◌≡◌, sym, ap, ◌∙◌}
-use borrow.Author.Rules.{rules}
 use Rattle.control.proofs.JumpLaws.{branch_27, branch_21, branch_22, branch_goes, popped_int, popped_other}
 use Rattle.control.specs.Control.{place_of}
 use Rattle.control.specs.declared.jumps.FoundPlace.TheVariants.{Nothing}

@@ -1,6 +1,5 @@
 -- The proof of `limpetskein::host::limpetskein_to_edition_3`.
 use Rattle.promises.specs.ConvertPromised.{host_delivers}
-use borrow.Author.Rules.{rules}
 use Rattle.converting.proofs.host.host_to_edition_3.Goals as goal
 
 pub returns : goal.returns

@@ -1,5 +1,4 @@
 use Rattle.desk.proofs.Checking.{body_refused, body_untyped, body_accepted}
-use borrow.Author.Rules.{rules}
 use Rattle.desk.proofs.checks.body_report.Goals as goal
 
 pub returns-in-Refused : goal.returns-in-Refused

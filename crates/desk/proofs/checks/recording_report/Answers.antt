@@ -1,5 +1,4 @@
 use Rattle.desk.proofs.Checking.{unrecorded, recorded_untyped, recorded}
-use borrow.Author.Rules.{rules}
 use Rattle.desk.proofs.checks.recording_report.Goals as goal
 
 pub returns-in-Unrecorded : goal.returns-in-Unrecorded

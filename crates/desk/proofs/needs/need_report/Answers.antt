@@ -1,12 +1,5 @@
 use Rattle.desk.proofs.Needing.{unreported, without_typing, calls_back, reported, line_fills, length_is}
 use native.Mathlib.Omega.{arith}
-use borrow.Author.Rules.{rules}
-use Rattle.desk.proofs.needs.need_report.Reads as reads
-use Rattle.desk.proofs.needs.need_report.Lts as lts
-use Rattle.desk.proofs.needs.needs_text.Reads as needs-text-reads
-use Rattle.desk.proofs.reports.number_text.Reads as number-text-reads
-use Rattle.desk.proofs.text.put_line2.Reads as put-line2-reads
-use Rattle.measuring.proofs.need.Reads as need-reads
 use Rattle.desk.proofs.needs.need_report.Goals as goal
 
 pub overflow_sub-functions : goal.overflow_sub-functions

@@ -1,11 +1,5 @@
 use Rattle.desk.proofs.Needing.{lines_fill}
 use native.Mathlib.Omega.{arith}
-use borrow.Author.Rules.{rules}
-use Rattle.desk.proofs.needs.needs_text.Reads as reads
-use Rattle.desk.proofs.needs.needs_text.Lts as lts
-use Rattle.desk.proofs.needs.put_entry.Reads as put-entry-reads
-use Rattle.desk.proofs.needs.put_functions.Reads as put-functions-reads
-use Rattle.memory.proofs.load32.Reads as load32-reads
 use Rattle.desk.proofs.needs.needs_text.Goals as goal
 
 pub returns : goal.returns

@@ -2,10 +2,6 @@ use Rattle.desk.proofs.Needing.{word_put, entry_line_lem}
 use lib.ListN.{length-set}
 use native.Mathlib.Omega.{arith}
 use mathlib.Core.Path.{◌∙◌}
-use borrow.Author.Rules.{rules}
-use Rattle.desk.proofs.needs.put_entry.Reads as reads
-use Rattle.desk.proofs.needs.put_entry.Lts as lts
-use Rattle.desk.proofs.text.put_line2.Reads as put-line2-reads
 use Rattle.desk.proofs.needs.put_entry.Goals as goal
 
 pub bounds-out-1 : goal.bounds-out-1

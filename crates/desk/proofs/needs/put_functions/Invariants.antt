@@ -1,16 +1,9 @@
 -- The invariants and measures of `desk::needs::put_functions`.
-use Rattle.desk.proofs.Needing.{functions_0, functions_more, functions_all}
 use Rattle.desk.specs.Needs.{function_lines}
 use Rattle.desk.specs.Text.{Adds}
-use native.Mathlib.Omega.{arith}
-use mathlib.Core.Path.{◌≡◌, refl, ◌∙◌}
+use mathlib.Core.Path.{◌≡◌}
 use lib.ListN.{length}
-use borrow.Author.Rules.{rules}
 use Prim.Native.Nat.{◌≤◌, ◌*◌, ◌-◌}
-use Rattle.desk.proofs.needs.put_functions.Reads as reads
-use Rattle.desk.proofs.needs.put_functions.Lts as lts
-use Rattle.desk.proofs.text.put_line3.Reads as put-line3-reads
-use Rattle.memory.proofs.load32.Reads as load32-reads
 use Rattle.desk.proofs.needs.put_functions.Given as goal
 
 abbrev pub invariant-loop-k : goal.invariant-loop-k

@@ -1,9 +1,7 @@
 -- The proof of `desk::numbers::parse_number`.
 use Prim.Native.Nat.{◌-◌}
-use Rattle.desk.proofs.Numerals.{Spelled, spelled_none, spelled_more, too_large, no_digit, no_bytes, all_spelled}
-use borrow.Author.Rules.{rules}
-use lib.ListN.{length}
-use mathlib.Core.Path.{sym, subst}
+use Rattle.desk.proofs.Numerals.{spelled_none, spelled_more, too_large, no_digit, no_bytes, all_spelled}
+use mathlib.Core.Path.{sym}
 use native.Mathlib.Omega.{arith}
 use Rattle.desk.proofs.numbers.parse_number.Goals as goal
 

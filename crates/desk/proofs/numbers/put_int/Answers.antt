@@ -1,6 +1,5 @@
 -- The proof of `desk::numbers::put_int`.
 use Rattle.desk.proofs.Lending.{lends_more}
-use borrow.Author.Rules.{rules}
 use Rattle.desk.proofs.numbers.put_int.Goals as goal
 
 pub returns : goal.returns

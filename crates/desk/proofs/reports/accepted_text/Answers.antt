@@ -1,9 +1,4 @@
 use Rattle.desk.proofs.Lines.{as_long, height_low, accepted_fills}
-use borrow.Author.Rules.{rules}
-use Rattle.desk.proofs.reports.accepted_text.Reads as reads
-use Rattle.desk.proofs.reports.accepted_text.Lts as lts
-use Rattle.desk.proofs.reports.run_text.Reads as run-text-reads
-use Rattle.running.proofs.run.Reads as run-reads
 use Rattle.desk.proofs.reports.accepted_text.Goals as goal
 
 pub run_text-requires : goal.run_text-requires

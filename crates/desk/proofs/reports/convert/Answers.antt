@@ -1,6 +1,5 @@
 -- The proof of `desk::reports::convert`.
 use Rattle.desk.proofs.Compiling.{up_is, down_is}
-use borrow.Author.Rules.{rules}
 use Rattle.desk.proofs.reports.convert.Goals as goal
 
 pub returns-then-up : goal.returns-then-up

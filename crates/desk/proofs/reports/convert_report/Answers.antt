@@ -1,6 +1,5 @@
 -- The proof of `desk::reports::convert_report`.
 use Rattle.desk.proofs.Compiling.{conversion_refused, conversion_written}
-use borrow.Author.Rules.{rules}
 use Rattle.desk.proofs.reports.convert_report.Goals as goal
 
 pub returns-in-Unwritten : goal.returns-in-Unwritten

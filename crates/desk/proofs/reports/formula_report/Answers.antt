@@ -1,6 +1,5 @@
 -- The proof of `desk::reports::formula_report`.
 use Rattle.desk.proofs.Compiling.{formula_holds, reports_refusal, reports_module}
-use borrow.Author.Rules.{rules}
 use Rattle.rules.specs.Formula.{formula}
 use Rattle.desk.specs.Commands.{Refuses}
 use Rattle.desk.proofs.reports.formula_report.Goals as goal

@@ -1,6 +1,5 @@
 -- The proof of `desk::reports::refusal_text`.
 use Rattle.desk.proofs.Compiling.{refused_alone, refused_at}
-use borrow.Author.Rules.{rules}
 use native.Mathlib.Omega.{arith}
 use Rattle.desk.proofs.reports.refusal_text.Goals as goal
 

@@ -1,6 +1,5 @@
 -- The proof of `desk::reports::report`.
 use Rattle.desk.proofs.Lines.{entry_fills}
-use borrow.Author.Rules.{rules}
 use Rattle.desk.proofs.reports.report.Goals as goal
 
 pub returns : goal.returns

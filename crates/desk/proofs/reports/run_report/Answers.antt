@@ -1,7 +1,6 @@
 -- The proof of `desk::reports::run_report`.
 use Rattle.desk.proofs.Lines.{checked_fills}
 use Rattle.rules.specs.Answers.{Checked}
-use borrow.Author.Rules.{rules}
 use mathlib.Core.Path.{ap}
 use Rattle.desk.proofs.reports.run_report.Goals as goal
 

@@ -1,6 +1,5 @@
 -- The proof of `desk::reports::run_text`.
 use Prim.Native.Nat.{◌≤◌}
-use borrow.Author.Rules.{rules}
 use mathlib.Core.Path.{subst}
 use Rattle.desk.proofs.Lines.{run_fills}
 use Rattle.rules.specs.Host.{height_after}

@@ -1,5 +1,4 @@
 -- The proof of `desk::reports::tally_text`.
-use borrow.Author.Rules.{rules}
 use native.Mathlib.Omega.{arith}
 use Rattle.desk.proofs.Lines.{tally_fills}
 use Rattle.desk.proofs.reports.tally_text.Goals as goal

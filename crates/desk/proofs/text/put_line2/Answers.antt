@@ -1,5 +1,4 @@
 -- The proof of `desk::text::put_line2`.
-use borrow.Author.Rules.{rules}
 use Rattle.desk.proofs.Texts.{line_2}
 use Rattle.desk.proofs.text.put_line2.Goals as goal
 

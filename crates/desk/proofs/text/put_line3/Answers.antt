@@ -1,5 +1,4 @@
 -- The proof of `desk::text::put_line3`.
-use borrow.Author.Rules.{rules}
 use Rattle.desk.proofs.Texts.{line_3}
 use Rattle.desk.proofs.text.put_line3.Goals as goal
 

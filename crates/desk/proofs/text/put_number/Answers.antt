@@ -1,5 +1,4 @@
 -- The proof of `desk::text::put_number`.
-use borrow.Author.Rules.{rules}
 use native.Mathlib.Omega.{arith}
 use Rattle.desk.proofs.Texts.{then_byte}
 use Rattle.desk.proofs.text.put_number.Goals as goal

@@ -1,12 +1,8 @@
 -- The proof of `desk::text::put_slots`.
-use Prim.Native.Nat.{◌≤◌, ◌*◌, ◌-◌}
-use borrow.Author.Rules.{rules}
-use lib.ListN.{length}
-use mathlib.Core.Path.{◌≡◌, refl, ◌∙◌}
+use Prim.Native.Nat.{◌-◌}
+use mathlib.Core.Path.{refl, ◌∙◌}
 use native.Mathlib.Omega.{arith}
 use Rattle.desk.proofs.Texts.{slots_0, slots_more, slots_all}
-use Rattle.desk.specs.Text.{Adds}
-use Rattle.rules.specs.Program.{slot_lines}
 use Rattle.desk.proofs.text.put_slots.Goals as goal
 
 pub loop-i-init : goal.loop-i-init

@@ -1,10 +1,7 @@
 -- The invariants and measures of `desk::text::put_slots`.
 use Prim.Native.Nat.{◌≤◌, ◌*◌, ◌-◌}
-use borrow.Author.Rules.{rules}
 use lib.ListN.{length}
-use mathlib.Core.Path.{◌≡◌, refl, ◌∙◌}
-use native.Mathlib.Omega.{arith}
-use Rattle.desk.proofs.Texts.{slots_0, slots_more, slots_all}
+use mathlib.Core.Path.{◌≡◌}
 use Rattle.desk.specs.Text.{Adds}
 use Rattle.rules.specs.Program.{slot_lines}
 use Rattle.desk.proofs.text.put_slots.Given as goal

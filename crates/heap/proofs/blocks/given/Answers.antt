@@ -1,16 +1,11 @@
 use Rattle.heap.specs.Blocks.{entry_at}
 use Prim.Native.Nat.{◌/◌}
 use Rattle.heap.proofs.Search.{found_at, found_none}
-use Rattle.heap.specs.declared.Found.TheVariants.{At, Nothing}
+use Rattle.heap.specs.declared.Found.TheVariants.{Nothing}
 use Rattle.heap.specs.declared.Found.{Found}
 use mathlib.Core.Path.{◌≡◌}
 use Rattle.heap.proofs.Made.{given_offset, given_none, given_managed, given_is}
 use native.Mathlib.Omega.{arith}
-use borrow.Author.Rules.{rules}
-use Rattle.heap.proofs.blocks.given.Reads as reads
-use Rattle.heap.proofs.blocks.given.Lts as lts
-use Rattle.heap.proofs.entries.entry_at.Reads as entry-at-reads
-use Rattle.heap.proofs.entries.find.Reads as find-reads
 use Rattle.heap.proofs.blocks.given.Goals as goal
 
 pub returns-then-a-ne0 : goal.returns-then-a-ne0

@@ -1,7 +1,6 @@
 -- The proof of `heap::blocks::grant`.
 use mathlib.Core.Path.{refl}
 use Rattle.heap.proofs.Granted.{new_spent, new_block}
-use borrow.Author.Rules.{rules}
 use Rattle.heap.proofs.blocks.grant.Goals as goal
 
 pub returns-then-k-ge281474976710655 : goal.returns-then-k-ge281474976710655

@@ -1,7 +1,5 @@
 use mathlib.Core.Logic.{inl, inr}
 use mathlib.Core.Path.{refl}
-use Rattle.heap.proofs.blocks.lowered.Reads as reads
-use Rattle.heap.proofs.blocks.lowered.Lts as lts
 use Rattle.heap.proofs.blocks.lowered.Goals as goal
 
 pub returns-then-end-top : goal.returns-then-end-top

@@ -1,12 +1,10 @@
 -- The proof of `heap::blocks::new`.
 use Rattle.heap.proofs.Collected.{gives_from, gives_then, source_room, source_none, found_as, found_of, room_of_lem, unmade}
 use Rattle.heap.proofs.Aimed.{type_low}
-use Rattle.heap.specs.declared.Room.TheVariants.{From, Nowhere}
+use Rattle.heap.specs.declared.Room.TheVariants.{Nowhere}
 use Rattle.heap.specs.declared.Room.{Room}
-use mathlib.Core.Path.{◌≡◌, refl}
+use mathlib.Core.Path.{◌≡◌}
 use native.Mathlib.Omega.{arith}
-use Rattle.rules.specs.Stack.{slots_of}
-use borrow.Author.Rules.{rules}
 use Rattle.heap.proofs.blocks.new.Goals as goal
 
 pub squeezed-requires : goal.squeezed-requires

@@ -1,17 +1,6 @@
 use mathlib.Core.Path.{refl}
 use Rattle.heap.proofs.Made.{removing, end_inside}
-use Rattle.heap.specs.declared.Entry.{Entry}
-use mathlib.Core.Path.{◌≡◌, ap, ◌∙◌}
 use native.Mathlib.Omega.{arith}
-use borrow.Author.Rules.{rules}
-use Rattle.heap.proofs.blocks.remove.Reads as reads
-use Rattle.heap.proofs.blocks.remove.Lts as lts
-use Rattle.heap.proofs.blocks.least.Reads as least-reads
-use Rattle.heap.proofs.blocks.lowered.Reads as lowered-reads
-use Rattle.heap.proofs.cells.clear.Reads as clear_reads
-use Rattle.heap.proofs.entries.close.Reads as close-reads
-use Rattle.heap.proofs.entries.entry_at.Reads as entry-at-reads
-use Rattle.heap.proofs.entries.width.Reads as width-reads
 use Rattle.heap.proofs.blocks.remove.Goals as goal
 
 pub overflow_add-end : goal.overflow_add-end

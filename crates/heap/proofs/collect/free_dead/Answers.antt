@@ -1,6 +1,5 @@
 -- The proof of `heap::collect::free_dead`.
-use Rattle.heap.proofs.Sweeps.{Sweeping, sweep_start, sweep_end, sweep_keep, sweep_drop, plain, marked_kept, unmarked_dead}
-use Rattle.rules.specs.Stack.{slots_of}
+use Rattle.heap.proofs.Sweeps.{sweep_start, sweep_end, sweep_keep, sweep_drop, plain, marked_kept, unmarked_dead}
 use native.Mathlib.Omega.{arith}
 use Rattle.heap.proofs.collect.free_dead.Goals as goal
 

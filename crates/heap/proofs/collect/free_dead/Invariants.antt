@@ -1,7 +1,6 @@
 -- The invariants and measures of `heap::collect::free_dead`.
-use Rattle.heap.proofs.Sweeps.{Sweeping, sweep_start, sweep_end, sweep_keep, sweep_drop, plain, marked_kept, unmarked_dead}
+use Rattle.heap.proofs.Sweeps.{Sweeping}
 use Rattle.rules.specs.Stack.{slots_of}
-use native.Mathlib.Omega.{arith}
 use Rattle.heap.proofs.collect.free_dead.Given as goal
 
 abbrev pub invariant-loop-i : goal.invariant-loop-i

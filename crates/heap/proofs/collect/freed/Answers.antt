@@ -3,7 +3,6 @@ use Rattle.heap.proofs.Collected.{unmade, makes_for}
 use Rattle.heap.specs.Grants.{swept_for}
 use Rattle.heap.specs.Blocks.{heap_of}
 use Rattle.rules.specs.Stack.{slots_of}
-use borrow.Author.Rules.{rules}
 use Rattle.heap.proofs.collect.freed.Goals as goal
 
 pub returns-then-managed : goal.returns-then-managed

@@ -1,11 +1,7 @@
 -- The proof of `heap::collect::hold`.
 use Rattle.heap.proofs.Sweeps.{holding_none, holding_other, holding_more, holding_all}
-use Rattle.heap.specs.Holds.{Holding}
 use Rattle.heap.specs.Blocks.{entry_at}
-use Rattle.rules.specs.Stack.{slots_of}
-use Prim.Native.Nat.{◌≤◌, ◌-◌}
-use mathlib.Core.Path.{◌≡◌, refl, ◌∙◌}
-use lib.ListN.{length}
+use mathlib.Core.Path.{refl, ◌∙◌}
 use native.Mathlib.Omega.{arith}
 use Rattle.heap.proofs.collect.hold.Goals as goal
 

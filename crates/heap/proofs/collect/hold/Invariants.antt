@@ -1,12 +1,10 @@
 -- The invariants and measures of `heap::collect::hold`.
-use Rattle.heap.proofs.Sweeps.{holding_none, holding_other, holding_more, holding_all}
 use Rattle.heap.specs.Holds.{Holding}
 use Rattle.heap.specs.Blocks.{entry_at}
 use Rattle.rules.specs.Stack.{slots_of}
 use Prim.Native.Nat.{◌≤◌, ◌-◌}
-use mathlib.Core.Path.{◌≡◌, refl, ◌∙◌}
+use mathlib.Core.Path.{◌≡◌}
 use lib.ListN.{length}
-use native.Mathlib.Omega.{arith}
 use Rattle.heap.proofs.collect.hold.Given as goal
 
 abbrev pub invariant-loop-i : goal.invariant-loop-i

@@ -2,11 +2,10 @@
 use Rattle.heap.proofs.Sweeps.{noted_none, noted_at}
 use Rattle.heap.proofs.Search.{found_at, found_none}
 use Rattle.heap.specs.Blocks.{entry_at}
-use Rattle.heap.specs.declared.Found.TheVariants.{At, Nothing}
+use Rattle.heap.specs.declared.Found.TheVariants.{Nothing}
 use Rattle.heap.specs.declared.Found.{Found}
 use mathlib.Core.Path.{◌≡◌}
 use native.Mathlib.Omega.{arith}
-use borrow.Author.Rules.{rules}
 use Rattle.heap.proofs.collect.note.Goals as goal
 
 pub returns-in_default : goal.returns-in_default

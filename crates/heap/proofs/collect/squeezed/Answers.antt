@@ -6,7 +6,6 @@ use Rattle.heap.proofs.Aimed.{type_low}
 use Rattle.heap.specs.Grants.{packed_for}
 use Rattle.heap.specs.Blocks.{heap_of}
 use native.Mathlib.Omega.{arith}
-use borrow.Author.Rules.{rules}
 use Rattle.heap.proofs.collect.squeezed.Goals as goal
 
 pub returns-then-size-top : goal.returns-then-size-top

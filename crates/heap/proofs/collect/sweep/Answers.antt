@@ -3,7 +3,6 @@ use Rattle.heap.proofs.Sweeps.{blank}
 use native.Mathlib.Omega.{arith}
 use lib.ListN.{length-replicate}
 use Prim.Native.Nat.{ℕ}
-use borrow.Author.Rules.{rules}
 use Rattle.heap.proofs.collect.sweep.Goals as goal
 
 pub sweep_by-requires : goal.sweep_by-requires

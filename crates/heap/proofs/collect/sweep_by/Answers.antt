@@ -1,6 +1,5 @@
 -- The proof of `heap::collect::sweep_by`.
 use native.Mathlib.Omega.{arith}
-use borrow.Author.Rules.{rules}
 use Rattle.heap.proofs.collect.sweep_by.Goals as goal
 
 pub hold-requires : goal.hold-requires

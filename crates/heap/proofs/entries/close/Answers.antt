@@ -1,10 +1,5 @@
-use Rattle.heap.proofs.Stores.{Closing, closing_none, closing_more, closed}
-use Prim.Native.Nat.{◌≤◌, ◌-◌}
+use Rattle.heap.proofs.Stores.{closing_none, closing_more, closed}
 use native.Mathlib.Omega.{arith}
-use Rattle.heap.proofs.entries.close.Reads as reads
-use Rattle.heap.proofs.entries.close.Lts as lts
-use Rattle.heap.proofs.entries.entry_at.Reads as entry-at-reads
-use Rattle.heap.proofs.entries.put_entry.Reads as put-entry-reads
 use Rattle.heap.proofs.entries.close.Goals as goal
 
 pub loop-j-init : goal.loop-j-init

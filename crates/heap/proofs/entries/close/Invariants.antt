@@ -1,11 +1,6 @@
 -- The invariants and measures of `heap::entries::close`.
-use Rattle.heap.proofs.Stores.{Closing, closing_none, closing_more, closed}
+use Rattle.heap.proofs.Stores.{Closing}
 use Prim.Native.Nat.{◌≤◌, ◌-◌}
-use native.Mathlib.Omega.{arith}
-use Rattle.heap.proofs.entries.close.Reads as reads
-use Rattle.heap.proofs.entries.close.Lts as lts
-use Rattle.heap.proofs.entries.entry_at.Reads as entry-at-reads
-use Rattle.heap.proofs.entries.put_entry.Reads as put-entry-reads
 use Rattle.heap.proofs.entries.close.Given as goal
 
 abbrev pub invariant-loop-j : goal.invariant-loop-j

@@ -1,15 +1,7 @@
 -- The invariants and measures of `heap::entries::find`.
-use Rattle.heap.proofs.Search.{falls_up, falls_down}
-use Rattle.heap.proofs.Search.{Bracket, none_given, bracket_start, bracket_up, bracket_down, bracket_met}
+use Rattle.heap.proofs.Search.{Bracket}
 use Rattle.heap.specs.Blocks.{entry_at}
-use mathlib.Core.Path.{◌≡◌, sym, ◌∙◌}
-use Prim.Native.Nat.{◌≤◌, ◌-◌, ◌+◌, ◌/◌}
-use native.Mathlib.Omega.{arith}
-use Rattle.heap.proofs.entries.find.Reads as reads
-use Rattle.heap.proofs.entries.find.Lts as lts
-use Rattle.heap.proofs.entries.above.Reads as above-reads
-use Rattle.heap.proofs.entries.below.Reads as below-reads
-use Rattle.memory.proofs.load64.Reads as load64-reads
+use Prim.Native.Nat.{◌-◌}
 use Rattle.heap.proofs.entries.find.Given as goal
 
 abbrev pub invariant-loop-lo : goal.invariant-loop-lo

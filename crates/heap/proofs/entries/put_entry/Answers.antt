@@ -1,10 +1,5 @@
 use Rattle.heap.proofs.Stores.{put_entry_by}
-use mathlib.Core.Path.{◌≡◌}
 use native.Mathlib.Omega.{arith}
-use borrow.Author.Rules.{rules}
-use Rattle.heap.proofs.entries.put_entry.Reads as reads
-use Rattle.heap.proofs.entries.put_entry.Lts as lts
-use Rattle.memory.proofs.store64.Reads as store64-reads
 use Rattle.heap.proofs.entries.put_entry.Goals as goal
 
 pub returns : goal.returns

@@ -1,9 +1,8 @@
 -- The proof of `heap::entries::size_of`.
 use Rattle.heap.specs.Blocks.{size_in, fields_in}
 use borrow.Author.Tests.{eq-eqb, ne_eqb, lt-ltb, le-ltb, lt-leb, le-leb}
-use mathlib.Core.Path.{◌≡◌, refl, ◌∙◌}
+use mathlib.Core.Path.{refl}
 use native.Mathlib.Omega.{arith}
-use borrow.Author.Rules.{rules}
 use Rattle.heap.proofs.entries.size_of.Goals as goal
 
 pub returns-then-n-eq3 : goal.returns-then-n-eq3

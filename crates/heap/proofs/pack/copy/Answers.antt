@@ -1,7 +1,5 @@
 -- The proof of `heap::pack::copy`.
 use Rattle.heap.proofs.Packing.{copied_none, copied_more, copied_all}
-use Rattle.heap.specs.Packs.{Copied}
-use Prim.Native.Nat.{◌≤◌, ◌-◌}
 use native.Mathlib.Omega.{arith}
 use Rattle.heap.proofs.pack.copy.Goals as goal
 

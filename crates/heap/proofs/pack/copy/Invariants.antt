@@ -1,8 +1,6 @@
 -- The invariants and measures of `heap::pack::copy`.
-use Rattle.heap.proofs.Packing.{copied_none, copied_more, copied_all}
 use Rattle.heap.specs.Packs.{Copied}
 use Prim.Native.Nat.{◌≤◌, ◌-◌}
-use native.Mathlib.Omega.{arith}
 use Rattle.heap.proofs.pack.copy.Given as goal
 
 abbrev pub invariant-loop-i : goal.invariant-loop-i

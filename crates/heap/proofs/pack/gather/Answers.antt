@@ -1,9 +1,6 @@
 -- The proof of `heap::pack::gather`.
 use Rattle.heap.proofs.Packing.{gathered_none, gathered_more, gathered_all, gather_room}
-use Rattle.heap.specs.Packs.{Gathered}
-use Prim.Native.Nat.{◌≤◌, ◌-◌, ◌+◌, ◌*◌}
 use native.Mathlib.Omega.{arith}
-use lib.ListN.{length}
 use Rattle.heap.proofs.pack.gather.Goals as goal
 
 pub loop-i-init : goal.loop-i-init

@@ -1,8 +1,6 @@
 -- The invariants and measures of `heap::pack::gather`.
-use Rattle.heap.proofs.Packing.{gathered_none, gathered_more, gathered_all, gather_room}
 use Rattle.heap.specs.Packs.{Gathered}
-use Prim.Native.Nat.{◌≤◌, ◌-◌, ◌+◌, ◌*◌}
-use native.Mathlib.Omega.{arith}
+use Prim.Native.Nat.{◌≤◌, ◌-◌}
 use lib.ListN.{length}
 use Rattle.heap.proofs.pack.gather.Given as goal
 

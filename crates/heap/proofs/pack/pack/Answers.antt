@@ -3,7 +3,6 @@ use native.Mathlib.Omega.{arith}
 use Prim.Native.Nat.{ℕ}
 use lib.ListN.{length-replicate}
 use Rattle.heap.proofs.Stores.{zero_cells}
-use borrow.Author.Rules.{rules}
 use Rattle.heap.proofs.pack.pack.Goals as goal
 
 pub pack_by-requires : goal.pack_by-requires

@@ -1,7 +1,6 @@
 -- The proof of `heap::pack::pack_by`.
 use mathlib.Core.Path.{refl}
 use Rattle.heap.proofs.Packing.{packing}
-use borrow.Author.Rules.{rules}
 use Rattle.heap.proofs.pack.pack_by.Goals as goal
 
 pub returns : goal.returns

@@ -1,17 +1,9 @@
 use Rattle.heap.proofs.Places.{tops_below}
 use Rattle.heap.proofs.Places.{slow_none, slow_some, gap_at, gap_nothing}
-use Rattle.heap.specs.declared.Found.TheVariants.{At, Nothing}
+use Rattle.heap.specs.declared.Found.TheVariants.{Nothing}
 use Rattle.heap.specs.declared.Found.{Found}
 use mathlib.Core.Path.{◌≡◌}
 use native.Mathlib.Omega.{arith}
-use borrow.Author.Rules.{rules}
-use Rattle.heap.proofs.rooms.among.Reads as reads
-use Rattle.heap.proofs.rooms.among.Lts as lts
-use Rattle.heap.proofs.rooms.fill.Reads as fill-reads
-use Rattle.heap.proofs.rooms.gap.Reads as gap-reads
-use Rattle.heap.proofs.rooms.larger.Reads as larger-reads
-use Rattle.heap.proofs.rooms.mark.Reads as mark-reads
-use Rattle.heap.proofs.rooms.rise.Reads as rise-reads
 use Rattle.heap.proofs.rooms.among.Goals as goal
 
 pub mark-requires : goal.mark-requires

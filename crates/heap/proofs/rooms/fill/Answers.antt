@@ -1,9 +1,5 @@
 use Rattle.heap.proofs.Marks.{filled_none, filled_more, filled_all}
-use Rattle.heap.specs.Rooms.{Filled}
-use Prim.Native.Nat.{◌≤◌, ◌-◌}
 use native.Mathlib.Omega.{arith}
-use Rattle.heap.proofs.rooms.fill.Reads as reads
-use Rattle.heap.proofs.rooms.fill.Lts as lts
 use Rattle.heap.proofs.rooms.fill.Goals as goal
 
 pub loop-x-init : goal.loop-x-init

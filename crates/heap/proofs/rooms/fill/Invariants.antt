@@ -1,10 +1,6 @@
 -- The invariants and measures of `heap::rooms::fill`.
-use Rattle.heap.proofs.Marks.{filled_none, filled_more, filled_all}
 use Rattle.heap.specs.Rooms.{Filled}
 use Prim.Native.Nat.{◌≤◌, ◌-◌}
-use native.Mathlib.Omega.{arith}
-use Rattle.heap.proofs.rooms.fill.Reads as reads
-use Rattle.heap.proofs.rooms.fill.Lts as lts
 use Rattle.heap.proofs.rooms.fill.Given as goal
 
 abbrev pub invariant-loop-x : goal.invariant-loop-x

@@ -1,8 +1,5 @@
-use Rattle.heap.proofs.Marks.{Gapping, gap_start, gap_zero, gap_used, gap_found, gap_none}
-use Prim.Native.Nat.{◌≤◌, ◌-◌}
+use Rattle.heap.proofs.Marks.{gap_start, gap_zero, gap_used, gap_found, gap_none}
 use native.Mathlib.Omega.{arith}
-use Rattle.heap.proofs.rooms.gap.Reads as reads
-use Rattle.heap.proofs.rooms.gap.Lts as lts
 use Rattle.heap.proofs.rooms.gap.Goals as goal
 
 pub loop-x-init : goal.loop-x-init

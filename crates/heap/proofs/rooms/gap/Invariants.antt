@@ -1,9 +1,6 @@
 -- The invariants and measures of `heap::rooms::gap`.
-use Rattle.heap.proofs.Marks.{Gapping, gap_start, gap_zero, gap_used, gap_found, gap_none}
+use Rattle.heap.proofs.Marks.{Gapping}
 use Prim.Native.Nat.{◌≤◌, ◌-◌}
-use native.Mathlib.Omega.{arith}
-use Rattle.heap.proofs.rooms.gap.Reads as reads
-use Rattle.heap.proofs.rooms.gap.Lts as lts
 use Rattle.heap.proofs.rooms.gap.Given as goal
 
 abbrev pub invariant-loop-x : goal.invariant-loop-x

@@ -1,7 +1,5 @@
 use mathlib.Core.Logic.{inl, inr}
 use native.Mathlib.Omega.{arith}
-use Rattle.heap.proofs.rooms.larger.Reads as reads
-use Rattle.heap.proofs.rooms.larger.Lts as lts
 use Rattle.heap.proofs.rooms.larger.Goals as goal
 
 pub returns-then-a-b : goal.returns-then-a-b

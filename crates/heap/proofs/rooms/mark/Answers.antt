@@ -1,16 +1,8 @@
 use Rattle.heap.proofs.Marks.{marked_all}
 use Rattle.heap.proofs.Places.{end_below}
 use Rattle.heap.proofs.Marks.{marked_none, marked_more}
-use Rattle.heap.specs.Rooms.{Marked}
 use Rattle.heap.specs.Blocks.{entry_at, width_in}
-use mathlib.Core.Path.{◌∙◌, sym}
-use Prim.Native.Nat.{◌≤◌, ◌-◌}
 use native.Mathlib.Omega.{arith}
-use Rattle.heap.proofs.rooms.mark.Reads as reads
-use Rattle.heap.proofs.rooms.mark.Lts as lts
-use Rattle.heap.proofs.entries.entry_at.Reads as entry-at-reads
-use Rattle.heap.proofs.entries.width.Reads as width-reads
-use Rattle.heap.proofs.rooms.fill.Reads as fill-reads
 use Rattle.heap.proofs.rooms.mark.Goals as goal
 
 pub loop-i-init : goal.loop-i-init

@@ -1,11 +1,6 @@
 use Prim.Native.Nat.{ℕ}
 use Rattle.heap.proofs.Places.{fast_none, fast_some}
 use lib.ListN.{length-replicate, get_or-replicate}
-use native.Mathlib.Omega.{arith}
-use borrow.Author.Rules.{rules}
-use Rattle.heap.proofs.rooms.place.Reads as reads
-use Rattle.heap.proofs.rooms.place.Lts as lts
-use Rattle.heap.proofs.rooms.among.Reads as Among-Reads
 use Rattle.heap.proofs.rooms.place.Goals as goal
 
 pub returns-then-size-top : goal.returns-then-size-top

@@ -1,9 +1,4 @@
 use Rattle.heap.proofs.Marks.{risen_none, risen_more}
-use Rattle.heap.specs.Rooms.{Risen}
-use Prim.Native.Nat.{◌≤◌, ◌-◌}
-use native.Mathlib.Omega.{arith}
-use Rattle.heap.proofs.rooms.rise.Reads as reads
-use Rattle.heap.proofs.rooms.rise.Lts as lts
 use Rattle.heap.proofs.rooms.rise.Goals as goal
 
 pub loop-x-init : goal.loop-x-init

@@ -2,17 +2,11 @@ use Rattle.heap.proofs.Aimed.{listed_low}
 use Rattle.heap.proofs.Aimed.{aims_none, aims_number, aims_past, aims_whole, aims_beyond, field_inside, aims_field}
 use Rattle.heap.proofs.Search.{found_at, found_none}
 use Rattle.heap.specs.Blocks.{entry_at}
-use Rattle.heap.specs.declared.Found.TheVariants.{At, Nothing}
+use Rattle.heap.specs.declared.Found.TheVariants.{Nothing}
 use Rattle.heap.specs.declared.Found.{Found}
 use mathlib.Core.Path.{◌≡◌}
 use Prim.Native.Nat.{◌/◌}
 use native.Mathlib.Omega.{arith}
-use borrow.Author.Rules.{rules}
-use Rattle.heap.proofs.targets.target.Reads as reads
-use Rattle.heap.proofs.targets.target.Lts as lts
-use Rattle.heap.proofs.entries.entry_at.Reads as entry-at-reads
-use Rattle.heap.proofs.entries.find.Reads as find-reads
-use Rattle.memory.proofs.load8_padded.Reads as load8-padded-reads
 use Rattle.heap.proofs.targets.target.Goals as goal
 
 pub returns-in_default : goal.returns-in_default

@@ -1,7 +1,6 @@
 -- The proof of `keys::edition1::copy_word`.
 use native.Mathlib.Omega.{arith}
 use lib.ListN.{length-set}
-use borrow.Author.Rules.{rules}
 use Rattle.keys.proofs.edition1.copy_word.Goals as goal
 
 pub bounds-own-p-2 : goal.bounds-own-p-2

@@ -2,7 +2,6 @@
 use native.Mathlib.Omega.{arith}
 use borrow.Author.Tests.{lt-ltb, le-ltb, eq-eqb, ne_eqb}
 use Rattle.keys.proofs.Translation.{due_later, due_first}
-use borrow.Author.Rules.{rules}
 use Rattle.keys.proofs.edition1.due_after.Goals as goal
 
 pub returns-then-due-gt0 : goal.returns-then-due-gt0

@@ -1,6 +1,5 @@
 -- The proof of `keys::edition1::in_keys`.
 use borrow.Author.Tests.{eq-eqb, ne_eqb}
-use borrow.Author.Rules.{rules}
 use Rattle.keys.proofs.edition1.in_keys.Goals as goal
 
 pub returns-then-due-eq0 : goal.returns-then-due-eq0

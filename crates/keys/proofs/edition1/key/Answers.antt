@@ -4,7 +4,6 @@ use native.Mathlib.Omega.{arith}
 use mathlib.Core.Path.{◌≡◌, ◌∙◌}
 use borrow.Author.Tests.{lt-ltb, le-ltb}
 use Rattle.keys.proofs.Translation.{key_by_range, key_by_range_lem}
-use borrow.Author.Rules.{rules}
 use Rattle.keys.proofs.edition1.key.Goals as goal
 
 pub returns-then-b-lt5 : goal.returns-then-b-lt5

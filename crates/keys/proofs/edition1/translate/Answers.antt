@@ -5,7 +5,6 @@ use mathlib.Core.Path.{◌∙◌, subst}
 use lib.ListN.{length, length-set}
 use Rattle.rules.specs.Bytes.{byte}
 use Rattle.rules.specs.Instructions.{edition1, opcode_of}
-use borrow.Author.Rules.{rules}
 use Rattle.keys.proofs.Translation.{Translating, begins, again, goes_on, no_word, word_copied, ended}
 use Rattle.keys.proofs.edition1.translate.Goals as goal
 

@@ -1,12 +1,7 @@
 -- The invariants and measures of `keys::edition1::translate`.
-use Prim.Native.Nat.{◌-◌, ◌≤◌}
-use native.Mathlib.Omega.{arith}
-use mathlib.Core.Path.{◌∙◌, subst}
-use lib.ListN.{length, length-set}
-use Rattle.rules.specs.Bytes.{byte}
-use Rattle.rules.specs.Instructions.{edition1, opcode_of}
-use borrow.Author.Rules.{rules}
-use Rattle.keys.proofs.Translation.{Translating, begins, again, goes_on, no_word, word_copied, ended}
+use Prim.Native.Nat.{◌-◌}
+use lib.ListN.{length}
+use Rattle.keys.proofs.Translation.{Translating}
 use Rattle.keys.proofs.edition1.translate.Given as goal
 
 abbrev pub invariant-loop-p : goal.invariant-loop-p

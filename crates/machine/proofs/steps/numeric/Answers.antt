@@ -6,7 +6,6 @@ use Rattle.rules.specs.declared.Unary.TheVariants.{Copy}
 use Rattle.rules.specs.declared.Binary.TheVariants.{Swap, Arith}
 use Rattle.rules.specs.declared.Operator.TheVariants.{Add, Sub, Mul, Imul, Div, Idiv, Mod, Imod}
 use Rattle.machine.proofs.Arms.{alone, through}
-use borrow.Author.Rules.{rules}
 use Rattle.machine.proofs.steps.numeric.Goals as goal
 
 pub tload-requires : goal.tload-requires

@@ -1,7 +1,7 @@
 -- The proof of `machine::steps::single`.
 use mathlib.Core.Path.{refl}
 use mathlib.Core.Bool.{true, false}
-use Rattle.rules.specs.declared.Instruction.TheVariants.{New, One, Two}
+use Rattle.rules.specs.declared.Instruction.TheVariants.{One, Two}
 use Rattle.rules.specs.declared.Unary.TheVariants.{Pop, Neg, Not, Convert, Count}
 use Rattle.rules.specs.declared.Binary.TheVariants.{Arith, Cmp}
 use Rattle.rules.specs.declared.Operator.TheVariants.{And, Or, Xor, Shl, Sal, Shr, Sar}
@@ -9,7 +9,6 @@ use Rattle.rules.specs.declared.Num.TheVariants.{Int, Long, Double}
 use Rattle.keys.proofs.Chain.{unknown}
 use Rattle.machine.specs.Matches.{even, odd}
 use Rattle.machine.proofs.Arms.{alone, leaves_one, leaves_odd, no_other}
-use borrow.Author.Rules.{rules}
 use Rattle.machine.proofs.steps.single.Goals as goal
 
 pub pop-requires : goal.pop-requires

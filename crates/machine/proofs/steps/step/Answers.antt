@@ -4,7 +4,6 @@ use mathlib.Core.Path.{refl}
 use Rattle.rules.specs.declared.Instruction.TheVariants.{Push, Load, Store, Lea, Jmp, Branch, Call, Ret}
 use Rattle.rules.specs.declared.Condition.TheVariants.{Je, Jne, Ja, Jae, Jb, Jbe}
 use Rattle.machine.proofs.Arms.{wide, wide_or, wide_room, performed, stands_known}
-use borrow.Author.Rules.{rules}
 use Rattle.machine.proofs.steps.step.Goals as goal
 
 pub push-requires : goal.push-requires

@@ -1,5 +1,4 @@
 use Rattle.promises.proofs.NeedPromised.{host_need_keeps}
-use borrow.Author.Rules.{rules}
 use Rattle.measuring.proofs.host.host_need.Goals as goal
 
 pub returns : goal.returns

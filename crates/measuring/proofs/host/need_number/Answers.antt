@@ -1,5 +1,4 @@
 use mathlib.Core.Path.{refl}
-use borrow.Author.Rules.{rules}
 use Rattle.measuring.proofs.host.need_number.Goals as goal
 
 pub returns-in-Unreported : goal.returns-in-Unreported

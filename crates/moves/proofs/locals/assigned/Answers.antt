@@ -2,12 +2,6 @@ use Rattle.moves.proofs.LocalLaws.{assigned_21, assigned_26, assigned_22, assign
 use Rattle.state.proofs.Families.{payloads_are}
 use mathlib.Core.Path.{◌∙◌}
 use native.Mathlib.Omega.{arith}
-use borrow.Author.Rules.{rules}
-use Rattle.moves.proofs.locals.assigned.Reads as reads
-use Rattle.moves.proofs.locals.assigned.Lts as lts
-use Rattle.memory.proofs.store64.Reads as store64-reads
-use Rattle.state.proofs.moved.Reads as moved-reads
-use Rattle.state.proofs.slot_at.Reads as slot-at-reads
 use Rattle.moves.proofs.locals.assigned.Goals as goal
 
 pub returns-then-h-r : goal.returns-then-h-r

@@ -1,11 +1,6 @@
 use Rattle.moves.proofs.LocalLaws.{lea_25, lea_is}
 use native.Mathlib.Omega.{arith}
 use Prim.Native.Nat.{◌+◌}
-use borrow.Author.Rules.{rules}
-use Rattle.moves.proofs.locals.lea.Reads as reads
-use Rattle.moves.proofs.locals.lea.Lts as lts
-use Rattle.keys.proofs.operand.Reads as operand-reads
-use Rattle.moves.proofs.stack.pushed.Reads as pushed-reads
 use Rattle.moves.proofs.locals.lea.Goals as goal
 
 pub returns-then-f-a : goal.returns-then-f-a

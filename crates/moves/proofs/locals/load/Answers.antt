@@ -1,12 +1,6 @@
 use Rattle.moves.proofs.LocalLaws.{load_25, load_out, load_is}
 use native.Mathlib.Omega.{arith}
 use Prim.Native.Nat.{◌+◌}
-use borrow.Author.Rules.{rules}
-use Rattle.moves.proofs.locals.load.Reads as reads
-use Rattle.moves.proofs.locals.load.Lts as lts
-use Rattle.keys.proofs.operand.Reads as operand-reads
-use Rattle.moves.proofs.stack.pushed.Reads as pushed-reads
-use Rattle.state.proofs.slot_at.Reads as slot-at-reads
 use Rattle.moves.proofs.locals.load.Goals as goal
 
 pub returns-then-f-a : goal.returns-then-f-a

@@ -1,6 +1,5 @@
 -- The proof of `moves::locals::push`.
 use mathlib.Core.Path.{◌≡◌, sym, ap, ◌∙◌}
-use borrow.Author.Rules.{rules}
 use Rattle.reader.specs.declared.entries.FoundConstant.TheVariants.{Nothing}
 use Rattle.reader.specs.Answers.{slot_in}
 use Rattle.moves.proofs.LocalLaws.{pool_long, pool_is, push_23, push_is}

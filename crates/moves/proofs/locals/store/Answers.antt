@@ -6,12 +6,6 @@ use Rattle.state.specs.State.{bound_in}
 use Rattle.moves.proofs.LocalLaws.{store_is, store_26, store_16, store_21, store_binds}
 use native.Mathlib.Omega.{arith}
 use Prim.Native.Nat.{◌+◌}
-use borrow.Author.Rules.{rules}
-use Rattle.moves.proofs.locals.store.Reads as reads
-use Rattle.moves.proofs.locals.store.Lts as lts
-use Rattle.keys.proofs.operand.Reads as operand-reads
-use Rattle.moves.proofs.locals.assigned.Reads as assigned-reads
-use Rattle.state.proofs.bound.Reads as bound-reads
 use Rattle.moves.proofs.locals.store.Goals as goal
 
 pub overflow_cast-s : goal.overflow_cast-s

@@ -4,7 +4,6 @@ use mathlib.Core.Logic.{inl, inr}
 use Rattle.state.proofs.Outcomes.{deferring}
 use Rattle.state.proofs.Families.{kind_at, not_pointer, is_pointer_lem}
 use Rattle.moves.proofs.PointerLaws.{tload_21, tload_31, tload_is}
-use borrow.Author.Rules.{rules}
 use Rattle.moves.proofs.pointers.tload.Goals as goal
 
 pub returns-then-h-r : goal.returns-then-h-r

@@ -5,7 +5,6 @@ use mathlib.Core.Path.{◌∙◌}
 use Rattle.state.proofs.Outcomes.{deferring}
 use Rattle.state.proofs.Families.{kind_at, not_pointer, is_pointer_lem, payloads_are}
 use Rattle.moves.proofs.PointerLaws.{tstore_21, tstore_31, tstore_22, tstore_is}
-use borrow.Author.Rules.{rules}
 use Rattle.moves.proofs.pointers.tstore.Goals as goal
 
 pub returns-then-h-r : goal.returns-then-h-r

@@ -1,10 +1,5 @@
 use Rattle.moves.proofs.StackLaws.{copy_is}
 use Rattle.state.proofs.Families.{one_21}
-use borrow.Author.Rules.{rules}
-use Rattle.moves.proofs.stack.copy.Reads as reads
-use Rattle.moves.proofs.stack.copy.Lts as lts
-use Rattle.moves.proofs.stack.pushed.Reads as pushed-reads
-use Rattle.state.proofs.slot_at.Reads as slot-at-reads
 use Rattle.moves.proofs.stack.copy.Goals as goal
 
 pub returns-then-h-r : goal.returns-then-h-r

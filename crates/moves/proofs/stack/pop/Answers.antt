@@ -1,10 +1,6 @@
 use Rattle.moves.proofs.StackLaws.{pop_is}
 use Rattle.state.proofs.Families.{one_21}
 use native.Mathlib.Omega.{arith}
-use borrow.Author.Rules.{rules}
-use Rattle.moves.proofs.stack.pop.Reads as reads
-use Rattle.moves.proofs.stack.pop.Lts as lts
-use Rattle.state.proofs.moved.Reads as moved-reads
 use Rattle.moves.proofs.stack.pop.Goals as goal
 
 pub returns-then-h-r : goal.returns-then-h-r

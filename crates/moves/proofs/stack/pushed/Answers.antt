@@ -1,10 +1,5 @@
 use Rattle.moves.proofs.StackLaws.{pushed_full, pushed_top}
 use native.Mathlib.Omega.{arith}
-use borrow.Author.Rules.{rules}
-use Rattle.moves.proofs.stack.pushed.Reads as reads
-use Rattle.moves.proofs.stack.pushed.Lts as lts
-use Rattle.state.proofs.moved.Reads as moved-reads
-use Rattle.state.proofs.put_slot.Reads as put-slot-reads
 use Rattle.moves.proofs.stack.pushed.Goals as goal
 
 pub returns-then-cap-h : goal.returns-then-cap-h

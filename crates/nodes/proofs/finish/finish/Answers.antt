@@ -1,10 +1,8 @@
 use borrow.Author.Rules.{rules}
 use native.Mathlib.Omega.{arith}
 use mathlib.Core.Path.{◌≡◌, refl, ap, ◌∙◌}
-use lib.ListN.{length, get_or}
-use Prim.Native.Nat.{ℕ, ◌≤◌, ◌-◌}
-use Rattle.rules.specs.ModuleFile.{labels}
-use Rattle.nodes.specs.Nodes.{Finished}
+use lib.ListN.{get_or}
+use Prim.Native.Nat.{ℕ, ◌-◌}
 use Rattle.nodes.proofs.Shown.{finish_first, node_below, settle_fits, finish_on}
 use Rattle.nodes.proofs.finish.finish.Goals as goal
 

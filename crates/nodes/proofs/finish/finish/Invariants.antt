@@ -1,12 +1,9 @@
 -- The invariants and measures of `nodes::finish::finish`.
-use borrow.Author.Rules.{rules}
-use native.Mathlib.Omega.{arith}
-use mathlib.Core.Path.{◌≡◌, refl, ap, ◌∙◌}
-use lib.ListN.{length, get_or}
-use Prim.Native.Nat.{ℕ, ◌≤◌, ◌-◌}
+use mathlib.Core.Path.{◌≡◌}
+use lib.ListN.{length}
+use Prim.Native.Nat.{◌≤◌, ◌-◌}
 use Rattle.rules.specs.ModuleFile.{labels}
 use Rattle.nodes.specs.Nodes.{Finished}
-use Rattle.nodes.proofs.Shown.{finish_first, node_below, settle_fits, finish_on}
 use Rattle.nodes.proofs.finish.finish.Given as goal
 
 abbrev pub invariant-loop-i : goal.invariant-loop-i

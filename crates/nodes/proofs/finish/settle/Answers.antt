@@ -1,5 +1,4 @@
 use Rattle.nodes.proofs.Shown.{settled_none, settled_own, settled_record}
-use borrow.Author.Rules.{rules}
 use Rattle.nodes.proofs.finish.settle.Goals as goal
 
 pub returns-then-mark-eq0 : goal.returns-then-mark-eq0

@@ -2,7 +2,6 @@ use native.Mathlib.Omega.{arith}
 use mathlib.Core.Path.{ap}
 use Prim.Native.Nat.{ℕ, ◌+◌}
 use lib.ListN.{set, length-set}
-use borrow.Author.Rules.{rules}
 use Rattle.nodes.proofs.list.append.Goals as goal
 
 pub bounds-marks-n : goal.bounds-marks-n

@@ -3,7 +3,6 @@ use Rattle.nodes.specs.declared.list.Waiting.TheVariants.{Node}
 use mathlib.Core.Path.{ap, sym, ◌∙◌}
 use Prim.Native.Nat.{ℕ, ◌+◌}
 use lib.ListN.{get_or}
-use borrow.Author.Rules.{rules}
 use Rattle.nodes.proofs.list.first.Goals as goal
 
 pub returns-then-i-n : goal.returns-then-i-n

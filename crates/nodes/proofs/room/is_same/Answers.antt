@@ -1,6 +1,6 @@
-use Prim.Native.Nat.{◌≤◌, ◌-◌}
+use Prim.Native.Nat.{◌-◌}
 use native.Mathlib.Omega.{arith}
-use Rattle.nodes.proofs.Copies.{Compared, compare_none, compare_more, same_bytes, other_bytes}
+use Rattle.nodes.proofs.Copies.{compare_none, compare_more, same_bytes, other_bytes}
 use Rattle.nodes.proofs.room.is_same.Goals as goal
 
 pub loop-i-init : goal.loop-i-init

@@ -1,7 +1,6 @@
 -- The invariants and measures of `nodes::room::is_same`.
 use Prim.Native.Nat.{◌≤◌, ◌-◌}
-use native.Mathlib.Omega.{arith}
-use Rattle.nodes.proofs.Copies.{Compared, compare_none, compare_more, same_bytes, other_bytes}
+use Rattle.nodes.proofs.Copies.{Compared}
 use Rattle.nodes.proofs.room.is_same.Given as goal
 
 abbrev pub invariant-loop-i : goal.invariant-loop-i

@@ -1,8 +1,8 @@
 use Rattle.rules.specs.Bytes.{written}
-use lib.Seq.{paste, paste-zero}
-use lib.ListN.{length, drop, length-drop}
-use mathlib.Core.Path.{◌≡◌, refl, ap, ◌∙◌}
-use Prim.Native.Nat.{◌≤◌, ◌-◌, ◌+◌, ◌*◌, ◌/◌}
+use lib.Seq.{paste-zero}
+use lib.ListN.{drop, length-drop}
+use mathlib.Core.Path.{refl, ap, ◌∙◌}
+use Prim.Native.Nat.{◌-◌, ◌+◌}
 use native.Mathlib.Omega.{arith}
 use Rattle.nodes.proofs.Copies.{load_more, load_end, pasted_long}
 use Rattle.nodes.proofs.room.load.Goals as goal

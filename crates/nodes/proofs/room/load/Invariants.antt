@@ -1,11 +1,8 @@
 -- The invariants and measures of `nodes::room::load`.
-use Rattle.rules.specs.Bytes.{written}
-use lib.Seq.{paste, paste-zero}
-use lib.ListN.{length, drop, length-drop}
-use mathlib.Core.Path.{◌≡◌, refl, ap, ◌∙◌}
-use Prim.Native.Nat.{◌≤◌, ◌-◌, ◌+◌, ◌*◌, ◌/◌}
-use native.Mathlib.Omega.{arith}
-use Rattle.nodes.proofs.Copies.{load_more, load_end, pasted_long}
+use lib.Seq.{paste}
+use lib.ListN.{length, drop}
+use mathlib.Core.Path.{◌≡◌}
+use Prim.Native.Nat.{◌≤◌, ◌-◌, ◌*◌, ◌/◌}
 use Rattle.nodes.proofs.room.load.Given as goal
 
 abbrev pub invariant-loop-i : goal.invariant-loop-i

@@ -1,8 +1,7 @@
 use Rattle.rules.specs.Bytes.{written}
 use lib.Seq.{paste, paste-zero}
-use lib.ListN.{length}
 use mathlib.Core.Path.{◌≡◌, refl, ap, ◌∙◌}
-use Prim.Native.Nat.{ℕ, ◌≤◌, ◌-◌, ◌+◌, ◌*◌, ◌/◌}
+use Prim.Native.Nat.{ℕ, ◌-◌, ◌+◌}
 use native.Mathlib.Omega.{arith}
 use Rattle.nodes.proofs.Copies.{save_more, pasted_long}
 use Rattle.nodes.proofs.room.save.Goals as goal

@@ -1,11 +1,8 @@
 -- The invariants and measures of `nodes::room::save`.
-use Rattle.rules.specs.Bytes.{written}
-use lib.Seq.{paste, paste-zero}
+use lib.Seq.{paste}
 use lib.ListN.{length}
-use mathlib.Core.Path.{◌≡◌, refl, ap, ◌∙◌}
-use Prim.Native.Nat.{ℕ, ◌≤◌, ◌-◌, ◌+◌, ◌*◌, ◌/◌}
-use native.Mathlib.Omega.{arith}
-use Rattle.nodes.proofs.Copies.{save_more, pasted_long}
+use mathlib.Core.Path.{◌≡◌}
+use Prim.Native.Nat.{◌≤◌, ◌-◌, ◌*◌, ◌/◌}
 use Rattle.nodes.proofs.room.save.Given as goal
 
 abbrev pub invariant-loop-i : goal.invariant-loop-i

@@ -1,7 +1,7 @@
 use mathlib.Core.Path.{◌≡◌, refl, ap, ◌∙◌}
 use native.Mathlib.Omega.{arith}
-use Prim.Native.Nat.{ℕ, ◌≤◌, ◌-◌}
-use lib.ListN.{length, replicate, length-set}
+use Prim.Native.Nat.{ℕ, ◌-◌}
+use lib.ListN.{replicate, length-set}
 use lib.Seq.{paste, paste-zero}
 use Rattle.nodes.proofs.Copies.{zero_more}
 use Rattle.nodes.proofs.room.zero.Goals as goal

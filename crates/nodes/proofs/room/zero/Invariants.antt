@@ -1,10 +1,8 @@
 -- The invariants and measures of `nodes::room::zero`.
-use mathlib.Core.Path.{◌≡◌, refl, ap, ◌∙◌}
-use native.Mathlib.Omega.{arith}
-use Prim.Native.Nat.{ℕ, ◌≤◌, ◌-◌}
-use lib.ListN.{length, replicate, length-set}
-use lib.Seq.{paste, paste-zero}
-use Rattle.nodes.proofs.Copies.{zero_more}
+use mathlib.Core.Path.{◌≡◌}
+use Prim.Native.Nat.{◌≤◌, ◌-◌}
+use lib.ListN.{length, replicate}
+use lib.Seq.{paste}
 use Rattle.nodes.proofs.room.zero.Given as goal
 
 abbrev pub invariant-loop-i : goal.invariant-loop-i

@@ -1,7 +1,6 @@
 use mathlib.Core.Path.{◌≡◌}
-use Prim.Native.Nat.{◌≤◌, ◌-◌}
+use Prim.Native.Nat.{◌-◌}
 use native.Mathlib.Omega.{arith}
-use Rattle.nodes.specs.Nodes.{Copied}
 use Rattle.nodes.proofs.Seeds.{copied_none, copied_more}
 use Rattle.nodes.proofs.starts.copy_params.Goals as goal
 

@@ -1,9 +1,6 @@
 -- The invariants and measures of `nodes::starts::copy_params`.
-use mathlib.Core.Path.{◌≡◌}
 use Prim.Native.Nat.{◌≤◌, ◌-◌}
-use native.Mathlib.Omega.{arith}
 use Rattle.nodes.specs.Nodes.{Copied}
-use Rattle.nodes.proofs.Seeds.{copied_none, copied_more}
 use Rattle.nodes.proofs.starts.copy_params.Given as goal
 
 abbrev pub invariant-loop-i : goal.invariant-loop-i

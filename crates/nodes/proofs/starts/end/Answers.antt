@@ -1,7 +1,6 @@
 use native.Mathlib.Omega.{arith}
 use Rattle.reader.proofs.Records.{function_in_file, stride_small}
 use Rattle.nodes.proofs.Bounds.{entry_end_lem, function_number, function_end}
-use borrow.Author.Rules.{rules}
 use Rattle.nodes.proofs.starts.end.Goals as goal
 
 pub returns-then-owner-eq4294967295 : goal.returns-then-owner-eq4294967295

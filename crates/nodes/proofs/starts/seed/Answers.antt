@@ -3,7 +3,6 @@ use mathlib.Core.Path.{◌∙◌, sym}
 use native.Mathlib.Omega.{arith}
 use Rattle.reader.proofs.Records.{function_in_file, stride_small}
 use Rattle.nodes.proofs.Bounds.{function_number}
-use borrow.Author.Rules.{rules}
 use Rattle.nodes.proofs.starts.seed.Goals as goal
 
 pub returns-then-owner-eq4294967295 : goal.returns-then-owner-eq4294967295

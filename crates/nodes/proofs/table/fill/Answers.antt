@@ -1,9 +1,8 @@
-use Rattle.nodes.proofs.Numbering.{Filled, filled_first, filled_next, filled_all, place_fits}
-use Rattle.rules.specs.ModuleFile.{labels}
-use lib.ListN.{length, length-set}
+use Rattle.nodes.proofs.Numbering.{filled_first, filled_next, filled_all, place_fits}
+use lib.ListN.{length-set}
 use native.Mathlib.Omega.{arith}
 use mathlib.Core.Path.{◌≡◌, refl, ◌∙◌}
-use Prim.Native.Nat.{◌≤◌, ◌-◌}
+use Prim.Native.Nat.{◌-◌}
 use Rattle.nodes.proofs.table.fill.Goals as goal
 
 pub loop-i-init : goal.loop-i-init

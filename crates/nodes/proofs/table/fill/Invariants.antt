@@ -1,9 +1,8 @@
 -- The invariants and measures of `nodes::table::fill`.
-use Rattle.nodes.proofs.Numbering.{Filled, filled_first, filled_next, filled_all, place_fits}
+use Rattle.nodes.proofs.Numbering.{Filled}
 use Rattle.rules.specs.ModuleFile.{labels}
-use lib.ListN.{length, length-set}
-use native.Mathlib.Omega.{arith}
-use mathlib.Core.Path.{◌≡◌, refl, ◌∙◌}
+use lib.ListN.{length}
+use mathlib.Core.Path.{◌≡◌}
 use Prim.Native.Nat.{◌≤◌, ◌-◌}
 use Rattle.nodes.proofs.table.fill.Given as goal
 

@@ -1,7 +1,6 @@
 use native.Mathlib.Omega.{arith}
 use mathlib.Core.Path.{◌∙◌}
 use Rattle.nodes.proofs.Numbering.{place_word, label_in_code}
-use borrow.Author.Rules.{rules}
 use Rattle.nodes.proofs.table.place_of.Goals as goal
 
 pub returns : goal.returns

@@ -2,7 +2,6 @@
 use mathlib.Core.Bool.{false}
 use mathlib.Core.Path.{refl, ap, ◌∙◌}
 use borrow.Author.Tests.{ne_eqb}
-use borrow.Author.Rules.{rules}
 use Rattle.rules.specs.declared.Binary.TheVariants.{Cmp}
 use Rattle.values.specs.Values.{value_of}
 use Rattle.state.proofs.Families.{two_21}

@@ -1,6 +1,5 @@
 -- `operands::operators::imul` meets its contract. Assumes nothing.
 use native.Mathlib.Omega.{arith}
-use borrow.Author.Rules.{rules}
 use Rattle.rules.specs.declared.Operator.TheVariants.{Imul}
 use Rattle.operands.proofs.OperandLaws.{alike, refused, two_like}
 use Rattle.operands.proofs.operators.imul.Goals as goal

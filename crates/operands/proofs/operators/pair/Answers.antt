@@ -1,6 +1,5 @@
 -- `operands::operators::pair` meets its contract. Assumes nothing.
 use mathlib.Core.Path.{ap, ◌∙◌}
-use borrow.Author.Rules.{rules}
 use Rattle.rules.specs.declared.Binary.TheVariants.{Arith}
 use Rattle.values.specs.Values.{value_of}
 use Rattle.state.proofs.Families.{two_21}

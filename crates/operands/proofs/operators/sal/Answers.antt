@@ -1,6 +1,5 @@
 -- `operands::operators::sal` meets its contract. Assumes nothing.
 use native.Mathlib.Omega.{arith}
-use borrow.Author.Rules.{rules}
 use Rattle.rules.specs.declared.Operator.TheVariants.{Sal}
 use Rattle.operands.proofs.OperandLaws.{alike, refused, two_like}
 use Rattle.operands.proofs.operators.sal.Goals as goal

@@ -1,6 +1,5 @@
 -- `operands::operators::unlike` meets its contract. Assumes nothing.
 use mathlib.Core.Path.{refl}
-use borrow.Author.Tests.{eq-eqb, ne_eqb}
 use Rattle.operands.proofs.OperandLaws.{unlike_is}
 use Rattle.operands.proofs.operators.unlike.Goals as goal
 

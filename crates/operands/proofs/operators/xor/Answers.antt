@@ -1,6 +1,5 @@
 -- `operands::operators::xor` meets its contract. Assumes nothing.
 use native.Mathlib.Omega.{arith}
-use borrow.Author.Rules.{rules}
 use Rattle.rules.specs.declared.Operator.TheVariants.{Xor}
 use Rattle.operands.proofs.OperandLaws.{alike, refused, two_like}
 use Rattle.operands.proofs.operators.xor.Goals as goal

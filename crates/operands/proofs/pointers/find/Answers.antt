@@ -6,7 +6,6 @@ use Rattle.rules.specs.Instructions.{is_pointer}
 use Rattle.rules.specs.declared.Slot.{Slot}
 use native.Mathlib.Omega.{arith}
 use mathlib.Core.Path.{sym, ap, ◌∙◌}
-use borrow.Author.Rules.{rules}
 use Rattle.operands.proofs.pointers.find.Goals as goal
 
 pub returns-then-h-r : goal.returns-then-h-r

@@ -1,7 +1,6 @@
 -- `operands::pointers::inc` meets its contract. Assumes nothing.
 use mathlib.Core.Bool.{true}
 use native.Mathlib.Omega.{arith}
-use borrow.Author.Rules.{rules}
 use Rattle.operands.proofs.PointerLaws.{points, nowhere, bump_put}
 use Rattle.operands.proofs.pointers.inc.Goals as goal
 

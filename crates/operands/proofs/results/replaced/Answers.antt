@@ -2,7 +2,6 @@
 use mathlib.Core.Path.{refl, ap, ◌∙◌, subst}
 use Prim.Native.Nat.{◌^◌, ◌<◌}
 use native.Mathlib.Omega.{arith}
-use borrow.Author.Rules.{rules}
 use Rattle.rules.specs.declared.Slot.{Slot}
 use Rattle.state.specs.declared.Progress.TheVariants.{Goes}
 use Rattle.state.specs.Slots.{payloads_with, types_with}

@@ -2,7 +2,6 @@
 use mathlib.Core.Path.{refl, ap, ◌∙◌, subst}
 use Prim.Native.Nat.{ℕ, ◌^◌, ◌<◌}
 use native.Mathlib.Omega.{arith}
-use borrow.Author.Rules.{rules}
 use Rattle.state.specs.declared.Progress.TheVariants.{Goes}
 use Rattle.state.specs.Slots.{payloads_with}
 use Rattle.rules.specs.Bytes.{written}

@@ -1,7 +1,6 @@
 -- `operands::single::dec` meets its contract. Assumes nothing.
 use mathlib.Core.Path.{ap, ◌∙◌}
 use mathlib.Core.Bool.{false}
-use borrow.Author.Rules.{rules}
 use Rattle.rules.specs.declared.Unary.TheVariants.{Count}
 use Rattle.values.specs.Values.{value_of}
 use Rattle.state.proofs.Families.{one_21}

@@ -1,6 +1,5 @@
 -- `operands::single::neg` meets its contract. Assumes nothing.
 use mathlib.Core.Path.{ap, ◌∙◌}
-use borrow.Author.Rules.{rules}
 use Rattle.rules.specs.declared.Unary.TheVariants.{Neg}
 use Rattle.values.specs.Values.{value_of}
 use Rattle.state.proofs.Families.{one_21}

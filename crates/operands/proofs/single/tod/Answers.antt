@@ -1,7 +1,6 @@
 -- `operands::single::tod` meets its contract. Assumes nothing.
 use mathlib.Core.Path.{ap, ◌∙◌}
 use mathlib.Core.Bool.{false}
-use borrow.Author.Rules.{rules}
 use Rattle.rules.specs.declared.Num.TheVariants.{Double as double}
 use Rattle.rules.specs.declared.Unary.TheVariants.{Convert}
 use Rattle.values.specs.Values.{value_of}

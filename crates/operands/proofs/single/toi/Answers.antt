@@ -1,6 +1,5 @@
 -- `operands::single::toi` meets its contract. Assumes nothing.
 use mathlib.Core.Path.{ap, ◌∙◌}
-use borrow.Author.Rules.{rules}
 use Rattle.rules.specs.declared.Num.TheVariants.{Int as int}
 use Rattle.rules.specs.declared.Unary.TheVariants.{Convert}
 use Rattle.values.specs.Values.{value_of}

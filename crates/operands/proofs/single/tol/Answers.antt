@@ -1,6 +1,5 @@
 -- `operands::single::tol` meets its contract. Assumes nothing.
 use mathlib.Core.Path.{ap, ◌∙◌}
-use borrow.Author.Rules.{rules}
 use Rattle.rules.specs.declared.Num.TheVariants.{Long as long}
 use Rattle.rules.specs.declared.Unary.TheVariants.{Convert}
 use Rattle.values.specs.Values.{value_of}

@@ -1,8 +1,7 @@
 -- The proof of `reader::blocks::all_bare`.
-use Prim.Native.Nat.{◌-◌, ◌≤◌}
+use Prim.Native.Nat.{◌-◌}
 use native.Mathlib.Omega.{arith}
 use mathlib.Core.Path.{◌≡◌, ◌∙◌, ap}
-use borrow.Author.Rules.{rules}
 use Rattle.reader.proofs.BareRuns.{bare_none, bare_next}
 use Rattle.reader.specs.Cut.{all_bare}
 use Rattle.reader.proofs.blocks.all_bare.Goals as goal

@@ -1,10 +1,7 @@
 -- The invariants and measures of `reader::blocks::mark_block`.
 use Prim.Native.Nat.{◌-◌, ◌≤◌}
-use native.Mathlib.Omega.{arith}
-use mathlib.Core.Bool.{true≢false}
-use mathlib.Core.Path.{◌≡◌, refl, sym, ◌∙◌, ap}
+use mathlib.Core.Path.{◌≡◌}
 use lib.ListN.{length}
-use Rattle.reader.proofs.BareRuns.{length_marks, marks_none, marks_next, marks_out}
 use Rattle.reader.specs.Cut.{marks}
 use Rattle.reader.proofs.blocks.mark_block.Given as goal
 

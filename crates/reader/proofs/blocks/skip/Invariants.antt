@@ -1,12 +1,8 @@
 -- The invariants and measures of `reader::blocks::skip`.
-use Prim.Native.Nat.{ℕ, ◌+◌, ◌-◌, ◌≤◌}
-use native.Mathlib.Omega.{arith}
-use mathlib.Core.List.{List}
-use mathlib.Core.Path.{◌≡◌, refl, sym, ◌∙◌, ap, subst}
+use Prim.Native.Nat.{◌-◌, ◌≤◌}
+use mathlib.Core.Path.{◌≡◌}
 use lib.ListN.{length}
-use borrow.Author.Tests.{not-true, not-false}
-use Rattle.reader.proofs.BareRuns.{length_marks, cut_run}
-use Rattle.reader.specs.Cut.{Cut, marks}
+use Rattle.reader.specs.Cut.{Cut}
 use Rattle.reader.proofs.blocks.skip.Given as goal
 
 abbrev pub invariant-loop-p : goal.invariant-loop-p

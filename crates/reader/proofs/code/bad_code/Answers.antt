@@ -1,18 +1,15 @@
 -- The proof of `reader::code::bad_code`.
-use Prim.Native.Nat.{ℕ, ◌+◌, ◌*◌, ◌-◌, ◌≤◌}
+use Prim.Native.Nat.{ℕ, ◌+◌, ◌*◌, ◌-◌}
 use native.Mathlib.Omega.{arith}
-use mathlib.Core.Bool.{true≢false, false}
+use mathlib.Core.Bool.{true≢false}
 use mathlib.Core.List.{[]}
 use mathlib.Core.Path.{◌≡◌, refl, ap, ◌∙◌}
-use lib.ListN.{length}
 use borrow.Author.Tests.{not-true, not-false}
-use borrow.Author.Rules.{rules}
 use Rattle.format.proofs.Strides.{stride_under, record_from}
 use Rattle.reader.proofs.Bodies.{cut_none, failed, passed, end_first, end_next, end_inside, bad_body, at_end_lem, good_bodies, crossed_more}
 use Rattle.reader.proofs.Starts.{starts_exactly}
-use Rattle.reader.specs.Cut.{Cut}
 use Rattle.rules.specs.Bytes.{word, some_below}
-use Rattle.rules.specs.Tables.{Bodies, bodies, function_count, crossed, end_before}
+use Rattle.rules.specs.Tables.{Bodies, bodies, function_count, end_before}
 use Rattle.reader.proofs.code.bad_code.Goals as goal
 
 pub loop-edition-init : goal.loop-edition-init

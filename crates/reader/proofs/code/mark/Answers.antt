@@ -1,7 +1,6 @@
 -- The proof of `reader::code::mark`.
 use mathlib.Core.Path.{sym}
 use lib.Seq.{set_out}
-use borrow.Author.Rules.{rules}
 use Rattle.reader.proofs.code.mark.Goals as goal
 
 pub returns : goal.returns

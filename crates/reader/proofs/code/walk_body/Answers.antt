@@ -1,16 +1,13 @@
 -- The proof of `reader::code::walk_body`.
-use Prim.Native.Nat.{ℕ, ◌+◌, ◌-◌, ◌<◌, ◌≤◌}
+use Prim.Native.Nat.{ℕ, ◌+◌, ◌-◌, ◌<◌}
 use native.Mathlib.Omega.{arith}
 use mathlib.Core.Bool.{true}
 use mathlib.Core.List.{List}
-use mathlib.Core.Logic.{⊎_elim}
 use mathlib.Core.Path.{◌≡◌, refl, sym, ◌∙◌, ap, subst}
 use lib.Dec.{eqb}
 use lib.ListN.{length, length-set, set}
-use borrow.Author.Rules.{rules}
 use Rattle.reader.proofs.Cuts.{cut_step, crosses, walked, stopped}
 use Rattle.reader.specs.Cut.{Cut, Walked}
-use Rattle.rules.specs.Tables.{due, differs}
 use Rattle.reader.proofs.code.walk_body.Goals as goal
 use Rattle.reader.proofs.code.walk_body.Goals.{then-size-eq1, else-size-eq1, else-loop-p-test, then-loop-p-test+then-size-eq0}
 

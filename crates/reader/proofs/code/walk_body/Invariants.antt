@@ -1,15 +1,9 @@
 -- The invariants and measures of `reader::code::walk_body`.
-use Prim.Native.Nat.{ℕ, ◌+◌, ◌-◌, ◌<◌, ◌≤◌}
-use native.Mathlib.Omega.{arith}
+use Prim.Native.Nat.{◌-◌, ◌<◌, ◌≤◌}
 use mathlib.Core.Bool.{true}
-use mathlib.Core.List.{List}
-use mathlib.Core.Logic.{⊎_elim}
-use mathlib.Core.Path.{◌≡◌, refl, sym, ◌∙◌, ap, subst}
-use lib.Dec.{eqb}
-use lib.ListN.{length, length-set, set}
-use borrow.Author.Rules.{rules}
-use Rattle.reader.proofs.Cuts.{cut_step, crosses, walked, stopped}
-use Rattle.reader.specs.Cut.{Cut, Walked}
+use mathlib.Core.Path.{◌≡◌}
+use lib.ListN.{length}
+use Rattle.reader.specs.Cut.{Cut}
 use Rattle.rules.specs.Tables.{due, differs}
 use Rattle.reader.proofs.code.walk_body.Given as goal
 

@@ -6,7 +6,6 @@ use mathlib.Core.List.{List}
 use lib.Dec.{ltb}
 use lib.ListN.{length, drop, length-drop}
 use lib.Seq.{take_all}
-use borrow.Author.Rules.{rules}
 use Rattle.rules.specs.Bytes.{within}
 use Rattle.rules.specs.Tables.{constant_of}
 use Rattle.reader.proofs.Pool.{pool_constant}

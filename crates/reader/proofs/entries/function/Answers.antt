@@ -5,10 +5,6 @@ use borrow.Author.Tests.{lt-ltb, le-ltb}
 use mathlib.Core.Path.{refl}
 use native.Mathlib.Omega.{arith}
 use Prim.Native.Nat.{◌+◌, ◌*◌, ◌<◌, ◌≤◌}
-use borrow.Author.Rules.{rules}
-use Rattle.reader.proofs.entries.function.Reads as reads
-use Rattle.reader.proofs.entries.function.Lts as lts
-use Rattle.format.proofs.word.Reads as word-reads
 use Rattle.reader.proofs.entries.function.Goals as goal
 
 pub returns-then-c-k : goal.returns-then-c-k

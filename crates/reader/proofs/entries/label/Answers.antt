@@ -1,7 +1,6 @@
 -- The proof of `reader::entries::label`.
 use Prim.Native.Nat.{◌<◌, ◌≤◌}
 use native.Mathlib.Omega.{arith}
-use borrow.Author.Rules.{rules}
 use borrow.Author.Tests.{lt-ltb, le-ltb}
 use Rattle.reader.proofs.Records.{labels_length, label_found}
 use Rattle.rules.specs.ModuleFile.{labels_in}

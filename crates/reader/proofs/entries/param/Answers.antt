@@ -8,8 +8,6 @@ use mathlib.Core.Path.{◌≡◌, sym, ◌∙◌, ap}
 use mathlib.Core.Option.{some}
 use native.Mathlib.Omega.{arith}
 use Prim.Native.Nat.{ℕ, ◌+◌, ◌*◌}
-use Rattle.reader.proofs.entries.param.Reads as reads
-use Rattle.reader.proofs.entries.param.Lts as lts
 use Rattle.reader.proofs.entries.param.Goals as goal
 
 pub overflow_mul-at : goal.overflow_mul-at

@@ -1,5 +1,4 @@
 -- The proof of `reader::entries::pooled`.
-use borrow.Author.Rules.{rules}
 use borrow.Author.Tests.{lt-ltb, le-ltb}
 use Rattle.rules.specs.Tables.{constant_of}
 use Rattle.reader.proofs.entries.pooled.Goals as goal

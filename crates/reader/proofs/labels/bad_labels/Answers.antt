@@ -1,11 +1,9 @@
 -- The proof of `reader::labels::bad_labels`.
-use Prim.Native.Nat.{◌≤◌, ◌-◌}
+use Prim.Native.Nat.{◌-◌}
 use native.Mathlib.Omega.{arith}
-use mathlib.Core.List.{[]}
-use mathlib.Core.Path.{◌≡◌, refl}
+use mathlib.Core.Path.{refl}
 use Rattle.format.proofs.Gathered.{some_none, some_more, some_end}
-use Rattle.rules.specs.Bytes.{some_below}
-use Rattle.rules.specs.Tables.{bodies, bad_label, bad_labels}
+use Rattle.rules.specs.Tables.{bad_labels}
 use Rattle.reader.proofs.labels.bad_labels.Goals as goal
 
 pub loop-i-init : goal.loop-i-init

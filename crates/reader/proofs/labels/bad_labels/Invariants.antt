@@ -1,11 +1,9 @@
 -- The invariants and measures of `reader::labels::bad_labels`.
 use Prim.Native.Nat.{◌≤◌, ◌-◌}
-use native.Mathlib.Omega.{arith}
 use mathlib.Core.List.{[]}
-use mathlib.Core.Path.{◌≡◌, refl}
-use Rattle.format.proofs.Gathered.{some_none, some_more, some_end}
+use mathlib.Core.Path.{◌≡◌}
 use Rattle.rules.specs.Bytes.{some_below}
-use Rattle.rules.specs.Tables.{bodies, bad_label, bad_labels}
+use Rattle.rules.specs.Tables.{bodies, bad_label}
 use Rattle.reader.proofs.labels.bad_labels.Given as goal
 
 abbrev pub invariant-loop-i : goal.invariant-loop-i

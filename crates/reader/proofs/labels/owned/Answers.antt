@@ -2,7 +2,6 @@
 use Rattle.reader.proofs.Bodies.{owns_function, owns_entry}
 use Rattle.format.proofs.Strides.{stride_under, record_from}
 use native.Mathlib.Omega.{arith}
-use borrow.Author.Rules.{rules}
 use Rattle.reader.proofs.labels.owned.Goals as goal
 
 pub overflow_mul-at : goal.overflow_mul-at

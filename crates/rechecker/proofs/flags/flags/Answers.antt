@@ -1,11 +1,9 @@
 use Rattle.rechecker.proofs.Laws.{flagged_none, flagged_more, flags_end, still_ready}
-use Rattle.rechecker.specs.Flags.{flagged}
 use Rattle.rules.specs.ModuleFile.{read}
 use lib.ListN.{length, length-set}
-use Prim.Native.Nat.{◌≤◌, ◌-◌}
-use mathlib.Core.Path.{◌≡◌, refl, ap, ◌∙◌}
+use Prim.Native.Nat.{◌-◌}
+use mathlib.Core.Path.{refl, ap, ◌∙◌}
 use native.Mathlib.Omega.{arith}
-use borrow.Author.Rules.{rules}
 use Rattle.rechecker.proofs.flags.flags.Goals as goal
 
 pub loop-i-init : goal.loop-i-init

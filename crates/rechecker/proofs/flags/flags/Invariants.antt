@@ -1,12 +1,9 @@
 -- The invariants and measures of `rechecker::flags::flags`.
-use Rattle.rechecker.proofs.Laws.{flagged_none, flagged_more, flags_end, still_ready}
 use Rattle.rechecker.specs.Flags.{flagged}
 use Rattle.rules.specs.ModuleFile.{read}
-use lib.ListN.{length, length-set}
+use lib.ListN.{length}
 use Prim.Native.Nat.{◌≤◌, ◌-◌}
-use mathlib.Core.Path.{◌≡◌, refl, ap, ◌∙◌}
-use native.Mathlib.Omega.{arith}
-use borrow.Author.Rules.{rules}
+use mathlib.Core.Path.{◌≡◌}
 use Rattle.rechecker.proofs.flags.flags.Given as goal
 
 abbrev pub invariant-loop-i : goal.invariant-loop-i

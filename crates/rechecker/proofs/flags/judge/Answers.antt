@@ -3,7 +3,6 @@ use mathlib.Core.Path.{refl}
 use Prim.Native.Nat.{ℕ}
 use Rattle.nodes.proofs.Copies.{zeros_at}
 use Rattle.rechecker.proofs.Laws.{fresh_works, judged}
-use borrow.Author.Rules.{rules}
 use Rattle.rechecker.proofs.flags.judge.Goals as goal
 
 pub check_body-requires : goal.check_body-requires

@@ -1,7 +1,5 @@
 use Rattle.checker.proofs.Lent.{part_long, lent_first}
-use mathlib.Core.Path.{◌≡◌, refl, sym, ◌∙◌, ap}
 use native.Mathlib.Omega.{arith}
-use borrow.Author.Rules.{rules}
 use Rattle.rechecker.proofs.flags.old_with_large_table.Goals as goal
 
 pub slice_bounds-translate-count : goal.slice_bounds-translate-count

@@ -1,8 +1,7 @@
 use Rattle.checker.proofs.Lent.{lent_file}
 use Rattle.transfer.proofs.Structures.{header_long}
-use mathlib.Core.Path.{◌≡◌, refl, sym, ◌∙◌, ap}
+use mathlib.Core.Path.{sym, ◌∙◌}
 use native.Mathlib.Omega.{arith}
-use borrow.Author.Rules.{rules}
 use Rattle.rechecker.proofs.flags.set_flags.Goals as goal
 
 pub word-edition-requires : goal.word-edition-requires

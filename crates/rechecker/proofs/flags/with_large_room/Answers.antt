@@ -1,7 +1,6 @@
 use Rattle.rechecker.proofs.Laws.{ready_new}
 use mathlib.Core.Path.{refl}
 use native.Mathlib.Omega.{arith}
-use borrow.Author.Rules.{rules}
 use Rattle.rechecker.proofs.flags.with_large_room.Goals as goal
 
 pub slice_bounds-flags-end : goal.slice_bounds-flags-end

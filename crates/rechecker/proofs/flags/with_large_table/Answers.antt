@@ -1,7 +1,6 @@
 use Rattle.nodes.proofs.Copies.{zeros_at}
-use mathlib.Core.Path.{◌≡◌, refl, sym, ◌∙◌, ap}
+use mathlib.Core.Path.{refl}
 use native.Mathlib.Omega.{arith}
-use borrow.Author.Rules.{rules}
 use Rattle.rechecker.proofs.flags.with_large_table.Goals as goal
 
 pub slice_bounds-with_table-end : goal.slice_bounds-with_table-end

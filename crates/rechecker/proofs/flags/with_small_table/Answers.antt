@@ -1,7 +1,5 @@
 use Rattle.nodes.proofs.Copies.{zeros_at}
-use mathlib.Core.Path.{◌≡◌, refl, sym, ◌∙◌, ap}
-use native.Mathlib.Omega.{arith}
-use borrow.Author.Rules.{rules}
+use mathlib.Core.Path.{refl}
 use Rattle.rechecker.proofs.flags.with_small_table.Goals as goal
 
 pub slice_bounds-with_table-end : goal.slice_bounds-with_table-end

@@ -1,6 +1,3 @@
-use mathlib.Core.Path.{◌≡◌, refl, sym, ◌∙◌, ap}
-use native.Mathlib.Omega.{arith}
-use borrow.Author.Rules.{rules}
 use Rattle.rechecker.proofs.flags.with_table.Goals as goal
 
 pub fill-requires : goal.fill-requires

@@ -1,8 +1,7 @@
 use Rattle.checker.proofs.Lent.{lent_file}
 use Rattle.transfer.proofs.Structures.{header_long}
-use mathlib.Core.Path.{sym, ◌∙◌}
+use mathlib.Core.Path.{◌∙◌}
 use native.Mathlib.Omega.{arith}
-use borrow.Author.Rules.{rules}
 use Rattle.rechecker.proofs.recording.check_and_record.Goals as goal
 
 pub word-edition-requires : goal.word-edition-requires

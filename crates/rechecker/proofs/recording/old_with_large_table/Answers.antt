@@ -1,6 +1,5 @@
 use Rattle.checker.proofs.Lent.{part_long, lent_first}
 use native.Mathlib.Omega.{arith}
-use borrow.Author.Rules.{rules}
 use Rattle.rechecker.proofs.recording.old_with_large_table.Goals as goal
 
 pub translate-requires : goal.translate-requires

@@ -1,7 +1,6 @@
 use native.Mathlib.Omega.{arith}
 use mathlib.Core.Path.{refl}
 use Rattle.rechecker.proofs.Laws.{not_refused, recording_flags, recording_ones, lends_all}
-use borrow.Author.Rules.{rules}
 use Rattle.rechecker.proofs.recording.record_with.Goals as goal
 
 pub set_flags-requires : goal.set_flags-requires

@@ -1,6 +1,5 @@
 use native.Mathlib.Omega.{arith}
 use Rattle.nodes.proofs.Copies.{zeros_at}
-use borrow.Author.Rules.{rules}
 use Rattle.rechecker.proofs.recording.with_large_table.Goals as goal
 
 pub record_with-requires : goal.record_with-requires

@@ -1,5 +1,4 @@
 use Rattle.nodes.proofs.Copies.{zeros_at}
-use borrow.Author.Rules.{rules}
 use Rattle.rechecker.proofs.recording.with_middle_table.Goals as goal
 
 pub record_with-requires : goal.record_with-requires

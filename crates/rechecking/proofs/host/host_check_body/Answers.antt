@@ -1,5 +1,4 @@
 use Rattle.promises.specs.RecordingPromised.{host_recheck_keeps}
-use borrow.Author.Rules.{rules}
 use Rattle.rechecking.proofs.host.host_check_body.Goals as goal
 
 pub returns : goal.returns

@@ -1,5 +1,4 @@
 use mathlib.Core.Path.{refl}
-use borrow.Author.Rules.{rules}
 use Rattle.rechecking.proofs.host.recording_number.Goals as goal
 
 pub returns-in-Unrecorded : goal.returns-in-Unrecorded

@@ -1,5 +1,4 @@
 -- The proof of `records::locals::bind`.
-use borrow.Author.Rules.{rules}
 use Rattle.records.proofs.Edits.{binds}
 use Rattle.records.proofs.locals.bind.Goals as goal
 

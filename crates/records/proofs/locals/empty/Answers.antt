@@ -2,8 +2,7 @@
 use Prim.Native.Nat.{ℕ}
 use mathlib.Core.Path.{sym, ◌∙◌}
 use lib.ListN.{length-set}
-use borrow.Author.Rules.{rules}
-use Rattle.records.proofs.Edits.{Emptying, empty_starts, empty_again, empty_ends}
+use Rattle.records.proofs.Edits.{empty_starts, empty_again, empty_ends}
 use Rattle.records.proofs.locals.empty.Goals as goal
 
 pub loop-n-init : goal.loop-n-init

@@ -1,9 +1,5 @@
 -- The invariants and measures of `records::locals::empty`.
-use Prim.Native.Nat.{ℕ}
-use mathlib.Core.Path.{sym, ◌∙◌}
-use lib.ListN.{length-set}
-use borrow.Author.Rules.{rules}
-use Rattle.records.proofs.Edits.{Emptying, empty_starts, empty_again, empty_ends}
+use Rattle.records.proofs.Edits.{Emptying}
 use Rattle.records.proofs.locals.empty.Given as goal
 
 abbrev pub invariant-loop-n : goal.invariant-loop-n

@@ -1,6 +1,5 @@
 -- The proof of `records::locals::lea`.
 use native.Mathlib.Omega.{arith}
-use borrow.Author.Rules.{rules}
 use Rattle.soundness.specs.Readable.{pointer_back}
 use Rattle.records.proofs.LocalLaws.{no_local, lea_pointer, lea_full, lea_falls}
 use Rattle.records.proofs.locals.lea.Goals as goal

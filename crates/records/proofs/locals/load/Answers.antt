@@ -1,6 +1,5 @@
 -- The proof of `records::locals::load`.
 use native.Mathlib.Omega.{arith}
-use borrow.Author.Rules.{rules}
 use Rattle.records.proofs.LocalLaws.{local_type, no_local, load_full, load_falls}
 use Rattle.records.proofs.locals.load.Goals as goal
 

@@ -1,7 +1,6 @@
 -- The proof of `records::locals::store`.
 use native.Mathlib.Omega.{arith}
 use mathlib.Core.Path.{refl}
-use borrow.Author.Rules.{rules}
 use Rattle.records.specs.Laws.{top_type}
 use Rattle.records.proofs.LocalLaws.{store_empty, store_differs, store_falls, store_beyond, store_17th, store_binds}
 use Rattle.records.proofs.locals.store.Goals as goal

@@ -3,7 +3,6 @@ use mathlib.Core.Path.{refl}
 use Rattle.rules.specs.declared.Binary.TheVariants.{Arith}
 use Rattle.rules.specs.Operations.{class_of}
 use Rattle.records.proofs.OperandLaws.{greatest_takes, two_few, two_differ, two_refused, two_arith}
-use borrow.Author.Rules.{rules}
 use Rattle.records.proofs.operands.arith.Goals as goal
 
 pub returns-then-h-lt2 : goal.returns-then-h-lt2

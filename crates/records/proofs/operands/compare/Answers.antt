@@ -3,7 +3,6 @@ use Rattle.records.proofs.OperandLaws.{two_few, cmp_apart, cmp_falls}
 use Rattle.rules.specs.declared.Binary.TheVariants.{Cmp}
 use borrow.Author.Tests.{not-true, not-false}
 use mathlib.Core.Path.{refl, sym, ◌∙◌}
-use borrow.Author.Rules.{rules}
 use Rattle.records.proofs.operands.compare.Goals as goal
 
 pub returns-then-h-lt2 : goal.returns-then-h-lt2

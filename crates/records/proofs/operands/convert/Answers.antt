@@ -2,7 +2,6 @@
 use mathlib.Core.Path.{refl}
 use Rattle.rules.specs.declared.Unary.TheVariants.{Convert}
 use Rattle.records.proofs.OperandLaws.{one_empty, one_refused, one_convert}
-use borrow.Author.Rules.{rules}
 use Rattle.records.proofs.operands.convert.Goals as goal
 
 pub returns-then-h-lt1 : goal.returns-then-h-lt1

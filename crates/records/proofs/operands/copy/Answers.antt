@@ -4,7 +4,6 @@ use Rattle.rules.specs.declared.Unary.TheVariants.{Copy}
 use mathlib.Core.Path.{refl}
 use Rattle.records.specs.Laws.{top_type}
 use Rattle.records.proofs.OperandLaws.{one_empty, one_full, one_copy}
-use borrow.Author.Rules.{rules}
 use Rattle.records.proofs.operands.copy.Goals as goal
 
 pub returns-then-h-lt1 : goal.returns-then-h-lt1

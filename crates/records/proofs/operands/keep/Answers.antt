@@ -1,7 +1,6 @@
 -- The proof of `records::operands::keep`.
 use Rattle.rules.specs.Operations.{class1}
 use Rattle.records.proofs.OperandLaws.{greatest_takes, one_empty, one_refused, one_keeps}
-use borrow.Author.Rules.{rules}
 use Rattle.records.proofs.operands.keep.Goals as goal
 
 pub returns-then-h-lt1 : goal.returns-then-h-lt1

@@ -2,7 +2,6 @@
 use Rattle.rules.specs.declared.Unary.TheVariants.{Pop}
 use mathlib.Core.Path.{refl}
 use Rattle.records.proofs.OperandLaws.{one_empty, one_pop}
-use borrow.Author.Rules.{rules}
 use Rattle.records.proofs.operands.pop.Goals as goal
 
 pub returns-then-st-lt1 : goal.returns-then-st-lt1

@@ -2,7 +2,6 @@
 use Rattle.rules.specs.declared.Binary.TheVariants.{Swap}
 use mathlib.Core.Path.{refl}
 use Rattle.records.proofs.OperandLaws.{two_few, two_differ, two_swap}
-use borrow.Author.Rules.{rules}
 use Rattle.records.proofs.operands.swap.Goals as goal
 
 pub returns-then-h-lt2 : goal.returns-then-h-lt2

@@ -2,7 +2,6 @@
 use Rattle.records.proofs.PointerLaws.{pointer_empty, pointer_other, bump_falls}
 use borrow.Author.Tests.{not-true, not-false}
 use mathlib.Core.Path.{sym, ◌∙◌}
-use borrow.Author.Rules.{rules}
 use Rattle.records.proofs.pointers.bump.Goals as goal
 
 pub returns-then-h-lt1 : goal.returns-then-h-lt1

@@ -1,6 +1,5 @@
 -- The proof of `records::pointers::delete`.
 use Rattle.records.proofs.PointerLaws.{delete_empty, delete_number, delete_managed, delete_falls}
-use borrow.Author.Rules.{rules}
 use Rattle.records.proofs.pointers.delete.Goals as goal
 
 pub returns-then-h-lt1 : goal.returns-then-h-lt1

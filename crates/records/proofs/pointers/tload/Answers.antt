@@ -3,7 +3,6 @@ use Rattle.records.proofs.PointerLaws.{target_is_type, pointer_empty, pointer_ot
 use borrow.Author.Tests.{not-true, not-false}
 use native.Mathlib.Omega.{arith}
 use mathlib.Core.Path.{sym, ◌∙◌}
-use borrow.Author.Rules.{rules}
 use Rattle.records.proofs.pointers.tload.Goals as goal
 
 pub returns-then-h-lt1 : goal.returns-then-h-lt1

@@ -2,7 +2,6 @@
 use Rattle.records.proofs.PointerLaws.{tstore_few, tstore_pointer, tstore_differs, tstore_falls}
 use borrow.Author.Tests.{not-true, not-false}
 use mathlib.Core.Path.{sym, ◌∙◌}
-use borrow.Author.Rules.{rules}
 use Rattle.records.proofs.pointers.tstore.Goals as goal
 
 pub returns-then-h-lt2 : goal.returns-then-h-lt2

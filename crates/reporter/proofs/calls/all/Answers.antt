@@ -1,14 +1,8 @@
 use native.Mathlib.Omega.{arith}
-use mathlib.Core.Path.{◌≡◌, refl, sym, ◌∙◌}
-use Prim.Native.Nat.{ℕ, ◌≤◌, ◌-◌}
-use lib.ListN.{length}
+use mathlib.Core.Path.{refl, sym, ◌∙◌}
+use Prim.Native.Nat.{◌-◌}
 use Rattle.rules.specs.Tables.{body_of}
-use Rattle.settle.specs.Graph.{row_of}
-use Rattle.reporter.specs.Rows.{Filled}
 use Rattle.reporter.proofs.Filling.{row_ready, row_room, row_fresh, row_low, row_long, filled_next, next_row}
-use Rattle.reporter.proofs.calls.all.Reads as reads
-use Rattle.reporter.proofs.calls.all.Lts as lts
-use Rattle.reporter.proofs.calls.row.Reads as row_reads
 use Rattle.reporter.proofs.calls.all.Goals as goal
 
 pub loop-i-init : goal.loop-i-init

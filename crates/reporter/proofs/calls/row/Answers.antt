@@ -3,10 +3,6 @@ use mathlib.Core.List.{List}
 use Rattle.rules.specs.Tables.{body_of}
 use Rattle.tracks.specs.Summing.{Fresh}
 use Rattle.reporter.proofs.Filling.{row_is, same_part}
-use borrow.Author.Rules.{rules}
-use Rattle.reporter.proofs.calls.row.Reads as reads
-use Rattle.reporter.proofs.calls.row.Lts as lts
-use Rattle.climb.proofs.heights.body.Reads as body-Reads
 use Rattle.reporter.proofs.calls.row.Goals as goal
 
 pub body-requires : goal.body-requires

@@ -1,8 +1,3 @@
-use borrow.Author.Rules.{rules}
-use Rattle.reporter.proofs.report.accepted.Reads as reads
-use Rattle.reporter.proofs.report.accepted.Lts as lts
-use Rattle.reporter.proofs.report.with_few.Reads as with-few-reads
-use Rattle.reporter.proofs.report.with_many.Reads as with-many-reads
 use Rattle.reporter.proofs.report.accepted.Goals as goal
 
 pub with_few-requires : goal.with_few-requires

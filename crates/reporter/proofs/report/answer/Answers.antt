@@ -1,10 +1,5 @@
 use Rattle.reporter.proofs.Answering.{entry_loops, function_loops, too_short, reported}
 use native.Mathlib.Omega.{arith}
-use borrow.Author.Rules.{rules}
-use Rattle.reporter.proofs.report.answer.Reads as reads
-use Rattle.reporter.proofs.report.answer.Lts as lts
-use Rattle.reporter.proofs.report.first_looping.Reads as first-looping-reads
-use Rattle.reporter.proofs.report.put_words.Reads as put-words-reads
 use Rattle.reporter.proofs.report.answer.Goals as goal
 
 pub returns-then-b-eq0 : goal.returns-then-b-eq0

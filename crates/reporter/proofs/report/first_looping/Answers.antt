@@ -1,10 +1,6 @@
 use Rattle.reporter.proofs.Answering.{none_more}
-use Rattle.settle.specs.Graph.{mark_of}
-use mathlib.Core.Path.{◌≡◌}
-use Prim.Native.Nat.{ℕ, suc, ◌≤◌, ◌<◌, ◌-◌}
+use Prim.Native.Nat.{◌-◌}
 use native.Mathlib.Omega.{arith}
-use Rattle.reporter.proofs.report.first_looping.Reads as reads
-use Rattle.reporter.proofs.report.first_looping.Lts as lts
 use Rattle.reporter.proofs.report.first_looping.Goals as goal
 
 pub loop-b-init : goal.loop-b-init

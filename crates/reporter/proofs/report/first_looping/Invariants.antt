@@ -1,11 +1,7 @@
 -- The invariants and measures of `reporter::report::first_looping`.
-use Rattle.reporter.proofs.Answering.{none_more}
 use Rattle.settle.specs.Graph.{mark_of}
 use mathlib.Core.Path.{◌≡◌}
 use Prim.Native.Nat.{ℕ, suc, ◌≤◌, ◌<◌, ◌-◌}
-use native.Mathlib.Omega.{arith}
-use Rattle.reporter.proofs.report.first_looping.Reads as reads
-use Rattle.reporter.proofs.report.first_looping.Lts as lts
 use Rattle.reporter.proofs.report.first_looping.Given as goal
 
 abbrev pub invariant-loop-b : goal.invariant-loop-b

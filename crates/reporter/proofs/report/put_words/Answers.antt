@@ -1,16 +1,11 @@
 use Rattle.reporter.proofs.Answering.{words_next}
 use Rattle.reporter.proofs.Answering.{words_none}
 use Rattle.reporter.specs.Told.{row_words}
-use Rattle.memory.proofs.Words.{length_written}
-use Rattle.rules.specs.Bytes.{written}
-use lib.ListN.{length, drop, get_or}
-use mathlib.Core.List.{List, ◌++◌}
-use mathlib.Core.Path.{◌≡◌, refl, sym, ◌∙◌, ap}
-use Prim.Native.Nat.{ℕ, suc, ◌≤◌, ◌<◌, ◌-◌, ◌*◌, ◌+◌}
+use lib.ListN.{drop}
+use mathlib.Core.List.{◌++◌}
+use mathlib.Core.Path.{◌≡◌, refl, ◌∙◌, ap}
+use Prim.Native.Nat.{suc, ◌-◌, ◌*◌, ◌+◌}
 use native.Mathlib.Omega.{arith}
-use Rattle.reporter.proofs.report.put_words.Reads as reads
-use Rattle.reporter.proofs.report.put_words.Lts as lts
-use Rattle.memory.proofs.store32.Reads as store32-reads
 use Rattle.reporter.proofs.report.put_words.Goals as goal
 
 pub loop-b-init : goal.loop-b-init

@@ -2,11 +2,6 @@ use Rattle.reporter.proofs.Settling.{filled_blank, ended_blank, few_rows, low_ro
 use mathlib.Core.Path.{sym}
 use native.Mathlib.Omega.{arith}
 use borrow.Author.Rules.{rules}
-use Rattle.reporter.proofs.report.settled.Reads as reads
-use Rattle.reporter.proofs.report.settled.Lts as lts
-use Rattle.reporter.proofs.calls.all.Reads as all-reads
-use Rattle.reporter.proofs.report.answer.Reads as answer-reads
-use Rattle.settle.proofs.settle.Reads as settle-reads
 use Rattle.reporter.proofs.report.settled.Goals as goal
 
 pub all-requires : goal.all-requires

@@ -1,9 +1,5 @@
 use Rattle.reporter.proofs.Settling.{blank_rows, few_rows}
 use native.Mathlib.Omega.{arith}
-use borrow.Author.Rules.{rules}
-use Rattle.reporter.proofs.report.with_many.Reads as reads
-use Rattle.reporter.proofs.report.with_many.Lts as lts
-use Rattle.reporter.proofs.report.settled.Reads as settled-reads
 use Rattle.reporter.proofs.report.with_many.Goals as goal
 
 pub settled-requires : goal.settled-requires

@@ -1,9 +1,4 @@
 use Rattle.promises.proofs.Promised.{host_run_keeps, host_run_finished}
-use borrow.Author.Rules.{rules}
-use Rattle.running.proofs.host.host_run.Reads as reads
-use Rattle.running.proofs.host.host_run.Lts as lts
-use Rattle.running.proofs.host.stop.Reads as stop-reads
-use Rattle.running.proofs.run.Reads as run-reads
 use Rattle.running.proofs.host.host_run.Goals as goal
 
 pub returns-in_default : goal.returns-in_default

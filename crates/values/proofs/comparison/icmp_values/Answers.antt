@@ -1,7 +1,6 @@
 -- `values::comparison::icmp_values` meets its contract. Assumes nothing.
 use mathlib.Core.Path.{refl, sym, ap, ◌∙◌}
 use mathlib.Core.Bool.{true}
-use borrow.Author.Rules.{rules}
 use Rattle.values.specs.Values.{gives}
 use Rattle.values.proofs.Cases.{int_apart, long_apart, double_apart, pointer_apart}
 use Rattle.values.proofs.Order.{cmp_unlike, cmp_ints, cmp_longs, cmp_doubles, cmp_nan, cmp_across, cmp_pointers}

@@ -1,5 +1,4 @@
 -- `values::single::inc_value` meets its contract. Assumes nothing.
-use borrow.Author.Rules.{rules}
 use Rattle.rules.specs.Operations.{bumped, computed, on_words, on_doubles}
 use Rattle.values.proofs.Cases.{int_kind, long_kind, double_kind, pointer_told}
 use Rattle.values.proofs.single.inc_value.Goals as goal

@@ -1,5 +1,4 @@
 -- `values::single::not_value` meets its contract. Assumes nothing.
-use borrow.Author.Rules.{rules}
 use Rattle.rules.specs.Operations.{complemented}
 use Rattle.values.proofs.Cases.{int_kind, long_kind, double_kind, pointer_told}
 use Rattle.values.proofs.single.not_value.Goals as goal

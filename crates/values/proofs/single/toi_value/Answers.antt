@@ -4,7 +4,6 @@ use Rattle.values.proofs.Conversions.{raised, truncated, low_cut, kept}
 use Rattle.values.proofs.Cases.{int_kind, long_kind, double_kind, pointer_told}
 use mathlib.Core.Bool.{false}
 use Rattle.rules.specs.Operations.{converted, unfit}
-use borrow.Author.Rules.{rules}
 use Rattle.values.proofs.single.toi_value.Goals as goal
 
 pub returns-then-raises-t : goal.returns-then-raises-t
