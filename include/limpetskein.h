@@ -1,9 +1,9 @@
 /*
- * limpetskein.h: for C, the check of a module, of the whole or of the one body that was edited, the run of one of its bodies, the map of one of its functions over a row
- * of pixels, the writer of modules, the compiler of formula lines, and the conversion of modules between editions 3
- * and 4.
+ * limpetskein.h: for C, the check of a module, of the whole or of the one body that was edited, the stack that it needs,
+ * the run of one of its bodies, the map of one of its functions over a row of pixels, the writer of modules, the compiler
+ * of formula lines, and the conversion of modules between editions 3 and 4.
  *
- * Link with target/staticlib/liblimpetskein.a (`rt staticlib limpetskein`; x86-64 Linux).
+ * Link with target/staticlib/liblimpetskein.a (`tools/library`; x86-64 Linux).
  *
  * The functions take any bytes, any numbers and any lengths, always return, and test for
  * themselves whatever they depend on. They allocate nothing, keep nothing between calls and
@@ -29,7 +29,7 @@
 extern "C" {
 #endif
 
-/* The entry as a body's number, to run it and as what a check names with 11. It takes no arguments. */
+/* The entry as a body's number, to run it and as what is named with 11 and 47. It takes no arguments. */
 #define LIMPETSKEIN_ENTRY 0xFFFFFFFFu
 
 /* Limits of the format. */
@@ -41,6 +41,9 @@ extern "C" {
 #define LIMPETSKEIN_MOST_CODE 16384 /* bytes */
 #define LIMPETSKEIN_ROOM_PER_LABEL 64 /* bytes of checking room */
 #define LIMPETSKEIN_LONGEST_RECORD 137 /* bytes of the record of a module's bodies: 9, and one for each function */
+#define LIMPETSKEIN_NEED_PER_BODY 8 /* bytes of the report of needs for the entry and for each function */
+#define LIMPETSKEIN_LONGEST_REPORT 1032 /* bytes of the report of needs */
+#define LIMPETSKEIN_MOST_FRAMES 64    /* that live at once in a run */
 #define LIMPETSKEIN_MOST_SLOTS 4096   /* a larger lent stack is used up to here */
 #define LIMPETSKEIN_MOST_CELLS 4096   /* and a larger lent heap */
 
@@ -85,14 +88,15 @@ extern "C" {
 
 /*
  * Answers. A call gives the first in number order that holds; of a formula line and of a conversion 16 comes last, of a
- * check with a record 16 comes behind 10 and before 11, of the check of a body 11 comes behind 12 and 45, and the number
- * of a map's first row that does not finish comes behind what is refused before any row.
+ * check with a record 16 comes behind 10 and before 11, of the report of needs behind 11 and 47, of the check of a body 11
+ * comes behind 12 and 45, and the number of a map's first row that does not finish comes behind what is refused before any
+ * row.
  */
 enum {
-    LIMPETSKEIN_DONE = 0, /* checks: accepted. run: finished. map: every row finished. write, formula and conversions:
-                             written */
+    LIMPETSKEIN_DONE = 0, /* checks: accepted. need: accepted, and the report is written. run: finished. map: every row
+                             finished. write, formula and conversions: written */
 
-    /* The module can't be read: checks, run, map and conversions. 2 and 4 to 9 also: these tables are no module:
+    /* The module can't be read: checks, need, run, map and conversions. 2 and 4 to 9 also: these tables are no module:
        write. */
     LIMPETSKEIN_TOO_SHORT = 1,     /* under 48 bytes; under 56 in edition 4 */
     LIMPETSKEIN_OTHER_EDITION = 2, /* the edition is none of 1, 3 and 4; a conversion: it is not the one that is
@@ -108,12 +112,16 @@ enum {
     LIMPETSKEIN_BAD_CODE = 8,      /* an unknown opcode, or an instruction crossing its body's end */
     LIMPETSKEIN_BAD_LABEL = 9,     /* a label with no such owner, or not on an instruction start of it */
 
-    /* Checks only. */
+    /* Checks and need only. */
     LIMPETSKEIN_ROOM_TOO_SHORT = 10, /* checking room under 64 bytes per label */
     LIMPETSKEIN_NO_TYPING = 11,      /* some body has no consistent typing; *body is the first. Check of a body: by the
                                         record some body has none; *first is the first */
     LIMPETSKEIN_RECORD_DIFFERS = 45, /* check of a body: a count, offset or length other than this module's record has,
                                         or a byte over 1 */
+
+    /* Need only. */
+    LIMPETSKEIN_CALLS_LOOP = 47, /* from some body a chain of reached calls comes back to a body on it, so that no stack
+                                    is known to be enough; *body is the first such body, on the loop or leading to it */
 
     /* Run and map only: it did not start. 12 also: the check of a body. */
     LIMPETSKEIN_NO_SUCH_FUNCTION = 12,
@@ -123,8 +131,9 @@ enum {
                                        or, at its row, an int with upper bits */
     LIMPETSKEIN_OTHER_PROFILE = 17, /* the function was made for another profile */
 
-    /* Write, formula and conversions, and the check with a record. */
-    LIMPETSKEIN_OUTPUT_TOO_SHORT = 16, /* there is a module, or a record, to write, and the output is shorter than it */
+    /* Write, formula and conversions, the check with a record, and need. */
+    LIMPETSKEIN_OUTPUT_TOO_SHORT = 16, /* there is a module, a record or a report to write, and the output is shorter than
+                                          it */
 
     /* To edition 3 only. */
     LIMPETSKEIN_NOT_IN_EDITION_3 = 18, /* a profile that is not 0, a structure, or a type byte or opcode that edition 3
@@ -133,7 +142,8 @@ enum {
     /* Run and map only: it stopped, a map at a row. Of an accepted module only 0, 15, 20, 24 and 35, in editions 3 and
        4 also 44, and in edition 4 also 33 and 36, come from a run that started. */
     LIMPETSKEIN_ALLOWANCE_USED_UP = 15,
-    LIMPETSKEIN_STACK_OVERFLOW = 20, /* no free slot, a 65th frame, or arguments that don't fit */
+    LIMPETSKEIN_STACK_OVERFLOW = 20, /* no free slot, a 65th frame, or arguments that don't fit. limpetskein_need tells
+                                        how many slots keep it away */
     LIMPETSKEIN_STACK_EMPTY = 21,
     LIMPETSKEIN_STACK_DIFFERENTTYPE = 22,
     LIMPETSKEIN_CONSTANTPOOL_OUTOFRANGE = 23,
@@ -216,6 +226,29 @@ uint32_t limpetskein_check_recording(const uint8_t *module, size_t module_len, u
  */
 uint32_t limpetskein_check_body(const uint8_t *module, size_t module_len, uint32_t body, uint8_t *record,
                                 size_t record_len, uint32_t *first);
+
+/*
+ * Checks a module as limpetskein_check does, and reports the stack that it needs: 0 to 11, 47, 16, in this order.
+ *
+ *   report    8 bytes for the entry and for each function; LIMPETSKEIN_LONGEST_REPORT serve every module.
+ *   *body     written with 11, as by limpetskein_check, and with 47: the first body from which a chain of reached calls
+ *             comes back to a body on it, the entry before the functions.
+ *   *written  written with 0 only: the report's length, 8 bytes a body.
+ *
+ * The room after the call is as limpetskein_check leaves it; with 47 and 16 the module was accepted, and the room has its
+ * labels' records. The report after the call:
+ *   1 to 11, 47, 16  unchanged.
+ *   0                for the entry, at 0, and for function k, at 8 (k + 1), two words: the slots that it needs, counted from
+ *                    its first argument, and the frames that live at once, its own among them. The rest is unchanged.
+ *
+ * A run of this body on at least so many slots, where the frames are at most LIMPETSKEIN_MOST_FRAMES, never ends in 20,
+ * whatever its arguments, the scan's profile, the allowance and the heap are. Both are the most over all ways that the code
+ * can go, whatever branches would decide; slots buried under locals count, code that is not reached does not, and flow goes
+ * on past a call whose callee never returns. A need over LIMPETSKEIN_MOST_SLOTS, or frames over 64, are told as they are:
+ * then no stack is known to be enough. The heap is no part of it.
+ */
+uint32_t limpetskein_need(const uint8_t *module, size_t module_len, uint8_t *room, size_t room_len, uint8_t *report,
+                          size_t report_len, uint32_t *body, uint64_t *written);
 
 /*
  * Runs a body of a module, checked or not: 0 to 9, 12, 13, 15, 17, 20 to 39, 44, 50.

@@ -1,6 +1,6 @@
 #!/bin/sh
 # Measures the library against the C of baseline, through the same six calls, the library's map of a row of pixels
-# against the C's run of each, and compares all that comes out.
+# against the C's run of each, and compares all that comes out. With --count also the report of needs beside the library's own check.
 #
 #     run.sh [--library ARCHIVE] [ROUNDS]     times and ratios; rows of pixels in Lua too, where it is installed
 #     run.sh [--library ARCHIVE] --count      machine instructions; fails where a ratio is over its limit
@@ -19,7 +19,7 @@ if [ "${1:-}" = --count ] && ! command -v valgrind >/dev/null; then
 fi
 mkdir -p "$made/modules"
 if [ -z "$library" ]; then
-    if ! (cd "$root" && rt staticlib limpetskein) >"$made/library.txt" 2>&1; then
+    if ! "$root/tools/library" >"$made/library.txt" 2>&1; then
         tail -n 40 "$made/library.txt" >&2
         exit 1
     fi
@@ -32,7 +32,28 @@ fi
 cc -O2 -Wall -Wextra -Werror -I"$root/include" -Wl,-z,now -o "$made/bench" \
     "$bench"/bench.c "$bench"/calls.c "$bench"/rows.c "$bench"/lines.c "$made/libbaseline.a" "$library"
 "$made/bench" "$made/modules" "$@"
-if [ "${1:-}" = --count ]; then exit; fi
+# counted CALL MODULE: the machine instructions of one call.
+counted() {
+    valgrind --tool=callgrind --callgrind-out-file=/dev/null --toggle-collect="limpetskein_$1" "$made/needs" "$1" "$2" 2>&1 |
+        sed -n 's/.*Collected : //p'
+}
+
+# The report of needs, on every module of the benchmark: at most twice the check.
+count_needs() {
+    cc -O2 -Wall -Wextra -Werror -I"$root/include" -Wl,-z,now -o "$made/needs" "$bench/needs.c" "$library"
+    for module in "$made"/modules/*.lsk; do
+        echo "$(basename "$module" .lsk) $(counted check "$module") $(counted need "$module")"
+    done | awk '
+        BEGIN { printf "\n%-24s %12s %12s %6s  limit 2\n", "needs, a call", "check", "need", "ratio" }
+        NF != 3 { print "not counted: " $0; over++; next }
+        { ratio = $3 / $2; over += ratio > 2; printf "%-24s %12d %12d %6.2f%s\n", $1, $2, $3, ratio, ratio > 2 ? "  OVER" : "" }
+        END { printf "%d of %d reports of needs take over twice the check\n", over, NR; exit over > 0 }'
+}
+
+if [ "${1:-}" = --count ]; then
+    count_needs
+    exit
+fi
 
 # in_lua RECIPES COMMAND..: rows of pixels by this command, with its values compared.
 in_lua() {

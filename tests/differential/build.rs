@@ -1,20 +1,22 @@
 //! Links the archive that `LIMPETSKEIN_ARCHIVE` names, a file `lib<name>.a`. With
 //! `LIMPETSKEIN_WITHOUT_ROWS` set, for an archive that has no call on rows, `--rows` is left out; with
-//! `LIMPETSKEIN_WITHOUT_RECORDS`, for one that has no checks with records, `--records`.
+//! `LIMPETSKEIN_WITHOUT_RECORDS`, for one that has no checks with records, `--records`; with
+//! `LIMPETSKEIN_WITHOUT_NEEDS`, for one that tells no needs, `--needs`.
 
 use std::path::PathBuf;
 
 fn main() {
     println!("cargo:rerun-if-env-changed=LIMPETSKEIN_ARCHIVE");
-    println!("cargo:rerun-if-env-changed=LIMPETSKEIN_WITHOUT_ROWS");
-    println!("cargo:rerun-if-env-changed=LIMPETSKEIN_WITHOUT_RECORDS");
-    println!("cargo:rustc-check-cfg=cfg(without_rows)");
-    println!("cargo:rustc-check-cfg=cfg(without_records)");
-    if std::env::var_os("LIMPETSKEIN_WITHOUT_ROWS").is_some() {
-        println!("cargo:rustc-cfg=without_rows");
-    }
-    if std::env::var_os("LIMPETSKEIN_WITHOUT_RECORDS").is_some() {
-        println!("cargo:rustc-cfg=without_records");
+    for (variable, name) in [
+        ("LIMPETSKEIN_WITHOUT_ROWS", "without_rows"),
+        ("LIMPETSKEIN_WITHOUT_RECORDS", "without_records"),
+        ("LIMPETSKEIN_WITHOUT_NEEDS", "without_needs"),
+    ] {
+        println!("cargo:rerun-if-env-changed={variable}");
+        println!("cargo:rustc-check-cfg=cfg({name})");
+        if std::env::var_os(variable).is_some() {
+            println!("cargo:rustc-cfg={name}");
+        }
     }
     let Some(archive) = std::env::var_os("LIMPETSKEIN_ARCHIVE") else {
         panic!("LIMPETSKEIN_ARCHIVE must name the archive to test");

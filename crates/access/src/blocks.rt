@@ -1,37 +1,29 @@
 // `null`, `new`, `delete`, `flea`, `gcnull`, `gcnew`.
-ghost use mathlib.Core.Path.{_≡_};
-ghost use Prim.Native.Nat.{_+_, _<_, _≤_};
-ghost use lib.ListN.{length};
-ghost use Rattle·rules.specs.Bytes.{word};
-ghost use Rattle·rules.specs.Instructions.{ptrKind};
-ghost use Rattle·rules.specs.Tables.{Module};
-ghost use Rattle·rules.specs.Stack.{slotsOf};
-ghost use Rattle·rules.specs.Machine.{execIn};
-ghost use Rattle·rules.specs.declared.Instruction.the-variants.{Null, New, Delete, Flea};
-ghost use Rattle·soundness.specs.Kinds.{Kinded};
-ghost use Rattle·state.specs.State.{ReadyOn};
-ghost use Rattle·heap.specs.Targets.{Shapes};
-ghost use Rattle·access·specs.specs.Access.{HeapReady, AccessIs, ActsOver};
-use crate::exceptions::FIELD_OUTOFRANGE;
-use crate::exceptions::POINTER_NOTPOINTER;
-use crate::exceptions::POINTER_NOTSTRUCTURE;
-use crate::exceptions::POINTER_UNKNOWNADDRESS;
-use crate::exceptions::STACK_EMPTY;
-use crate::exceptions::STACK_OVERFLOW;
-use crate::exceptions::TYPE_OUTOFRANGE;
-use crate::shelf::keep;
-use crate::shelf::shelf;
-use crate::targets::Aim;
-use crate::targets::NULL;
-use crate::targets::target_of;
+ghost use Rattle.std.specs.Prelude.{◌≡◌, ◌+◌, ◌<◌, ◌≤◌, length};
+ghost use Rattle.rules.specs.Bytes.{word};
+ghost use Rattle.rules.specs.Instructions.{ptr_kind};
+ghost use Rattle.rules.specs.Tables.{Module};
+ghost use Rattle.rules.specs.Stack.{slots_of};
+ghost use Rattle.rules.specs.Machine.{exec_in};
+ghost use Rattle.rules.specs.declared.Instruction.TheVariants.{Null, New, Delete, Flea};
+ghost use Rattle.soundness.specs.Kinds.{Kinded};
+ghost use Rattle.state.specs.State.{ReadyOn};
+ghost use Rattle.heap.specs.Targets.{Shapes};
+ghost use Rattle.access.specs.Access.{HeapReady, AccessIs, ActsOver};
+
+use crate::exceptions::{
+    FIELD_OUTOFRANGE, POINTER_NOTPOINTER, POINTER_NOTSTRUCTURE, POINTER_UNKNOWNADDRESS,
+    STACK_EMPTY, STACK_OVERFLOW, TYPE_OUTOFRANGE,
+};
+use crate::shelf::{keep, shelf};
+use crate::targets::{Aim, NULL, target_of};
 use heap::Found;
 use rules::Slot;
-use state::Progress;
-use state::Registers;
+use state::{Progress, Registers};
 
 // The type number of a pointer.
 fn kind_of(managed: bool) -> u8
-    ensures { λ k. ⌜ k ≡ ptrKind managed ⌝ }
+    ensures { result ≡ ptr_kind managed }
 {
     if managed {
         return 8;
@@ -41,8 +33,8 @@ fn kind_of(managed: bool) -> u8
 
 // `null`, or `gcnull`.
 pub fn null(managed: bool, cap: usize, r: Registers, p: &mut [u8], t: &mut [u8]) -> Progress
-    requires { ⌜ ReadyOn cap r (now p) (now t) × (r .place < r .stop) ⌝ }
-    ensures { λ a. ⌜ ((m : Module) → ActsOver cap r a (now (p .entry)) (now (t .entry)) (now (p .exit)) (now (t .exit)) (execIn m cap (Null managed))) ⌝ }
+    requires { ReadyOn cap r p.old t.old × (r.place < r.stop) }
+    ensures { (m : Module) → ActsOver cap r result p.old t.old p.new t.new (exec_in m cap (Null managed)) }
 {
     let h = r.height;
     if cap <= h {
@@ -70,9 +62,9 @@ pub fn new(
     cells: &mut [u8],
     table: &mut [u8],
 ) -> Progress
-    requires { ⌜ HeapReady size (now d) (now g) (now cells) (now table) ⌝ }
-    requires { ⌜ ReadyOn cap r (now p) (now t) × (r .place < r .stop) × (r .place + 5 ≤ length (now code)) ⌝ }
-    ensures { λ a. ⌜ ((m : Module) → Shapes m (now (d .entry)) → AccessIs m (New managed (word 4 (now (code .entry)) (r .place + 1))) cap size r a (now (d .entry)) (now (p .entry)) (now (t .entry)) (now (g .entry)) (now (cells .entry)) (now (table .entry)) (now (p .exit)) (now (t .exit)) (now (g .exit)) (now (cells .exit)) (now (table .exit))) ⌝ }
+    requires heap_ready { HeapReady size d.now g.old cells.old table.old }
+    requires ready_on { ReadyOn cap r p.old t.old × (r.place < r.stop) × (r.place + 5 ≤ length code.now) }
+    ensures { (m : Module) → Shapes m d.now → AccessIs m (New managed (word 4 code.now (r.place + 1))) cap size r result d.now p.old t.old g.old cells.old table.old p.new t.new g.new cells.new table.new }
 {
     let h = r.height;
     let n = keys::operand(code, r.place) as u64;
@@ -105,9 +97,9 @@ pub fn delete(
     cells: &mut [u8],
     table: &mut [u8],
 ) -> Progress
-    requires { ⌜ HeapReady size (now d) (now g) (now cells) (now table) ⌝ }
-    requires { ⌜ ReadyOn cap r (now p) (now t) × (r .place < r .stop) ⌝ }
-    ensures { λ a. ⌜ ((m : Module) → AccessIs m Delete cap size r a (now (d .entry)) (now (p .entry)) (now (t .entry)) (now (g .entry)) (now (cells .entry)) (now (table .entry)) (now (p .entry)) (now (t .entry)) (now (g .exit)) (now (cells .exit)) (now (table .exit))) ⌝ }
+    requires heap_ready { HeapReady size d.now g.old cells.old table.old }
+    requires ready_on { ReadyOn cap r p.now t.now × (r.place < r.stop) }
+    ensures { (m : Module) → AccessIs m Delete cap size r result d.now p.now t.now g.old cells.old table.old p.now t.now g.new cells.new table.new }
 {
     let h = r.height;
     if h < r.floor + 1 {
@@ -143,9 +135,9 @@ pub fn flea(
     cells: &[u8],
     table: &[u8],
 ) -> Progress
-    requires { ⌜ HeapReady size (now d) (now g) (now cells) (now table) ⌝ }
-    requires { ⌜ ReadyOn cap r (now p) (now t) × (r .place < r .stop) × (r .place + 5 ≤ length (now code)) × Kinded (slotsOf (now p) (now t) (r .height)) ⌝ }
-    ensures { λ a. ⌜ ((m : Module) → Shapes m (now (d .entry)) → AccessIs m (Flea (word 4 (now (code .entry)) (r .place + 1))) cap size r a (now (d .entry)) (now (p .entry)) (now (t .entry)) (now (g .entry)) (now (cells .entry)) (now (table .entry)) (now (p .exit)) (now (t .entry)) (now (g .entry)) (now (cells .entry)) (now (table .entry))) ⌝ }
+    requires heap_ready { HeapReady size d.now g.now cells.now table.now }
+    requires ready_on { ReadyOn cap r p.old t.now × (r.place < r.stop) × (r.place + 5 ≤ length code.now) × Kinded (slots_of p.old t.now r.height) }
+    ensures { (m : Module) → Shapes m d.now → AccessIs m (Flea (word 4 code.now (r.place + 1))) cap size r result d.now p.old t.now g.now cells.now table.now p.new t.now g.now cells.now table.now }
 {
     let n = keys::operand(code, r.place) as usize;
     let h = r.height;

@@ -1,20 +1,20 @@
 // Instructions over the lent heap, where the machine has none at hand. The shelf is lent in four words, as frames are.
-ghost use mathlib.Core.Path.{_≡_};
-ghost use mathlib.Core.Bool.{false};
-ghost use Prim.Native.Nat.{_<_};
-ghost use Rattle·rules.specs.ModuleFile.{structuresIn, read, refusal};
-ghost use Rattle·rules.specs.Stack.{slotsOf};
-ghost use Rattle·rules.specs.declared.Instruction.{Instruction};
-ghost use Rattle·soundness.specs.Framed.{heapless};
-ghost use Rattle·soundness.specs.Kinds.{Kinded};
-ghost use Rattle·format.specs.Layout.{Packed};
-ghost use Rattle·keys.specs.Keys.{Says};
-ghost use Rattle·state.specs.State.{ReadyOn};
-ghost use Rattle·access·specs.specs.Access.{HeapReady, AccessIs};
+#![tactic(auto)]
+
+ghost use Rattle.std.specs.Prelude.{◌≡◌, false, ◌<◌};
+ghost use Rattle.rules.specs.ModuleFile.{structures_in, read, refusal};
+ghost use Rattle.rules.specs.Stack.{slots_of};
+ghost use Rattle.rules.specs.declared.Instruction.{Instruction};
+ghost use Rattle.soundness.specs.Framed.{heapless};
+ghost use Rattle.soundness.specs.Kinds.{Kinded};
+ghost use Rattle.format.specs.Layout.{Packed};
+ghost use Rattle.keys.specs.Keys.{Says};
+ghost use Rattle.state.specs.State.{ReadyOn};
+ghost use Rattle.access.specs.Access.{HeapReady, AccessIs};
+
 use format::Sections;
 use keys::Decoded;
-use state::Progress;
-use state::Registers;
+use state::{Progress, Registers};
 
 pub mod blocks;
 mod exceptions;
@@ -40,11 +40,11 @@ pub fn step(
     cells: &mut [u8],
     table: &mut [u8],
 ) -> Progress
-    requires { ⌜ Packed (now file) c × (refusal (now file) ≡ 0) ⌝ }
-    requires { ⌜ (r .place < r .stop) × ((i : Instruction) × Says (now code) (r .place) i × (heapless i ≡ false)) ⌝ }
-    requires { ⌜ ReadyOn cap r (now p) (now t) × Kinded (slotsOf (now p) (now t) (r .height)) ⌝ }
-    requires { ⌜ HeapReady size (structuresIn (now file)) (now g) (now cells) (now table) ⌝ }
-    ensures { λ a. ⌜ ((i : Instruction) → Says (now (code .entry)) (r .place) i → AccessIs (read (now (file .entry))) i cap size r a (structuresIn (now (file .entry))) (now (p .entry)) (now (t .entry)) (now (g .entry)) (now (cells .entry)) (now (table .entry)) (now (p .exit)) (now (t .exit)) (now (g .exit)) (now (cells .exit)) (now (table .exit))) ⌝ }
+    requires packed { Packed file.now c × (refusal file.now ≡ 0) }
+    requires place_lt_stop { (r.place < r.stop) × ((i : Instruction) × Says code.now r.place i × (heapless i ≡ false)) }
+    requires ready_on { ReadyOn cap r p.old t.old × Kinded (slots_of p.old t.old r.height) }
+    requires heap_ready { HeapReady size (structures_in file.now) g.old cells.old table.old }
+    ensures { (i : Instruction) → Says code.now r.place i → AccessIs (read file.now) i cap size r result (structures_in file.now) p.old t.old g.old cells.old table.old p.new t.new g.new cells.new table.new }
 {
     let at = c.code + c.extent;
     let d = &file[at..];

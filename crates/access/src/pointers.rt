@@ -1,23 +1,17 @@
 // `tload`, `tstore`, `inc`, `dec`: on the number that a pointer is to.
-ghost use mathlib.Core.Bool.{true, false};
-ghost use Prim.Native.Nat.{_<_};
-ghost use Rattle·rules.specs.Tables.{Module};
-ghost use Rattle·rules.specs.Stack.{slotsOf};
-ghost use Rattle·rules.specs.declared.Instruction.the-variants.{Tload, Tstore, Bump};
-ghost use Rattle·soundness.specs.Kinds.{Kinded};
-ghost use Rattle·state.specs.State.{ReadyOn};
-ghost use Rattle·heap.specs.Targets.{Shapes};
-ghost use Rattle·access·specs.specs.Access.{HeapReady, AccessIs};
-ghost use Rattle·access·specs.specs.Targets.{Reaches, PutsAt};
-use crate::exceptions::STACK_DIFFERENTTYPE;
-use crate::exceptions::STACK_EMPTY;
-use crate::targets::Named;
-use crate::targets::Spot;
-use crate::targets::number_of;
-use crate::targets::put;
-use crate::targets::top_number;
-use state::Progress;
-use state::Registers;
+ghost use Rattle.std.specs.Prelude.{true, false, ◌<◌};
+ghost use Rattle.rules.specs.Tables.{Module};
+ghost use Rattle.rules.specs.Stack.{slots_of};
+ghost use Rattle.rules.specs.declared.Instruction.TheVariants.{Tload, Tstore, Bump};
+ghost use Rattle.soundness.specs.Kinds.{Kinded};
+ghost use Rattle.state.specs.State.{ReadyOn};
+ghost use Rattle.heap.specs.Targets.{Shapes};
+ghost use Rattle.access.specs.Access.{HeapReady, AccessIs};
+ghost use Rattle.access.specs.Targets.{Reaches, PutsAt};
+
+use crate::exceptions::{STACK_DIFFERENTTYPE, STACK_EMPTY};
+use crate::targets::{Named, Spot, number_of, put, top_number};
+use state::{Progress, Registers};
 use values::Computed;
 
 // `tload`.
@@ -32,9 +26,9 @@ pub fn tload(
     cells: &[u8],
     table: &[u8],
 ) -> Progress
-    requires { ⌜ HeapReady size (now d) (now g) (now cells) (now table) ⌝ }
-    requires { ⌜ ReadyOn cap r (now p) (now t) × (r .place < r .stop) × Kinded (slotsOf (now p) (now t) (r .height)) ⌝ }
-    ensures { λ a. ⌜ ((m : Module) → Shapes m (now (d .entry)) → AccessIs m Tload cap size r a (now (d .entry)) (now (p .entry)) (now (t .entry)) (now (g .entry)) (now (cells .entry)) (now (table .entry)) (now (p .exit)) (now (t .exit)) (now (g .entry)) (now (cells .entry)) (now (table .entry))) ⌝ }
+    requires heap_ready { HeapReady size d.now g.now cells.now table.now }
+    requires ready_on { ReadyOn cap r p.old t.old × (r.place < r.stop) × Kinded (slots_of p.old t.old r.height) }
+    ensures { (m : Module) → Shapes m d.now → AccessIs m Tload cap size r result d.now p.old t.old g.now cells.now table.now p.new t.new g.now cells.now table.now }
 {
     let x = top_number(d, size, r, g, p, t, cells, table);
     match x {
@@ -58,9 +52,9 @@ pub fn tstore(
     cells: &mut [u8],
     table: &[u8],
 ) -> Progress
-    requires { ⌜ HeapReady size (now d) (now g) (now cells) (now table) ⌝ }
-    requires { ⌜ ReadyOn cap r (now p) (now t) × (r .place < r .stop) × Kinded (slotsOf (now p) (now t) (r .height)) ⌝ }
-    ensures { λ a. ⌜ ((m : Module) → Shapes m (now (d .entry)) → AccessIs m Tstore cap size r a (now (d .entry)) (now (p .entry)) (now (t .entry)) (now (g .entry)) (now (cells .entry)) (now (table .entry)) (now (p .exit)) (now (t .entry)) (now (g .entry)) (now (cells .exit)) (now (table .entry))) ⌝ }
+    requires heap_ready { HeapReady size d.now g.now cells.old table.now }
+    requires ready_on { ReadyOn cap r p.old t.now × (r.place < r.stop) × Kinded (slots_of p.old t.now r.height) }
+    ensures { (m : Module) → Shapes m d.now → AccessIs m Tstore cap size r result d.now p.old t.now g.now cells.old table.now p.new t.now g.now cells.new table.now }
 {
     let h = r.height;
     if h < r.floor + 2 {
@@ -83,8 +77,8 @@ pub fn tstore(
 
 // The number back where it stands, of its own type, and the pointer gone.
 fn put_back(r: Registers, at: Spot, x: Computed, p: &mut [u8], cells: &mut [u8]) -> Progress
-    requires { ⌜ (r .place < r .stop) × (0 < r .height) × Reaches at (now p) (now cells) ⌝ }
-    ensures { λ a. ⌜ PutsAt r at x a (now (p .entry)) (now (cells .entry)) (now (p .exit)) (now (cells .exit)) ⌝ }
+    requires { (r.place < r.stop) × (0 < r.height) × Reaches at p.old cells.old }
+    ensures { PutsAt r at x result p.old cells.old p.new cells.new }
 {
     match x {
         Computed::Yields(v) => {
@@ -107,9 +101,9 @@ pub fn inc(
     cells: &mut [u8],
     table: &[u8],
 ) -> Progress
-    requires { ⌜ HeapReady size (now d) (now g) (now cells) (now table) ⌝ }
-    requires { ⌜ ReadyOn cap r (now p) (now t) × (r .place < r .stop) × Kinded (slotsOf (now p) (now t) (r .height)) ⌝ }
-    ensures { λ a. ⌜ ((m : Module) → Shapes m (now (d .entry)) → AccessIs m (Bump true) cap size r a (now (d .entry)) (now (p .entry)) (now (t .entry)) (now (g .entry)) (now (cells .entry)) (now (table .entry)) (now (p .exit)) (now (t .entry)) (now (g .entry)) (now (cells .exit)) (now (table .entry))) ⌝ }
+    requires heap_ready { HeapReady size d.now g.now cells.old table.now }
+    requires ready_on { ReadyOn cap r p.old t.now × (r.place < r.stop) × Kinded (slots_of p.old t.now r.height) }
+    ensures { (m : Module) → Shapes m d.now → AccessIs m (Bump true) cap size r result d.now p.old t.now g.now cells.old table.now p.new t.now g.now cells.new table.now }
 {
     let x = top_number(d, size, r, g, p, t, cells, table);
     match x {
@@ -136,9 +130,9 @@ pub fn dec(
     cells: &mut [u8],
     table: &[u8],
 ) -> Progress
-    requires { ⌜ HeapReady size (now d) (now g) (now cells) (now table) ⌝ }
-    requires { ⌜ ReadyOn cap r (now p) (now t) × (r .place < r .stop) × Kinded (slotsOf (now p) (now t) (r .height)) ⌝ }
-    ensures { λ a. ⌜ ((m : Module) → Shapes m (now (d .entry)) → AccessIs m (Bump false) cap size r a (now (d .entry)) (now (p .entry)) (now (t .entry)) (now (g .entry)) (now (cells .entry)) (now (table .entry)) (now (p .exit)) (now (t .entry)) (now (g .entry)) (now (cells .exit)) (now (table .entry))) ⌝ }
+    requires heap_ready { HeapReady size d.now g.now cells.old table.now }
+    requires ready_on { ReadyOn cap r p.old t.now × (r.place < r.stop) × Kinded (slots_of p.old t.now r.height) }
+    ensures { (m : Module) → Shapes m d.now → AccessIs m (Bump false) cap size r result d.now p.old t.now g.now cells.old table.now p.new t.now g.now cells.new table.now }
 {
     let x = top_number(d, size, r, g, p, t, cells, table);
     match x {

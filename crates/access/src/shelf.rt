@@ -1,12 +1,12 @@
 // The shelf of a heap in four words: count, next, low, top.
-ghost use mathlib.Core.Path.{_≡_};
-ghost use lib.ListN.{length};
-ghost use Rattle·access·specs.specs.Access.{shelfOf};
+ghost use Rattle.std.specs.Prelude.{◌≡◌, length};
+ghost use Rattle.access.specs.Access.{shelf_of};
+
 use heap::Shelf;
 
 pub fn shelf(g: &[u64]) -> Shelf
-    requires { ⌜ length (now g) ≡ 4 ⌝ }
-    ensures { λ k. ⌜ k ≡ shelfOf (now (g .entry)) ⌝ }
+    requires { length g.now ≡ 4 }
+    ensures { result ≡ shelf_of g.now }
 {
     Shelf {
         count: g[0] as usize,
@@ -17,8 +17,8 @@ pub fn shelf(g: &[u64]) -> Shelf
 }
 
 pub fn keep(g: &mut [u64], k: Shelf)
-    requires { ⌜ length (now g) ≡ 4 ⌝ }
-    ensures { λ r. ⌜ (shelfOf (now (g .exit)) ≡ k) × (length (now (g .exit)) ≡ 4) ⌝ }
+    requires { length g.old ≡ 4 }
+    ensures { (shelf_of g.new ≡ k) × (length g.new ≡ 4) }
 {
     g[0] = k.count as u64;
     g[1] = k.next;

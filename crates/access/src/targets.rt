@@ -1,18 +1,16 @@
 // What a pointer is to: a slot of the stack, or something in the heap.
-ghost use mathlib.Core.List.{List};
-ghost use Prim.Native.Nat.{ℕ, _+_, _*_, _≤_};
-ghost use lib.ListN.{length};
-ghost use Rattle·rules.specs.Tables.{Module};
-ghost use Rattle·heap.specs.Targets.{Shapes};
-ghost use Rattle·rules.specs.Stack.{slotsOf};
-ghost use Rattle·soundness.specs.Kinds.{Kind, Kinded};
-ghost use Rattle·access·specs.specs.Access.{HeapReady};
-ghost use Rattle·access·specs.specs.Targets.{Names, Leads, TopNames, Reaches, PutAt};
-use crate::exceptions::POINTER_NOTPOINTER;
-use crate::exceptions::POINTER_NULLPOINTER;
-use crate::exceptions::POINTER_UNKNOWNADDRESS;
-use crate::exceptions::POINTER_WHOLESTRUCTURE;
-use crate::exceptions::STACK_EMPTY;
+ghost use Rattle.std.specs.Prelude.{List, ℕ, ◌+◌, ◌*◌, ◌≤◌, length};
+ghost use Rattle.rules.specs.Tables.{Module};
+ghost use Rattle.heap.specs.Targets.{Shapes};
+ghost use Rattle.rules.specs.Stack.{slots_of};
+ghost use Rattle.soundness.specs.Kinds.{Kind, Kinded};
+ghost use Rattle.access.specs.Access.{HeapReady};
+ghost use Rattle.access.specs.Targets.{Names, Leads, TopNames, Reaches, PutAt};
+
+use crate::exceptions::{
+    POINTER_NOTPOINTER, POINTER_NULLPOINTER, POINTER_UNKNOWNADDRESS, POINTER_WHOLESTRUCTURE,
+    STACK_EMPTY,
+};
 use crate::shelf::shelf;
 use heap::Target;
 use rules::Slot;
@@ -21,6 +19,7 @@ use state::Registers;
 pub(crate) const NULL: u64 = 0xffff_ffff_ffff_ffff;
 
 // A slot; a whole structure of so many fields, in the heap; a number of a type, in a cell; or the exception that the pointer raises.
+#[derive(Clone, Copy)]
 pub(crate) enum Aim {
     Slot(usize),
     Whole(usize),
@@ -29,12 +28,14 @@ pub(crate) enum Aim {
 }
 
 // Where a number stands.
+#[derive(Clone, Copy)]
 pub(crate) enum Spot {
     OnStack(usize),
     InHeap(usize),
 }
 
 // A number, where it stands and what it holds; or the exception that the pointer raises.
+#[derive(Clone, Copy)]
 pub(crate) enum Named {
     At(Spot, Slot),
     Nowhere(u32),
@@ -50,8 +51,8 @@ pub(crate) fn target_of(
     n: usize,
     w: Slot,
 ) -> Aim
-    requires { ⌜ HeapReady size (now d) (now g) (now cells) (now table) × (n ≤ 4096) × Kind (w .kind) ⌝ }
-    ensures { λ x. ⌜ ((m : Module) → Shapes m (now (d .entry)) → (p t : List ℕ) → Leads m size (now (d .entry)) (now (g .entry)) p t (now (cells .entry)) (now (table .entry)) n w x) ⌝ }
+    requires { HeapReady size d.now g.now cells.now table.now × (n ≤ 4096) × Kind w.kind }
+    ensures { (m : Module) → Shapes m d.now → (p t : List ℕ) → Leads m size d.now g.now p t cells.now table.now n w result }
 {
     if w.kind < 7 {
         return Aim::Raises(POINTER_NOTPOINTER);
@@ -86,9 +87,9 @@ pub(crate) fn number_of(
     n: usize,
     w: Slot,
 ) -> Named
-    requires { ⌜ HeapReady size (now d) (now g) (now cells) (now table) × (n ≤ 4096) × Kind (w .kind) ⌝ }
-    requires { ⌜ (n * 8 ≤ length (now p)) × (n ≤ length (now t)) ⌝ }
-    ensures { λ x. ⌜ ((m : Module) → Shapes m (now (d .entry)) → Names m size (now (d .entry)) (now (g .entry)) (now (p .entry)) (now (t .entry)) (now (cells .entry)) (now (table .entry)) n w x) ⌝ }
+    requires heap_ready { HeapReady size d.now g.now cells.now table.now × (n ≤ 4096) × Kind w.kind }
+    requires n_in_bounds { (n * 8 ≤ length p.now) × (n ≤ length t.now) }
+    ensures { (m : Module) → Shapes m d.now → Names m size d.now g.now p.now t.now cells.now table.now n w result }
 {
     let x = target_of(d, size, g, cells, table, n, w);
     match x {
@@ -116,9 +117,9 @@ pub(crate) fn top_number(
     cells: &[u8],
     table: &[u8],
 ) -> Named
-    requires { ⌜ HeapReady size (now d) (now g) (now cells) (now table) × (r .height ≤ 4096) × Kinded (slotsOf (now p) (now t) (r .height)) ⌝ }
-    requires { ⌜ (r .height * 8 ≤ length (now p)) × (r .height ≤ length (now t)) × (r .floor ≤ r .height) ⌝ }
-    ensures { λ x. ⌜ ((m : Module) → Shapes m (now (d .entry)) → TopNames m size (now (d .entry)) (now (g .entry)) (now (p .entry)) (now (t .entry)) (now (cells .entry)) (now (table .entry)) (r .floor) (r .height) x) ⌝ }
+    requires heap_ready { HeapReady size d.now g.now cells.now table.now × (r.height ≤ 4096) × Kinded (slots_of p.now t.now r.height) }
+    requires height_in_bounds { (r.height * 8 ≤ length p.now) × (r.height ≤ length t.now) × (r.floor ≤ r.height) }
+    ensures { (m : Module) → Shapes m d.now → TopNames m size d.now g.now p.now t.now cells.now table.now r.floor r.height result }
 {
     let h = r.height;
     if h < r.floor + 1 {
@@ -130,8 +131,8 @@ pub(crate) fn top_number(
 
 // A payload put there; the type stays.
 pub(crate) fn put(x: Spot, v: u64, p: &mut [u8], cells: &mut [u8])
-    requires { ⌜ Reaches x (now p) (now cells) ⌝ }
-    ensures { λ r. ⌜ PutAt x v (now (p .entry)) (now (cells .entry)) (now (p .exit)) (now (cells .exit)) ⌝ }
+    requires { Reaches x p.old cells.old }
+    ensures { PutAt x v p.old cells.old p.new cells.new }
 {
     match x {
         Spot::OnStack(i) => memory::store64(p, i * 8, v),

@@ -1,11 +1,13 @@
 // `add` to `sar` on two values, a function for each; a is the deeper operand.
-ghost use mathlib.Core.Path.{_≡_};
-ghost use Rattle·rules.specs.declared.Binary.the-variants.{Arith};
-ghost use Rattle·rules.specs.declared.Operator.the-variants.{Add, Sub, Mul, Imul, Div, Idiv, Mod, Imod, And, Or, Xor, Shl, Sal, Shr, Sar};
-ghost use Rattle·values.specs.Values.{kindOfValue, resultOf, Computes};
-ghost use Rattle·arithmetic·specs.specs.Arithmetic.{unlikeOf};
-use values::Computed;
-use values::Value;
+#![tactic(auto)]
+
+ghost use Rattle.std.specs.Prelude.{◌≡◌};
+ghost use Rattle.rules.specs.declared.Binary.TheVariants.{Arith};
+ghost use Rattle.rules.specs.declared.Operator.TheVariants.{Add, Sub, Mul, Imul, Div, Idiv, Mod, Imod, And, Or, Xor, Shl, Sal, Shr, Sar};
+ghost use Rattle.values.specs.Values.{kind_of_value, result_of, Computes};
+ghost use Rattle.arithmetic.specs.Arithmetic.{unlike_of};
+
+use values::{Computed, Value};
 
 const STACK_DIFFERENTTYPE: u32 = 22;
 
@@ -17,7 +19,7 @@ const DOUBLE_INVALIDFORDOUBLE: u32 = 34;
 
 // Operands of two types: the first is no pointer, b is the second.
 fn unlike(b: Value) -> Computed
-    ensures { λ r. ⌜ resultOf r ≡ unlikeOf (kindOfValue b) ⌝ }
+    ensures { result_of result ≡ unlike_of (kind_of_value b) }
 {
     let Value::Pointer(_, _) = b else {
         return Computed::Raises(STACK_DIFFERENTTYPE);
@@ -27,7 +29,7 @@ fn unlike(b: Value) -> Computed
 
 // `add`.
 pub fn add_values(a: Value, b: Value) -> Computed
-    ensures { λ r. ⌜ Computes (Arith Add) a b r ⌝ }
+    ensures { Computes (Arith Add) a b result }
 {
     match a {
         Value::Int(x) => {
@@ -54,7 +56,7 @@ pub fn add_values(a: Value, b: Value) -> Computed
 
 // `sub`.
 pub fn sub_values(a: Value, b: Value) -> Computed
-    ensures { λ r. ⌜ Computes (Arith Sub) a b r ⌝ }
+    ensures { Computes (Arith Sub) a b result }
 {
     match a {
         Value::Int(x) => {
@@ -81,7 +83,7 @@ pub fn sub_values(a: Value, b: Value) -> Computed
 
 // `mul`.
 pub fn mul_values(a: Value, b: Value) -> Computed
-    ensures { λ r. ⌜ Computes (Arith Mul) a b r ⌝ }
+    ensures { Computes (Arith Mul) a b result }
 {
     match a {
         Value::Int(x) => {
@@ -108,7 +110,7 @@ pub fn mul_values(a: Value, b: Value) -> Computed
 
 // `imul`.
 pub fn imul_values(a: Value, b: Value) -> Computed
-    ensures { λ r. ⌜ Computes (Arith Imul) a b r ⌝ }
+    ensures { Computes (Arith Imul) a b result }
 {
     match a {
         Value::Int(x) => {
@@ -135,7 +137,7 @@ pub fn imul_values(a: Value, b: Value) -> Computed
 
 // `div`.
 pub fn div_values(a: Value, b: Value) -> Computed
-    ensures { λ r. ⌜ Computes (Arith Div) a b r ⌝ }
+    ensures { Computes (Arith Div) a b result }
 {
     match a {
         Value::Int(x) => {
@@ -168,7 +170,7 @@ pub fn div_values(a: Value, b: Value) -> Computed
 
 // `idiv`.
 pub fn idiv_values(a: Value, b: Value) -> Computed
-    ensures { λ r. ⌜ Computes (Arith Idiv) a b r ⌝ }
+    ensures { Computes (Arith Idiv) a b result }
 {
     match a {
         Value::Int(x) => {
@@ -201,7 +203,7 @@ pub fn idiv_values(a: Value, b: Value) -> Computed
 
 // `mod`.
 pub fn mod_values(a: Value, b: Value) -> Computed
-    ensures { λ r. ⌜ Computes (Arith Mod) a b r ⌝ }
+    ensures { Computes (Arith Mod) a b result }
 {
     match a {
         Value::Int(x) => {
@@ -234,7 +236,7 @@ pub fn mod_values(a: Value, b: Value) -> Computed
 
 // `imod`.
 pub fn imod_values(a: Value, b: Value) -> Computed
-    ensures { λ r. ⌜ Computes (Arith Imod) a b r ⌝ }
+    ensures { Computes (Arith Imod) a b result }
 {
     match a {
         Value::Int(x) => {
@@ -267,7 +269,7 @@ pub fn imod_values(a: Value, b: Value) -> Computed
 
 // `and`.
 pub fn and_values(a: Value, b: Value) -> Computed
-    ensures { λ r. ⌜ Computes (Arith And) a b r ⌝ }
+    ensures { Computes (Arith And) a b result }
 {
     match a {
         Value::Int(x) => {
@@ -294,7 +296,7 @@ pub fn and_values(a: Value, b: Value) -> Computed
 
 // `or`.
 pub fn or_values(a: Value, b: Value) -> Computed
-    ensures { λ r. ⌜ Computes (Arith Or) a b r ⌝ }
+    ensures { Computes (Arith Or) a b result }
 {
     match a {
         Value::Int(x) => {
@@ -321,7 +323,7 @@ pub fn or_values(a: Value, b: Value) -> Computed
 
 // `xor`.
 pub fn xor_values(a: Value, b: Value) -> Computed
-    ensures { λ r. ⌜ Computes (Arith Xor) a b r ⌝ }
+    ensures { Computes (Arith Xor) a b result }
 {
     match a {
         Value::Int(x) => {
@@ -348,7 +350,7 @@ pub fn xor_values(a: Value, b: Value) -> Computed
 
 // `shl`.
 pub fn shl_values(a: Value, b: Value) -> Computed
-    ensures { λ r. ⌜ Computes (Arith Shl) a b r ⌝ }
+    ensures { Computes (Arith Shl) a b result }
 {
     match a {
         Value::Int(x) => {
@@ -375,7 +377,7 @@ pub fn shl_values(a: Value, b: Value) -> Computed
 
 // `sal`.
 pub fn sal_values(a: Value, b: Value) -> Computed
-    ensures { λ r. ⌜ Computes (Arith Sal) a b r ⌝ }
+    ensures { Computes (Arith Sal) a b result }
 {
     match a {
         Value::Int(x) => {
@@ -402,7 +404,7 @@ pub fn sal_values(a: Value, b: Value) -> Computed
 
 // `shr`.
 pub fn shr_values(a: Value, b: Value) -> Computed
-    ensures { λ r. ⌜ Computes (Arith Shr) a b r ⌝ }
+    ensures { Computes (Arith Shr) a b result }
 {
     match a {
         Value::Int(x) => {
@@ -429,7 +431,7 @@ pub fn shr_values(a: Value, b: Value) -> Computed
 
 // `sar`.
 pub fn sar_values(a: Value, b: Value) -> Computed
-    ensures { λ r. ⌜ Computes (Arith Sar) a b r ⌝ }
+    ensures { Computes (Arith Sar) a b result }
 {
     match a {
         Value::Int(x) => {

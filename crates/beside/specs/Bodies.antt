@@ -1,15 +1,12 @@
 -- What the functions over a record promise: bodies by number, and its bytes.
-use Prim.Native.Nat.{ℕ, zero, suc, _+_}
-use mathlib.Core.Bool.{Bool, true, false}
-use mathlib.Core.List.{List}
-use lib.ListN.{set}
-use Rattle·rules.specs.Bytes.{written}
-use Rattle·rules.specs.Tables.{Body, entry, fn}
+use Rattle.std.specs.Prelude.{ℕ, zero, suc, ◌+◌, Bool, true, false, List, set}
+use Rattle.rules.specs.Bytes.{written}
+use Rattle.rules.specs.Tables.{Body, entry, fn}
 
 -- the body whose byte is the i-th
-abbrev pub bodyAt : ℕ → Body
-bodyAt zero = entry
-bodyAt (suc k) = fn k
+abbrev pub body_at : ℕ → Body
+body_at zero = entry
+body_at (suc k) = fn k
 
 abbrev pub bit : Bool → ℕ
 bit true = 1

@@ -1,214 +1,214 @@
 -- The nodes that wait, walked from one by one until none waits.
-use Prim.Native.Nat.{ℕ, _+_, _*_, _-_, _≤_, _<_}
-use mathlib.Core.Path.{_≡_, refl, ap, _∙_, sym, subst}
+use Prim.Native.Nat.{ℕ, ◌+◌, ◌*◌, ◌-◌, ◌≤◌, ◌<◌}
+use mathlib.Core.Path.{◌≡◌, refl, ap, ◌∙◌, sym, subst}
 use native.Mathlib.Omega.{arith}
 use mathlib.Core.Bool.{Bool, true, false}
 use mathlib.Core.List.{List}
 use lib.ListN.{length}
 use lib.Dec.{ltb}
-use Rattle·rules.specs.Tables.{Body, bodyOf}
-use Rattle·rules.specs.ModuleFile.{labels, read, tablesIn}
-use Rattle·rules.specs.Typing.{Lists}
-use Rattle·format.specs.declared.Sections.{Sections}
-use Rattle·soundness.specs.Tests.{decide, false-true, ltb-is, ltb-isnt}
-use Rattle·soundness.specs.Forced.{Forced}
-use Rattle·soundness.specs.Readable.{orderly}
-use Rattle·soundness.specs.Cutting.{good-file}
-use Rattle·records.specs.Record.{listsOf}
-use Rattle·nodes.specs.declared.list.Waiting.the-variants.{Node, Nothing}
-use Rattle·nodes.specs.Nodes.{placeOf, ownerOf, recordOf, markOf, listedAt, countOf, doneOf, advanced, waitingIn, unseen, Fits}
-use Rattle·nodes.proofs.Numbering.{label-at}
-use Rattle·nodes.proofs.Lists.{advanced-long, advanced-done, advanced-word, node-waits, nothing-waits, unseen-same}
-use Rattle·checker·specs.specs.Work.{Grows, WalkedIn, WalkedNode, Sound, Working, Standing, Quiet, Next, Left}
-use Rattle·checker·proofs.proofs.Growth.{grows-refl, grows-trans, walked-grows}
-use Rattle·checker·proofs.proofs.Turns.{still-working}
+use Rattle.rules.specs.Tables.{Body, body_of}
+use Rattle.rules.specs.ModuleFile.{labels, read, tables_in}
+use Rattle.rules.specs.Typing.{Lists}
+use Rattle.format.specs.declared.Sections.{Sections}
+use Rattle.soundness.specs.Tests.{decide, false_true, ltb_is, ltb_isnt}
+use Rattle.soundness.specs.Forced.{Forced}
+use Rattle.soundness.specs.Readable.{orderly}
+use Rattle.soundness.specs.Cutting.{good_file}
+use Rattle.records.specs.Record.{lists_of}
+use Rattle.nodes.specs.declared.list.Waiting.TheVariants.{Node, Nothing}
+use Rattle.nodes.specs.Nodes.{place_of, owner_of, record_of, mark_of, listed_at, count_of, done_of, advanced, waiting_in, unseen, Fits}
+use Rattle.nodes.proofs.Numbering.{label_at}
+use Rattle.nodes.proofs.Lists.{advanced_long, advanced_done, advanced_word, node_waits, nothing_waits, unseen_same}
+use Rattle.checker.specs.Work.{Grows, WalkedIn, WalkedNode, Sound, Working, Standing, Quiet, Next, Left}
+use Rattle.checker.proofs.Growth.{grows_refl, grows_trans, walked_grows}
+use Rattle.checker.proofs.Turns.{still_working}
 
 -- all listed nodes are labels
-pub few-listed : (s table room marks : List ℕ) (b : Body) → Sound s table room marks b → Fits (labels s) room marks → (countOf marks ≤ labels s) × (labels s ≤ 256)
-few-listed s table room marks b w f = let h : countOf marks + unseen marks (labels s) ≤ labels s = w .few in (omega arith, f .few)
+pub few_listed : (s table room marks : List ℕ) (b : Body) → Sound s table room marks b → Fits (labels s) room marks → (count_of marks ≤ labels s) × (labels s ≤ 256)
+few_listed s table room marks b w f = let h : count_of marks + unseen marks (labels s) ≤ labels s = w.few in (omega arith, f.few)
 
 -- ---- one node
 
 module _ (s : List ℕ) (c : Sections) (table : List ℕ) (owner : ℕ) (room marks : List ℕ) (w : Working s c table owner room marks) (k : ℕ) (next : Next marks k) where
-  listed-next : listedAt marks (doneOf marks) ≡ k
-  listed-next = sym (next .1)
+  listed_next : listed_at marks (done_of marks) ≡ k
+  listed_next = sym next.1
 
-  pub next-numbered : k < labels s
-  next-numbered = subst (λ (j : ℕ). j < labels s) listed-next (w .sound .each (doneOf marks) (next .0) .0)
+  pub next_numbered : k < labels s
+  next_numbered = subst (λ (j : ℕ). j < labels s) listed_next (w.sound.each (done_of marks) next.0).0
 
-  seen : 0 < markOf marks k
-  seen = subst (λ (j : ℕ). 0 < markOf marks j) listed-next (w .sound .each (doneOf marks) (next .0) .1)
+  seen : 0 < mark_of marks k
+  seen = subst (λ (j : ℕ). 0 < mark_of marks j) listed_next (w.sound.each (done_of marks) next.0).1
 
-  owner-is : ownerOf s k ≡ bodyOf owner
-  owner-is = subst (λ (j : ℕ). ownerOf s j ≡ bodyOf owner) listed-next (w .sound .mine (doneOf marks) (omega arith) (next .0))
+  owner_is : owner_of s k ≡ body_of owner
+  owner_is = subst (λ (j : ℕ). owner_of s j ≡ body_of owner) listed_next (w.sound.mine (done_of marks) (omega arith) next.0)
 
   -- the walk starts with the node's record
-  pub node-standing : (p : ℕ) (st : List ℕ) → p ≡ placeOf s k → st ≡ recordOf room k → Standing s owner p st
-  node-standing p st e f =
-      subst (λ (q : ℕ). Standing s owner q st) (sym e) (subst (λ (r : List ℕ). Standing s owner (placeOf s k) r) (sym f)
+  pub node_standing : (p : ℕ) (st : List ℕ) → p ≡ place_of s k → st ≡ record_of room k → Standing s owner p st
+  node_standing p st e f =
+      subst (λ (q : ℕ). Standing s owner q st) (sym e) (subst (λ (r : List ℕ). Standing s owner (place_of s k) r) (sym f)
       (record {
-        holds = w .sound .holds k next-numbered seen;
+        holds = w.sound.holds k next_numbered seen;
         stands = record {
-          place = subst (λ (b : Body). read s .isPlace b (placeOf s k) ≡ true) owner-is (orderly (tablesIn s) (good-file s (w .readable)) .lands k (ownerOf s k) (placeOf s k) (label-at s (w .readable) k next-numbered));
-          forced = subst (λ (b : Body). Forced (read s) b (placeOf s k) (listsOf (recordOf room k))) owner-is (w .sound .forced k next-numbered seen);
+          place = subst (λ (b : Body). (read s).is_place b (place_of s k) ≡ true) owner_is ((orderly (tables_in s) (good_file s w.readable)).lands k (owner_of s k) (place_of s k) (label_at s w.readable k next_numbered));
+          forced = subst (λ (b : Body). Forced (read s) b (place_of s k) (lists_of (record_of room k))) owner_is (w.sound.forced k next_numbered seen);
         };
       }))
 
-  pub node-fits : 64 * k + 64 ≤ length room
-  node-fits = let h : 64 * labels s ≤ length room = w .fits .room-for in let n : k < labels s = next-numbered in omega arith
+  pub node_fits : 64 * k + 64 ≤ length room
+  node_fits = let h : 64 * labels s ≤ length room = w.fits.room_for in let n : k < labels s = next_numbered in omega arith
 
-  module _ (room₁ marks₁ : List ℕ) (p : ℕ) (st : List ℕ) (place-is : p ≡ placeOf s k) (record-is : st ≡ recordOf room k) (steady : doneOf marks₁ ≡ doneOf marks) where
+  module _ (room₁ marks₁ : List ℕ) (p : ℕ) (st : List ℕ) (place_is : p ≡ place_of s k) (record_is : st ≡ record_of room k) (steady : done_of marks₁ ≡ done_of marks) where
     abbrev Result : Bool → Type 0
-    Result ok = Left s table (bodyOf owner) room marks room₁ marks₁ ok (WalkedIn s table room₁ marks₁ (bodyOf owner) p (listsOf st))
+    Result ok = Left s table (body_of owner) room marks room₁ marks₁ ok (WalkedIn s table room₁ marks₁ (body_of owner) p (lists_of st))
 
-    pub node-refused : Result false → Left s table (bodyOf owner) room marks room₁ marks₁ false (doneOf marks₁ ≡ doneOf marks + 1)
-    node-refused x = record { grows = x .grows; sound = x .sound; done = λ z. false-true z; refuted = x .refuted }
+    pub node_refused : Result false → Left s table (body_of owner) room marks room₁ marks₁ false (done_of marks₁ ≡ done_of marks + 1)
+    node_refused x = record { grows = x.grows; sound = x.sound; done = λ z. false_true z; refuted = x.refuted }
 
     module _ (x : Result true) where
       whole : length marks₁ ≡ 514
-      whole = x .grows .many ∙ w .fits .whole
+      whole = x.grows.many ∙ w.fits.whole
 
       abbrev marks₂ : List ℕ
       marks₂ = advanced marks₁
 
-      done-is : doneOf marks₂ ≡ doneOf marks₁ + 1
-      done-is = advanced-done marks₁ whole
+      done_is : done_of marks₂ ≡ done_of marks₁ + 1
+      done_is = advanced_done marks₁ whole
 
-      count-is : countOf marks₂ ≡ countOf marks₁
-      count-is = advanced-word marks₁ whole 512 (omega arith)
+      count_is : count_of marks₂ ≡ count_of marks₁
+      count_is = advanced_word marks₁ whole 512 (omega arith)
 
-      few : (countOf marks₁ ≤ labels s) × (labels s ≤ 256)
-      few = let h : countOf marks₁ + unseen marks₁ (labels s) ≤ labels s = x .sound .few in (omega arith, w .fits .few)
+      few : (count_of marks₁ ≤ labels s) × (labels s ≤ 256)
+      few = let h : count_of marks₁ + unseen marks₁ (labels s) ≤ labels s = x.sound.few in (omega arith, w.fits.few)
 
-      mark-is : (j : ℕ) → j < labels s → markOf marks₂ j ≡ markOf marks₁ j
-      mark-is j l = let h : labels s ≤ 256 = few .1 in advanced-word marks₁ whole j (omega arith)
+      mark_is : (j : ℕ) → j < labels s → mark_of marks₂ j ≡ mark_of marks₁ j
+      mark_is j l = let h : labels s ≤ 256 = few.1 in advanced_word marks₁ whole j (omega arith)
 
-      listed-is : (i : ℕ) → i < countOf marks₁ → listedAt marks₂ i ≡ listedAt marks₁ i
-      listed-is i l = let g : countOf marks₁ ≤ labels s = few .0 in let h : labels s ≤ 256 = few .1 in advanced-word marks₁ whole (256 + i) (omega arith)
+      listed_is : (i : ℕ) → i < count_of marks₁ → listed_at marks₂ i ≡ listed_at marks₁ i
+      listed_is i l = let g : count_of marks₁ ≤ labels s = few.0 in let h : labels s ≤ 256 = few.1 in advanced_word marks₁ whole (256 + i) (omega arith)
 
       -- what holds of the nodes of the list, and of those to which something has flowed, holds still
-      on-list : (P : ℕ → Type 0) (i : ℕ) → i < countOf marks₂ → (i < countOf marks₁ → P (listedAt marks₁ i)) → P (listedAt marks₂ i)
-      on-list P i l f = let c : countOf marks₂ ≡ countOf marks₁ = count-is in let h : i < countOf marks₁ = omega arith in subst P (sym (listed-is i h)) (f h)
+      on_list : (P : ℕ → Type 0) (i : ℕ) → i < count_of marks₂ → (i < count_of marks₁ → P (listed_at marks₁ i)) → P (listed_at marks₂ i)
+      on_list P i l f = let c : count_of marks₂ ≡ count_of marks₁ = count_is in let h : i < count_of marks₁ = omega arith in subst P (sym (listed_is i h)) (f h)
 
-      was-seen : (j : ℕ) → j < labels s → 0 < markOf marks₂ j → 0 < markOf marks₁ j
-      was-seen j l m = let z : markOf marks₂ j ≡ markOf marks₁ j = mark-is j l in omega arith
+      was_seen : (j : ℕ) → j < labels s → 0 < mark_of marks₂ j → 0 < mark_of marks₁ j
+      was_seen j l m = let z : mark_of marks₂ j ≡ mark_of marks₁ j = mark_is j l in omega arith
 
-      is-seen : (j : ℕ) → j < labels s → 0 < markOf marks₁ j → 0 < markOf marks₂ j
-      is-seen j l m = let z : markOf marks₂ j ≡ markOf marks₁ j = mark-is j l in omega arith
+      is_seen : (j : ℕ) → j < labels s → 0 < mark_of marks₁ j → 0 < mark_of marks₂ j
+      is_seen j l m = let z : mark_of marks₂ j ≡ mark_of marks₁ j = mark_is j l in omega arith
 
-      marked-more : Grows (labels s) room₁ marks₁ room₁ marks₂
-      marked-more =
+      marked_more : Grows (labels s) room₁ marks₁ room₁ marks₂
+      marked_more =
           record {
             rest = refl;
             long = refl;
-            many = advanced-long marks₁ whole;
-            kept = λ j l m. (refl, is-seen j l m);
-            more = let c : countOf marks₂ ≡ countOf marks₁ = count-is in omega arith;
-            order = listed-is;
+            many = advanced_long marks₁ whole;
+            kept = λ j l m. (refl, is_seen j l m);
+            more = let c : count_of marks₂ ≡ count_of marks₁ = count_is in omega arith;
+            order = listed_is;
           }
 
       still : (b : Body) (q : ℕ) (l : Lists) → WalkedIn s table room₁ marks₁ b q l → WalkedIn s table room₁ marks₂ b q l
-      still = walked-grows s table (w .tabled) room₁ marks₁ room₁ marks₂ marked-more
+      still = walked_grows s table w.tabled room₁ marks₁ room₁ marks₂ marked_more
 
       -- the walk from this node
-      walked-here : WalkedNode s table room₁ marks₂ k
-      walked-here =
-          subst (λ (b : Body). WalkedIn s table room₁ marks₂ b (placeOf s k) (listsOf (recordOf room₁ k))) (sym owner-is)
-          (subst (λ (r : List ℕ). WalkedIn s table room₁ marks₂ (bodyOf owner) (placeOf s k) (listsOf r)) (record-is ∙ sym (x .grows .kept k next-numbered seen .0))
-          (subst (λ (q : ℕ). WalkedIn s table room₁ marks₂ (bodyOf owner) q (listsOf st)) place-is (still (bodyOf owner) p (listsOf st) (x .done refl))))
+      walked_here : WalkedNode s table room₁ marks₂ k
+      walked_here =
+          subst (λ (b : Body). WalkedIn s table room₁ marks₂ b (place_of s k) (lists_of (record_of room₁ k))) (sym owner_is)
+          (subst (λ (r : List ℕ). WalkedIn s table room₁ marks₂ (body_of owner) (place_of s k) (lists_of r)) (record_is ∙ sym (x.grows.kept k next_numbered seen).0)
+          (subst (λ (q : ℕ). WalkedIn s table room₁ marks₂ (body_of owner) q (lists_of st)) place_is (still (body_of owner) p (lists_of st) (x.done refl))))
 
       -- it is the first of those that waited
-      this-listed : listedAt marks₁ (doneOf marks₁) ≡ k
-      this-listed = ap (listedAt marks₁) steady ∙ x .grows .order (doneOf marks) (next .0) ∙ listed-next
+      this_listed : listed_at marks₁ (done_of marks₁) ≡ k
+      this_listed = ap (listed_at marks₁) steady ∙ x.grows.order (done_of marks) next.0 ∙ listed_next
 
-      this-waited : doneOf marks₁ < countOf marks₁
-      this-waited = let a : doneOf marks < countOf marks = next .0 in let b : countOf marks ≤ countOf marks₁ = x .grows .more in omega arith
+      this_waited : done_of marks₁ < count_of marks₁
+      this_waited = let a : done_of marks < count_of marks = next.0 in let b : count_of marks ≤ count_of marks₁ = x.grows.more in omega arith
 
-      walked-all : (i : ℕ) → i < doneOf marks₂ → WalkedNode s table room₁ marks₂ (listedAt marks₂ i)
-      walked-all i l =
-          let d : doneOf marks₂ ≡ doneOf marks₁ + 1 = done-is in
-          let g : doneOf marks₁ < countOf marks₁ = this-waited in
-          let h : i < countOf marks₁ = omega arith in
-          subst (WalkedNode s table room₁ marks₂) (sym (listed-is i h))
-          (decide (ltb i (doneOf marks₁))
-          (λ y. let j : ℕ = listedAt marks₁ i in still (ownerOf s j) (placeOf s j) (listsOf (recordOf room₁ j)) (x .sound .walked i (ltb-is i (doneOf marks₁) y)))
-          (λ y. let u : doneOf marks₁ ≤ i = ltb-isnt i (doneOf marks₁) y in
-          let e : i ≡ doneOf marks₁ = omega arith in subst (WalkedNode s table room₁ marks₂) (sym (ap (listedAt marks₁) e ∙ this-listed)) walked-here))
+      walked_all : (i : ℕ) → i < done_of marks₂ → WalkedNode s table room₁ marks₂ (listed_at marks₂ i)
+      walked_all i l =
+          let d : done_of marks₂ ≡ done_of marks₁ + 1 = done_is in
+          let g : done_of marks₁ < count_of marks₁ = this_waited in
+          let h : i < count_of marks₁ = omega arith in
+          subst (WalkedNode s table room₁ marks₂) (sym (listed_is i h))
+          (decide (ltb i (done_of marks₁))
+          (λ y. let j : ℕ = listed_at marks₁ i in still (owner_of s j) (place_of s j) (lists_of (record_of room₁ j)) (x.sound.walked i (ltb_is i (done_of marks₁) y)))
+          (λ y. let u : done_of marks₁ ≤ i = ltb_isnt i (done_of marks₁) y in
+          let e : i ≡ done_of marks₁ = omega arith in subst (WalkedNode s table room₁ marks₂) (sym (ap (listed_at marks₁) e ∙ this_listed)) walked_here))
 
-      pub node-walked : Left s table (bodyOf owner) room marks room₁ marks₂ true (doneOf marks₂ ≡ doneOf marks + 1)
-      node-walked =
+      pub node_walked : Left s table (body_of owner) room marks room₁ marks₂ true (done_of marks₂ ≡ done_of marks + 1)
+      node_walked =
           record {
-            grows = grows-trans (labels s) room marks room₁ marks₁ room₁ marks₂ (x .grows) marked-more;
+            grows = grows_trans (labels s) room marks room₁ marks₁ room₁ marks₂ x.grows marked_more;
             sound = record {
-              holds = λ j l m. x .sound .holds j l (was-seen j l m);
-              forced = λ j l m. x .sound .forced j l (was-seen j l m);
-              listed = λ j l m. let y : (i : ℕ) × (i < countOf marks₁) × (listedAt marks₁ i ≡ j) = x .sound .listed j l (was-seen j l m) in
-                  let c : countOf marks₂ ≡ countOf marks₁ = count-is in
-                  let u : y .0 < countOf marks₁ = y .1 in (y .0, omega arith, listed-is (y .0) u ∙ y .2);
-              each = λ i l. on-list (λ (j : ℕ). (j < labels s) × (0 < markOf marks₂ j)) i l
-                  (λ h. (x .sound .each i h .0, is-seen (listedAt marks₁ i) (x .sound .each i h .0) (x .sound .each i h .1)));
-              walked = walked-all;
-              mine = λ i h l. let d : doneOf marks₂ ≡ doneOf marks₁ + 1 = done-is in on-list (λ (j : ℕ). ownerOf s j ≡ bodyOf owner) i l (λ g. x .sound .mine i (omega arith) g);
-              behind = let c : countOf marks₂ ≡ countOf marks₁ = count-is in
-                  let d : doneOf marks₂ ≡ doneOf marks₁ + 1 = done-is in
-                  let g : doneOf marks₁ < countOf marks₁ = this-waited in omega arith;
-              few = let c : countOf marks₂ ≡ countOf marks₁ = count-is in
-                  let u : unseen marks₂ (labels s) ≡ unseen marks₁ (labels s) = unseen-same marks₁ marks₂ (labels s) mark-is in
-                  let h : countOf marks₁ + unseen marks₁ (labels s) ≤ labels s = x .sound .few in omega arith;
+              holds = λ j l m. x.sound.holds j l (was_seen j l m);
+              forced = λ j l m. x.sound.forced j l (was_seen j l m);
+              listed = λ j l m. let y : (i : ℕ) × (i < count_of marks₁) × (listed_at marks₁ i ≡ j) = x.sound.listed j l (was_seen j l m) in
+                  let c : count_of marks₂ ≡ count_of marks₁ = count_is in
+                  let u : y.0 < count_of marks₁ = y.1 in (y.0, omega arith, listed_is y.0 u ∙ y.2);
+              each = λ i l. on_list (λ (j : ℕ). (j < labels s) × (0 < mark_of marks₂ j)) i l
+                  (λ h. ((x.sound.each i h).0, is_seen (listed_at marks₁ i) (x.sound.each i h).0 (x.sound.each i h).1));
+              walked = walked_all;
+              mine = λ i h l. let d : done_of marks₂ ≡ done_of marks₁ + 1 = done_is in on_list (λ (j : ℕ). owner_of s j ≡ body_of owner) i l (λ g. x.sound.mine i (omega arith) g);
+              behind = let c : count_of marks₂ ≡ count_of marks₁ = count_is in
+                  let d : done_of marks₂ ≡ done_of marks₁ + 1 = done_is in
+                  let g : done_of marks₁ < count_of marks₁ = this_waited in omega arith;
+              few = let c : count_of marks₂ ≡ count_of marks₁ = count_is in
+                  let u : unseen marks₂ (labels s) ≡ unseen marks₁ (labels s) = unseen_same marks₁ marks₂ (labels s) mark_is in
+                  let h : count_of marks₁ + unseen marks₁ (labels s) ≤ labels s = x.sound.few in omega arith;
             };
-            done = λ z. done-is ∙ ap (λ (n : ℕ). n + 1) steady;
-            refuted = λ z. false-true (sym z);
+            done = λ z. done_is ∙ ap (λ (n : ℕ). n + 1) steady;
+            refuted = λ z. false_true (sym z);
           }
 
-      pub advance-fits : doneOf marks₁ < 256
-      advance-fits = let g : doneOf marks₁ < countOf marks₁ = this-waited in let h : countOf marks₁ ≤ labels s = few .0 in let n : labels s ≤ 256 = few .1 in omega arith
+      pub advance_fits : done_of marks₁ < 256
+      advance_fits = let g : done_of marks₁ < count_of marks₁ = this_waited in let h : count_of marks₁ ≤ labels s = few.0 in let n : labels s ≤ 256 = few.1 in omega arith
 
 -- ---- all of them
 
 pub record Draining (s table : List ℕ) (owner : ℕ) (room₀ marks₀ room marks : List ℕ) : Type 0 where
   pub grows : Grows (labels s) room₀ marks₀ room marks
-  pub sound : Sound s table room marks (bodyOf owner)
+  pub sound : Sound s table room marks (body_of owner)
 
 module _ (s : List ℕ) (c : Sections) (table : List ℕ) (owner : ℕ) (room₀ marks₀ : List ℕ) (w₀ : Working s c table owner room₀ marks₀) where
-  pub drain-first : Draining s table owner room₀ marks₀ room₀ marks₀
-  drain-first = record { grows = grows-refl (labels s) room₀ marks₀; sound = w₀ .sound }
+  pub drain_first : Draining s table owner room₀ marks₀ room₀ marks₀
+  drain_first = record { grows = grows_refl (labels s) room₀ marks₀; sound = w₀.sound }
 
   module _ (room marks : List ℕ) (d : Draining s table owner room₀ marks₀ room marks) where
-    pub draining-works : Working s c table owner room marks
-    draining-works = still-working s c table owner room₀ marks₀ room marks w₀ (d .grows) (d .sound)
+    pub draining_works : Working s c table owner room marks
+    draining_works = still_working s c table owner room₀ marks₀ room marks w₀ d.grows d.sound
 
-    pub first-fits : (length marks ≡ 514) × (doneOf marks ≤ countOf marks) × (countOf marks ≤ 256)
-    first-fits =
-        let x : (countOf marks ≤ labels s) × (labels s ≤ 256) = few-listed s table room marks (bodyOf owner) (d .sound) (draining-works .fits) in
-        let y : countOf marks ≤ labels s = x .0 in let z : labels s ≤ 256 = x .1 in (draining-works .fits .whole, d .sound .behind, omega arith)
+    pub first_fits : (length marks ≡ 514) × (done_of marks ≤ count_of marks) × (count_of marks ≤ 256)
+    first_fits =
+        let x : (count_of marks ≤ labels s) × (labels s ≤ 256) = few_listed s table room marks (body_of owner) d.sound draining_works.fits in
+        let y : count_of marks ≤ labels s = x.0 in let z : labels s ≤ 256 = x.1 in (draining_works.fits.whole, d.sound.behind, omega arith)
 
-    pub drained : waitingIn marks ≡ Nothing → Left s table (bodyOf owner) room₀ marks₀ room marks true (Quiet marks)
-    drained e = record { grows = d .grows; sound = d .sound; done = λ z. nothing-waits marks e; refuted = λ z. false-true (sym z) }
+    pub drained : waiting_in marks ≡ Nothing → Left s table (body_of owner) room₀ marks₀ room marks true (Quiet marks)
+    drained e = record { grows = d.grows; sound = d.sound; done = λ z. nothing_waits marks e; refuted = λ z. false_true (sym z) }
 
-    module _ (k : ℕ) (e : waitingIn marks ≡ Node k) where
-      pub next-is : Next marks k
-      next-is = let h : doneOf marks ≤ countOf marks = d .sound .behind in let n = node-waits marks k e .0 in (less h n, node-waits marks k e .1)
+    module _ (k : ℕ) (e : waiting_in marks ≡ Node k) where
+      pub next_is : Next marks k
+      next_is = let h : done_of marks ≤ count_of marks = d.sound.behind in let n = (node_waits marks k e).0 in (less h n, (node_waits marks k e).1)
         where
-          less : doneOf marks ≤ countOf marks → (doneOf marks ≡ countOf marks → ⊥) → doneOf marks < countOf marks
-          less h n = decide (ltb (doneOf marks) (countOf marks)) (λ y. ltb-is (doneOf marks) (countOf marks) y)
-              (λ y. let g : countOf marks ≤ doneOf marks = ltb-isnt (doneOf marks) (countOf marks) y in absurd (n (omega arith)))
+          less : done_of marks ≤ count_of marks → (done_of marks ≡ count_of marks → ⊥) → done_of marks < count_of marks
+          less h n = decide (ltb (done_of marks) (count_of marks)) (λ y. ltb_is (done_of marks) (count_of marks) y)
+              (λ y. let g : count_of marks ≤ done_of marks = ltb_isnt (done_of marks) (count_of marks) y in absurd (n (omega arith)))
 
-      module _ (room′ marks′ : List ℕ) where
-        pub drain-on : Left s table (bodyOf owner) room marks room′ marks′ true (doneOf marks′ ≡ doneOf marks + 1) → Draining s table owner room₀ marks₀ room′ marks′
-        drain-on x = record { grows = grows-trans (labels s) room₀ marks₀ room marks room′ marks′ (d .grows) (x .grows); sound = x .sound }
+      module _ (room' marks' : List ℕ) where
+        pub drain_on : Left s table (body_of owner) room marks room' marks' true (done_of marks' ≡ done_of marks + 1) → Draining s table owner room₀ marks₀ room' marks'
+        drain_on x = record { grows = grows_trans (labels s) room₀ marks₀ room marks room' marks' d.grows x.grows; sound = x.sound }
 
-        pub drain-less : Left s table (bodyOf owner) room marks room′ marks′ true (doneOf marks′ ≡ doneOf marks + 1) → labels s - doneOf marks′ < labels s - doneOf marks
-        drain-less x =
-            let a : doneOf marks < countOf marks = next-is .0 in
-            let b : countOf marks ≤ labels s = few-listed s table room marks (bodyOf owner) (d .sound) (draining-works .fits) .0 in
-            let z : doneOf marks′ ≡ doneOf marks + 1 = x .done refl in omega arith
+        pub drain_less : Left s table (body_of owner) room marks room' marks' true (done_of marks' ≡ done_of marks + 1) → labels s - done_of marks' < labels s - done_of marks
+        drain_less x =
+            let a : done_of marks < count_of marks = next_is.0 in
+            let b : count_of marks ≤ labels s = (few_listed s table room marks (body_of owner) d.sound draining_works.fits).0 in
+            let z : done_of marks' ≡ done_of marks + 1 = x.done refl in omega arith
 
-        pub drain-stops : Left s table (bodyOf owner) room marks room′ marks′ false (doneOf marks′ ≡ doneOf marks + 1)
-            → Left s table (bodyOf owner) room₀ marks₀ room′ marks′ false (Quiet marks′)
-        drain-stops x =
+        pub drain_stops : Left s table (body_of owner) room marks room' marks' false (done_of marks' ≡ done_of marks + 1)
+            → Left s table (body_of owner) room₀ marks₀ room' marks' false (Quiet marks')
+        drain_stops x =
             record {
-              grows = grows-trans (labels s) room₀ marks₀ room marks room′ marks′ (d .grows) (x .grows);
-              sound = x .sound;
-              done = λ z. false-true z;
-              refuted = x .refuted;
+              grows = grows_trans (labels s) room₀ marks₀ room marks room' marks' d.grows x.grows;
+              sound = x.sound;
+              done = λ z. false_true z;
+              refuted = x.refuted;
             }

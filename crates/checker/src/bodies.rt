@@ -1,19 +1,19 @@
 // The bodies in order: each is walked from its start, then from every node that something has flowed to.
-ghost use mathlib.Core.Path.{_≡_};
-ghost use Prim.Native.Nat.{_+_};
-ghost use lib.ListN.{length};
-ghost use Rattle·rules.specs.Tables.{bodyOf};
-ghost use Rattle·rules.specs.ModuleFile.{labels, refusal};
-ghost use Rattle·format.specs.Layout.{Packed};
-ghost use Rattle·reader.specs.Cut.{Blank};
-ghost use Rattle·keys.specs.Keys.{Keyed};
-ghost use Rattle·nodes.specs.Nodes.{doneOf, Tabled, Fits, Seeded};
-ghost use Rattle·checker·specs.specs.Work.{Working, Quiet, Next, Started, Settled, Left, VerdictIs};
+ghost use Rattle.std.specs.Prelude.{◌≡◌, ◌+◌, length};
+ghost use Rattle.rules.specs.Tables.{body_of};
+ghost use Rattle.rules.specs.ModuleFile.{labels, refusal};
+ghost use Rattle.format.specs.Layout.{Packed};
+ghost use Rattle.reader.specs.Cut.{Blank};
+ghost use Rattle.keys.specs.Keys.{Keyed};
+ghost use Rattle.nodes.specs.Nodes.{done_of, Tabled, Fits, Seeded};
+ghost use Rattle.checker.specs.Work.{Working, Quiet, Next, Started, Settled, Left, VerdictIs};
+
 use crate::walk::Turn;
 use format::Sections;
 use nodes::list::Waiting;
 
 // All bodies have a typing, or this one is the first that has none.
+#[derive(Clone, Copy)]
 pub(crate) enum Verdict {
     Typed,
     Untyped(usize),
@@ -31,10 +31,10 @@ fn visit(
     marks: &mut [u16],
     st: &mut [u8],
 ) -> bool
-    requires { ⌜ Working (now file) c (now table) owner (now room) (now marks) ⌝ }
-    requires { ⌜ Next (now marks) k × (length (now st) ≡ 64) ⌝ }
-    requires { ⌜ Keyed (now file) (now code) 0 ⌝ }
-    ensures { λ r. ⌜ Left (now (file .entry)) (now (table .entry)) (bodyOf owner) (now (room .entry)) (now (marks .entry)) (now (room .exit)) (now (marks .exit)) r (doneOf (now (marks .exit)) ≡ doneOf (now (marks .entry)) + 1) ⌝ }
+    requires working { Working file.now c table.now owner room.old marks.old }
+    requires next { Next marks.old k × (length st.old ≡ 64) }
+    requires keyed { Keyed file.now code.now 0 }
+    ensures { Left file.now table.now (body_of owner) room.old marks.old room.new marks.new result (done_of marks.new ≡ done_of marks.old + 1) }
 {
     nodes::room::load(room, 64 * k, st);
     let p = nodes::table::place_of(file, c, k);
@@ -57,10 +57,10 @@ fn drain(
     marks: &mut [u16],
     st: &mut [u8],
 ) -> bool
-    requires { ⌜ Working (now file) c (now table) owner (now room) (now marks) ⌝ }
-    requires { ⌜ length (now st) ≡ 64 ⌝ }
-    requires { ⌜ Keyed (now file) (now code) 0 ⌝ }
-    ensures { λ r. ⌜ Left (now (file .entry)) (now (table .entry)) (bodyOf owner) (now (room .entry)) (now (marks .entry)) (now (room .exit)) (now (marks .exit)) r (Quiet (now (marks .exit))) ⌝ }
+    requires working { Working file.now c table.now owner room.old marks.old }
+    requires st_len { length st.old ≡ 64 }
+    requires keyed { Keyed file.now code.now 0 }
+    ensures { Left file.now table.now (body_of owner) room.old marks.old room.new marks.new result (Quiet marks.new) }
 {
     loop {
         let found = nodes::list::first(marks);
@@ -85,10 +85,10 @@ fn begin(
     marks: &mut [u16],
     st: &mut [u8],
 ) -> bool
-    requires { ⌜ Working (now file) c (now table) owner (now room) (now marks) ⌝ }
-    requires { ⌜ Seeded (now file) (bodyOf owner) (now st) ⌝ }
-    requires { ⌜ Keyed (now file) (now code) 0 ⌝ }
-    ensures { λ r. ⌜ Left (now (file .entry)) (now (table .entry)) (bodyOf owner) (now (room .entry)) (now (marks .entry)) (now (room .exit)) (now (marks .exit)) r (Started (now (file .entry)) (now (table .entry)) (now (room .exit)) (now (marks .exit)) (bodyOf owner)) ⌝ }
+    requires working { Working file.now c table.now owner room.old marks.old }
+    requires seeded { Seeded file.now (body_of owner) st.old }
+    requires keyed { Keyed file.now code.now 0 }
+    ensures { Left file.now table.now (body_of owner) room.old marks.old room.new marks.new result (Started file.now table.now room.new marks.new (body_of owner)) }
 {
     let e = nodes::starts::end(file, c, owner);
     let p = nodes::starts::start(file, c, owner);
@@ -111,10 +111,10 @@ fn check_body(
     marks: &mut [u16],
     st: &mut [u8],
 ) -> bool
-    requires { ⌜ Working (now file) c (now table) owner (now room) (now marks) ⌝ }
-    requires { ⌜ length (now st) ≡ 64 ⌝ }
-    requires { ⌜ Keyed (now file) (now code) 0 ⌝ }
-    ensures { λ r. ⌜ Left (now (file .entry)) (now (table .entry)) (bodyOf owner) (now (room .entry)) (now (marks .entry)) (now (room .exit)) (now (marks .exit)) r (Settled (now (file .entry)) (now (table .entry)) (now (room .exit)) (now (marks .exit)) (bodyOf owner)) ⌝ }
+    requires working { Working file.now c table.now owner room.old marks.old }
+    requires st_len { length st.old ≡ 64 }
+    requires keyed { Keyed file.now code.now 0 }
+    ensures { Left file.now table.now (body_of owner) room.old marks.old room.new marks.new result (Settled file.now table.now room.new marks.new (body_of owner)) }
 {
     nodes::starts::seed(file, c, owner, st);
     let started = begin(file, c, code, table, owner, room, marks, st);
@@ -134,10 +134,10 @@ pub(crate) fn bodies(
     marks: &mut [u16],
     st: &mut [u8],
 ) -> Verdict
-    requires { ⌜ Packed (now file) c × (refusal (now file) ≡ 0) × Tabled (now file) (now table) ⌝ }
-    requires { ⌜ Fits (labels (now file)) (now room) (now marks) × Blank (now marks) × (length (now st) ≡ 64) ⌝ }
-    requires { ⌜ Keyed (now file) (now code) 0 ⌝ }
-    ensures { λ r. ⌜ VerdictIs (now (file .entry)) (now (table .entry)) (now (room .entry)) (now (marks .entry)) (now (room .exit)) (now (marks .exit)) r ⌝ }
+    requires packed { Packed file.now c × (refusal file.now ≡ 0) × Tabled file.now table.now }
+    requires fits { Fits (labels file.now) room.old marks.old × Blank marks.old × (length st.old ≡ 64) }
+    requires keyed { Keyed file.now code.now 0 }
+    ensures { VerdictIs file.now table.now room.old marks.old room.new marks.new result }
 {
     let n = c.functions;
     let mut owner = 0xffff_ffff;

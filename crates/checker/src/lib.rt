@@ -1,15 +1,17 @@
 // The checker: whether every body of a module has a consistent typing, and what it gives at the labels.
+#![tactic(auto)]
+
 mod bodies;
 pub mod walk;
 
-ghost use mathlib.Core.Path.{_≡_};
-ghost use Prim.Native.Nat.{_*_, _≤_, _<_};
-ghost use lib.ListN.{length};
-ghost use Rattle·rules.specs.ModuleFile.{edition, refusal};
-ghost use Rattle·format.specs.Layout.{Packed};
-ghost use Rattle·reader.specs.Cut.{Blank};
-ghost use Rattle·keys.specs.Keys.{Keyed};
-ghost use Rattle·checker·specs.specs.Work.{CheckIs, Exactly};
+ghost use Rattle.std.specs.Prelude.{◌≡◌, ◌*◌, ◌≤◌, ◌<◌, length};
+ghost use Rattle.rules.specs.ModuleFile.{edition, refusal};
+ghost use Rattle.format.specs.Layout.{Packed};
+ghost use Rattle.reader.specs.Cut.{Blank};
+ghost use Rattle.keys.specs.Keys.{Keyed};
+ghost use Rattle.nodes.specs.Nodes.{Tabled};
+ghost use Rattle.checker.specs.Work.{CheckIs, Exactly};
+
 use crate::bodies::Verdict;
 use format::Sections;
 use reader::Opened;
@@ -17,7 +19,7 @@ use rules::CheckAnswer;
 
 const ROOM_TOO_SHORT: u32 = 10;
 
-// With a blank table for the places, and the code in keys.
+// With a blank table for the places, which holds the nodes afterwards, and the code in keys.
 pub fn check_with(
     file: &[u8],
     c: Sections,
@@ -25,10 +27,11 @@ pub fn check_with(
     table: &mut [u16],
     room: &mut [u8],
 ) -> CheckAnswer
-    requires { ⌜ Packed (now file) c × (refusal (now file) ≡ 0) × (64 * c .labels ≤ length (now room)) ⌝ }
-    requires { ⌜ (c .extent < length (now table)) × Blank (now table) ⌝ }
-    requires { ⌜ Keyed (now file) (now code) 0 ⌝ }
-    ensures { λ r. ⌜ CheckIs (now (file .entry)) (now (room .entry)) r (now (room .exit)) ⌝ }
+    requires packed { Packed file.now c × (refusal file.now ≡ 0) × (64 * c.labels ≤ length room.old) }
+    requires extent_in_bounds { (c.extent < length table.old) × Blank table.old }
+    requires keyed { Keyed file.now code.now 0 }
+    ensures check_is { CheckIs file.now room.old result room.new }
+    ensures tabled { Tabled file.now table.new }
 {
     nodes::table::fill(file, c, table);
     let mut marks = [0u16; 514];
@@ -47,27 +50,27 @@ pub fn check_with(
 }
 
 fn with_small_table(file: &[u8], c: Sections, code: &[u8], room: &mut [u8]) -> CheckAnswer
-    requires { ⌜ Packed (now file) c × (refusal (now file) ≡ 0) × (64 * c .labels ≤ length (now room)) × (c .extent < 512) ⌝ }
-    requires { ⌜ Keyed (now file) (now code) 0 ⌝ }
-    ensures { λ r. ⌜ CheckIs (now (file .entry)) (now (room .entry)) r (now (room .exit)) ⌝ }
+    requires packed { Packed file.now c × (refusal file.now ≡ 0) × (64 * c.labels ≤ length room.old) × (c.extent < 512) }
+    requires keyed { Keyed file.now code.now 0 }
+    ensures { CheckIs file.now room.old result room.new }
 {
     let mut table = [0u16; 512];
     check_with(file, c, code, &mut table, room)
 }
 
 fn with_middle_table(file: &[u8], c: Sections, code: &[u8], room: &mut [u8]) -> CheckAnswer
-    requires { ⌜ Packed (now file) c × (refusal (now file) ≡ 0) × (64 * c .labels ≤ length (now room)) × (c .extent < 4096) ⌝ }
-    requires { ⌜ Keyed (now file) (now code) 0 ⌝ }
-    ensures { λ r. ⌜ CheckIs (now (file .entry)) (now (room .entry)) r (now (room .exit)) ⌝ }
+    requires packed { Packed file.now c × (refusal file.now ≡ 0) × (64 * c.labels ≤ length room.old) × (c.extent < 4096) }
+    requires keyed { Keyed file.now code.now 0 }
+    ensures { CheckIs file.now room.old result room.new }
 {
     let mut table = [0u16; 4096];
     check_with(file, c, code, &mut table, room)
 }
 
 fn with_large_table(file: &[u8], c: Sections, code: &[u8], room: &mut [u8]) -> CheckAnswer
-    requires { ⌜ Packed (now file) c × (refusal (now file) ≡ 0) × (64 * c .labels ≤ length (now room)) ⌝ }
-    requires { ⌜ Keyed (now file) (now code) 0 ⌝ }
-    ensures { λ r. ⌜ CheckIs (now (file .entry)) (now (room .entry)) r (now (room .exit)) ⌝ }
+    requires packed { Packed file.now c × (refusal file.now ≡ 0) × (64 * c.labels ≤ length room.old) }
+    requires keyed { Keyed file.now code.now 0 }
+    ensures { CheckIs file.now room.old result room.new }
 {
     let mut table = [0u16; 16385];
     check_with(file, c, code, &mut table, room)
@@ -75,9 +78,9 @@ fn with_large_table(file: &[u8], c: Sections, code: &[u8], room: &mut [u8]) -> C
 
 // The same where the code is edition 1's: it is put in keys first.
 fn old_with_small_table(file: &[u8], c: Sections, room: &mut [u8]) -> CheckAnswer
-    requires { ⌜ Packed (now file) c × (refusal (now file) ≡ 0) × (64 * c .labels ≤ length (now room)) × (c .extent < 512) ⌝ }
-    requires { ⌜ edition (now file) ≡ 1 ⌝ }
-    ensures { λ r. ⌜ CheckIs (now (file .entry)) (now (room .entry)) r (now (room .exit)) ⌝ }
+    requires packed { Packed file.now c × (refusal file.now ≡ 0) × (64 * c.labels ≤ length room.old) × (c.extent < 512) }
+    requires file_value { edition file.now ≡ 1 }
+    ensures { CheckIs file.now room.old result room.new }
 {
     let from = c.code;
     let mut own = [0u8; 512];
@@ -87,9 +90,9 @@ fn old_with_small_table(file: &[u8], c: Sections, room: &mut [u8]) -> CheckAnswe
 }
 
 fn old_with_large_table(file: &[u8], c: Sections, room: &mut [u8]) -> CheckAnswer
-    requires { ⌜ Packed (now file) c × (refusal (now file) ≡ 0) × (64 * c .labels ≤ length (now room)) ⌝ }
-    requires { ⌜ edition (now file) ≡ 1 ⌝ }
-    ensures { λ r. ⌜ CheckIs (now (file .entry)) (now (room .entry)) r (now (room .exit)) ⌝ }
+    requires packed { Packed file.now c × (refusal file.now ≡ 0) × (64 * c.labels ≤ length room.old) }
+    requires file_value { edition file.now ≡ 1 }
+    ensures { CheckIs file.now room.old result room.new }
 {
     let from = c.code;
     let mut own = [0u8; 16384];
@@ -100,8 +103,8 @@ fn old_with_large_table(file: &[u8], c: Sections, room: &mut [u8]) -> CheckAnswe
 
 // The check of a module that can be read, with a table no larger than the code asks.
 fn check_opened(file: &[u8], c: Sections, room: &mut [u8]) -> CheckAnswer
-    requires { ⌜ Packed (now file) c × (refusal (now file) ≡ 0) ⌝ }
-    ensures { λ r. ⌜ CheckIs (now (file .entry)) (now (room .entry)) r (now (room .exit)) ⌝ }
+    requires { Packed file.now c × (refusal file.now ≡ 0) }
+    ensures { CheckIs file.now room.old result room.new }
 {
     if room.len() < 64 * c.labels {
         return CheckAnswer::Refused(ROOM_TOO_SHORT);
@@ -127,8 +130,8 @@ fn check_opened(file: &[u8], c: Sections, room: &mut [u8]) -> CheckAnswer
 // The check of any bytes in any room: 1 to 9 where they can't be read, 10 where the room is too short, 11 with the first body
 // without typing, or 0.
 pub fn check(file: &[u8], room: &mut [u8]) -> CheckAnswer
-    ensures { λ r. ⌜ CheckIs (now (file .entry)) (now (room .entry)) r (now (room .exit)) ⌝ }
-    ensures { λ r. ⌜ Exactly (now (file .entry)) (now (room .entry)) r ⌝ }
+    ensures check_is { CheckIs file.now room.old result room.new }
+    ensures exactly { Exactly file.now room.old result }
 {
     let opened = reader::open(file);
     match opened {

@@ -1,14 +1,12 @@
 // A walk: from a place straight on, up to the next nodes.
-ghost use mathlib.Core.Path.{_≡_};
-ghost use Prim.Native.Nat.{_<_};
-ghost use mathlib.Core.List.{[], _∷_};
-ghost use lib.ListN.{getD};
-ghost use Rattle·rules.specs.Tables.{bodyOf, bodyEnd};
-ghost use Rattle·rules.specs.ModuleFile.{read, bodiesIn};
-ghost use Rattle·keys.specs.Keys.{Keyed};
-ghost use Rattle·records.specs.Record.{listsOf, Holds, Labelled};
-ghost use Rattle·nodes.specs.Nodes.{doneOf};
-ghost use Rattle·checker·specs.specs.Work.{Working, Standing, Recorded, WalkedIn, Left, Heads, targets, Turned, TurnLeads};
+ghost use Rattle.std.specs.Prelude.{◌≡◌, ◌<◌, [], ◌∷◌, get_or};
+ghost use Rattle.rules.specs.Tables.{body_of, body_end};
+ghost use Rattle.rules.specs.ModuleFile.{read, bodies_in};
+ghost use Rattle.keys.specs.Keys.{Keyed};
+ghost use Rattle.records.specs.Record.{lists_of, Holds, Labelled};
+ghost use Rattle.nodes.specs.Nodes.{done_of};
+ghost use Rattle.checker.specs.Work.{Working, Standing, Recorded, WalkedIn, Left, Heads, targets, Turned, TurnLeads};
+
 use format::Sections;
 use keys::Decoded;
 use records::Transfer;
@@ -17,6 +15,7 @@ use records::Transfer;
 const ENTRY: usize = 0xffff_ffff;
 
 // A walk is refused, ends at nodes, or goes on at a place.
+#[derive(Clone, Copy)]
 pub enum Turn {
     Breaks,
     Ends,
@@ -35,11 +34,11 @@ fn arrive(
     marks: &mut [u16],
     st: &[u8],
 ) -> bool
-    requires { ⌜ Working (now file) c (now table) owner (now room) (now marks) ⌝ }
-    requires { ⌜ Standing (now file) owner q (now st) ⌝ }
-    requires { ⌜ (q < bodyEnd (bodiesIn (now file)) (bodyOf owner)) × (v ≡ getD (now table) q 0) × (0 < v) ⌝ }
-    ensures { λ r. ⌜ Left (now (file .entry)) (now (table .entry)) (bodyOf owner) (now (room .entry)) (now (marks .entry)) (now (room .exit)) (now (marks .exit)) r (Recorded (now (file .entry)) (now (table .entry)) (now (room .exit)) (now (marks .exit)) (bodyOf owner) q (listsOf (now (st .entry)))) ⌝ }
-    ensures { λ r. ⌜ doneOf (now (marks .exit)) ≡ doneOf (now (marks .entry)) ⌝ }
+    requires working { Working file.now c table.now owner room.old marks.old }
+    requires standing { Standing file.now owner q st.now }
+    requires q_bound { (q < body_end (bodies_in file.now) (body_of owner)) × (v ≡ get_or table.now q 0) × (0 < v) }
+    ensures left { Left file.now table.now (body_of owner) room.old marks.old room.new marks.new result (Recorded file.now table.now room.new marks.new (body_of owner) q (lists_of st.now)) }
+    ensures marks_unchanged { done_of marks.new ≡ done_of marks.old }
 {
     nodes::merge(v - 1, room, marks, st)
 }
@@ -56,11 +55,11 @@ pub fn land(
     marks: &mut [u16],
     st: &[u8],
 ) -> Turn
-    requires { ⌜ Working (now file) c (now table) owner (now room) (now marks) ⌝ }
-    requires { ⌜ Standing (now file) owner q (now st) ⌝ }
-    requires { ⌜ e ≡ bodyEnd (bodiesIn (now file)) (bodyOf owner) ⌝ }
-    ensures { λ r. ⌜ Turned (now (file .entry)) (now (table .entry)) (bodyOf owner) q (listsOf (now (st .entry))) ((q, listsOf (now (st .entry))) ∷ []) (now (room .entry)) (now (marks .entry)) (now (room .exit)) (now (marks .exit)) r ⌝ }
-    ensures { λ r. ⌜ doneOf (now (marks .exit)) ≡ doneOf (now (marks .entry)) ⌝ }
+    requires working { Working file.now c table.now owner room.old marks.old }
+    requires standing { Standing file.now owner q st.now }
+    requires e_value { e ≡ body_end (bodies_in file.now) (body_of owner) }
+    ensures turned { Turned file.now table.now (body_of owner) q (lists_of st.now) ((q, lists_of st.now) ∷ []) room.old marks.old room.new marks.new result }
+    ensures marks_unchanged { done_of marks.new ≡ done_of marks.old }
 {
     let v = nodes::table::node_at(table, q);
     if v == 0 {
@@ -87,11 +86,11 @@ fn jump(
     marks: &mut [u16],
     st: &[u8],
 ) -> bool
-    requires { ⌜ Working (now file) c (now table) owner (now room) (now marks) ⌝ }
-    requires { ⌜ Standing (now file) owner q (now st) ⌝ }
-    requires { ⌜ Labelled (read (now file)) (bodyOf owner) q ⌝ }
-    ensures { λ r. ⌜ Left (now (file .entry)) (now (table .entry)) (bodyOf owner) (now (room .entry)) (now (marks .entry)) (now (room .exit)) (now (marks .exit)) r (Recorded (now (file .entry)) (now (table .entry)) (now (room .exit)) (now (marks .exit)) (bodyOf owner) q (listsOf (now (st .entry)))) ⌝ }
-    ensures { λ r. ⌜ doneOf (now (marks .exit)) ≡ doneOf (now (marks .entry)) ⌝ }
+    requires working { Working file.now c table.now owner room.old marks.old }
+    requires standing { Standing file.now owner q st.now }
+    requires labelled { Labelled (read file.now) (body_of owner) q }
+    ensures left { Left file.now table.now (body_of owner) room.old marks.old room.new marks.new result (Recorded file.now table.now room.new marks.new (body_of owner) q (lists_of st.now)) }
+    ensures marks_unchanged { done_of marks.new ≡ done_of marks.old }
 {
     let v = nodes::table::node_at(table, q);
     arrive(file, c, table, owner, q, v, room, marks, st)
@@ -110,12 +109,12 @@ fn follow(
     marks: &mut [u16],
     st: &[u8],
 ) -> Turn
-    requires { ⌜ Working (now file) c (now table) owner (now room) (now marks) ⌝ }
-    requires { ⌜ Holds (now st) × Heads (now file) (bodyOf owner) p (listsOf (now st)) next ⌝ }
-    requires { ⌜ e ≡ bodyEnd (bodiesIn (now file)) (bodyOf owner) ⌝ }
-    ensures { λ r. ⌜ Turned (now (file .entry)) (now (table .entry)) (bodyOf owner) p (listsOf (now (st .entry))) (targets next (listsOf (now (st .entry)))) (now (room .entry)) (now (marks .entry)) (now (room .exit)) (now (marks .exit)) r ⌝ }
-    ensures { λ r. ⌜ TurnLeads next r ⌝ }
-    ensures { λ r. ⌜ doneOf (now (marks .exit)) ≡ doneOf (now (marks .entry)) ⌝ }
+    requires working { Working file.now c table.now owner room.old marks.old }
+    requires holds { Holds st.now × Heads file.now (body_of owner) p (lists_of st.now) next }
+    requires e_value { e ≡ body_end (bodies_in file.now) (body_of owner) }
+    ensures turned { Turned file.now table.now (body_of owner) p (lists_of st.now) (targets next (lists_of st.now)) room.old marks.old room.new marks.new result }
+    ensures turn_leads { TurnLeads next result }
+    ensures marks_unchanged { done_of marks.new ≡ done_of marks.old }
 {
     match next {
         Transfer::Breaks => Turn::Breaks,
@@ -151,11 +150,11 @@ pub fn walk(
     marks: &mut [u16],
     st: &mut [u8],
 ) -> bool
-    requires { ⌜ Working (now file) c (now table) owner (now room) (now marks) ⌝ }
-    requires { ⌜ Standing (now file) owner p (now st) ⌝ }
-    requires { ⌜ Keyed (now file) (now code) 0 ⌝ }
-    ensures { λ r. ⌜ Left (now (file .entry)) (now (table .entry)) (bodyOf owner) (now (room .entry)) (now (marks .entry)) (now (room .exit)) (now (marks .exit)) r (WalkedIn (now (file .entry)) (now (table .entry)) (now (room .exit)) (now (marks .exit)) (bodyOf owner) p (listsOf (now (st .entry)))) ⌝ }
-    ensures { λ r. ⌜ doneOf (now (marks .exit)) ≡ doneOf (now (marks .entry)) ⌝ }
+    requires working { Working file.now c table.now owner room.old marks.old }
+    requires standing { Standing file.now owner p st.old }
+    requires keyed { Keyed file.now code.now 0 }
+    ensures left { Left file.now table.now (body_of owner) room.old marks.old room.new marks.new result (WalkedIn file.now table.now room.new marks.new (body_of owner) p (lists_of st.old)) }
+    ensures marks_unchanged { done_of marks.new ≡ done_of marks.old }
 {
     let e = nodes::starts::end(file, c, owner);
     let mut at = p;

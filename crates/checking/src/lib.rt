@@ -1,12 +1,15 @@
 // The public call `check`, with its promise.
-ghost use Rattle·promises.specs.Promises.{CheckKeeps};
+#![tactic(auto)]
+
+ghost use Rattle.promises.specs.Promises.{CheckKeeps};
+
 use rules::CheckAnswer;
 
 pub mod host;
 
 // The check of any bytes in the lent room, of which 64 bytes a label are used.
 pub fn check(file: &[u8], room: &mut [u8]) -> CheckAnswer
-    ensures { λ r. ⌜ CheckKeeps (now (file .entry)) (now (room .entry)) r (now (room .exit)) ⌝ }
+    ensures { CheckKeeps file.now room.old result room.new }
 {
     checker::check(file, room)
 }

@@ -1,20 +1,23 @@
 // The public calls `formula` and `formula_stop`, with their promises.
-ghost use Rattle·rules.specs.Grammar.{StopsAt};
-ghost use Rattle·promises.specs.FormulaPromises.{FormulaKeeps};
+#![tactic(auto)]
+
+ghost use Rattle.rules.specs.Grammar.{StopsAt};
+ghost use Rattle.promises.specs.FormulaPromises.{FormulaKeeps};
+
 use rules::WriteAnswer;
 
 pub mod host;
 
 // Compiles a formula line and writes its module into the lent output, or refuses and changes nothing.
 pub fn formula(line: &[u8], out: &mut [u8]) -> WriteAnswer
-    ensures { λ r. ⌜ FormulaKeeps (now (line .entry)) (now (out .entry)) r (now (out .exit)) ⌝ }
+    ensures { FormulaKeeps line.now out.old result out.new }
 {
     formula::compile(line, out)
 }
 
 // The place where a formula line stops making sense: its length where it is in the grammar or ends too early.
 pub fn formula_stop(line: &[u8]) -> usize
-    ensures { λ r. ⌜ StopsAt (now (line .entry)) r ⌝ }
+    ensures { StopsAt line.now result }
 {
     formula::stop(line)
 }

@@ -1,36 +1,31 @@
 // `call`, `ret`, and the first frame.
-ghost use mathlib.Core.Path.{_≡_};
-ghost use mathlib.Core.List.{List};
-ghost use Prim.Native.Nat.{ℕ, _+_, _*_, _<_, _≤_};
-ghost use lib.ListN.{length};
-ghost use Rattle·rules.specs.declared.Instruction.the-variants.{Call, Ret};
-ghost use Rattle·rules.specs.Bytes.{byte, word};
-ghost use Rattle·rules.specs.Instructions.{typeByte, tyOf, kindOf};
-ghost use Rattle·rules.specs.Machine.{execIn, kindsMatch};
-ghost use Rattle·rules.specs.Tables.{functionAt, functionOf, paramsFrom};
-ghost use Rattle·rules.specs.ModuleFile.{edition, read, refusal, functionsIn};
-ghost use Rattle·rules.specs.Stack.{slotsOf};
-ghost use Rattle·soundness.specs.Kinds.{Kinded};
-ghost use Rattle·format.specs.Layout.{Packed};
-ghost use Rattle·state.specs.State.{depthOf, stateOf, Ready, DoesOrLacks};
-ghost use Rattle·control·specs.specs.Control.{ActsOn, Prepared, savedIn, argumentsIn, openedIn, firstAt, enteredAt, restoredAt, pastFrame};
-use crate::exceptions::FUNCTION_OUTOFRANGE;
-use crate::exceptions::FUNCTION_TOPOFCALLSTACK;
-use crate::exceptions::STACK_DIFFERENTTYPE;
-use crate::exceptions::STACK_EMPTY;
-use crate::exceptions::STACK_OVERFLOW;
+ghost use Rattle.std.specs.Prelude.{◌≡◌, List, ℕ, ◌+◌, ◌*◌, ◌<◌, ◌≤◌, length};
+ghost use Rattle.rules.specs.declared.Instruction.TheVariants.{Call, Ret};
+ghost use Rattle.rules.specs.Bytes.{byte, word};
+ghost use Rattle.rules.specs.Instructions.{type_byte, ty_of, kind_of};
+ghost use Rattle.rules.specs.Machine.{exec_in, kinds_match};
+ghost use Rattle.rules.specs.Tables.{function_at, function_of, params_from};
+ghost use Rattle.rules.specs.ModuleFile.{edition, read, refusal, functions_in};
+ghost use Rattle.rules.specs.Stack.{slots_of};
+ghost use Rattle.soundness.specs.Kinds.{Kinded};
+ghost use Rattle.format.specs.Layout.{Packed};
+ghost use Rattle.state.specs.State.{depth_of, state_of, Ready, DoesOrLacks};
+ghost use Rattle.control.specs.Control.{ActsOn, Prepared, saved_in, arguments_in, opened_in, first_at, entered_at, restored_at, past_frame};
+
+use crate::exceptions::{
+    FUNCTION_OUTOFRANGE, FUNCTION_TOPOFCALLSTACK, STACK_DIFFERENTTYPE, STACK_EMPTY, STACK_OVERFLOW,
+};
 use crate::wide;
 use format::Sections;
 use reader::entries::FoundFunction;
-use state::Progress;
-use state::Registers;
+use state::{Progress, Registers};
 
 // ---- call
 
 // The type number of a type byte. Every pointer is 7, every managed one 8.
 fn kind_of(b: u8) -> u8
-    requires { ⌜ typeByte (tyOf b) ≡ b ⌝ }
-    ensures { λ r. ⌜ r ≡ kindOf (tyOf b) ⌝ }
+    requires { type_byte (ty_of b) ≡ b }
+    ensures { result ≡ kind_of (ty_of b) }
 {
     if 192 <= b {
         return 8;
@@ -43,9 +38,9 @@ fn kind_of(b: u8) -> u8
 
 // Whether the n slots from base on have the type numbers of the n parameters of function k, topmost first.
 fn alike(file: &[u8], c: Sections, k: usize, n: usize, base: usize, t: &[u8]) -> bool
-    requires { ⌜ Packed (now file) c × (refusal (now file) ≡ 0) ⌝ }
-    requires { ⌜ (k < c .functions) × (n ≡ byte (functionsIn (now file)) (functionAt (edition (now file)) k + 8)) × (base + n ≤ length (now t)) ⌝ }
-    ensures { λ r. ⌜ ((p : List ℕ) → r ≡ kindsMatch (paramsFrom (functionsIn (now (file .entry))) (functionAt (edition (now (file .entry))) k + 10) n) (slotsOf p (now (t .entry)) (base + n))) ⌝ }
+    requires packed { Packed file.now c × (refusal file.now ≡ 0) }
+    requires k_lt_functions { (k < c.functions) × (n ≡ byte (functions_in file.now) (function_at (edition file.now) k + 8)) × (base + n ≤ length t.now) }
+    ensures { (p : List ℕ) → result ≡ kinds_match (params_from (functions_in file.now) (function_at (edition file.now) k + 10) n) (slots_of p t.now (base + n)) }
 {
     let mut j = n;
     while 0 < j {
@@ -60,8 +55,8 @@ fn alike(file: &[u8], c: Sections, k: usize, n: usize, base: usize, t: &[u8]) ->
 
 // Writes to the frame's words what only the registers have. It goes on behind the call.
 fn save(r: Registers, f: &mut [u16])
-    requires { ⌜ (r .frame + 24 ≤ length (now f)) × (r .place + 5 < 65536) × (r .stop < 65536) × (r .floor < 65536) ⌝ }
-    ensures { λ x. ⌜ now (f .exit) ≡ savedIn (now (f .entry)) r ⌝ }
+    requires { (r.frame + 24 ≤ length f.old) × (r.place + 5 < 65536) × (r.stop < 65536) × (r.floor < 65536) }
+    ensures { f.new ≡ saved_in f.old r }
 {
     let a = r.frame;
     f[a + 1] = (r.place + 5) as u16;
@@ -71,8 +66,8 @@ fn save(r: Registers, f: &mut [u16])
 
 // The n slots from base on become the locals of the frame whose words begin at a.
 fn bind_arguments(a: usize, base: usize, n: usize, f: &mut [u16])
-    requires { ⌜ (a + 24 ≤ length (now f)) × (n ≤ 8) × (base + n ≤ 4096) ⌝ }
-    ensures { λ x. ⌜ now (f .exit) ≡ argumentsIn (now (f .entry)) a base n ⌝ }
+    requires { (a + 24 ≤ length f.old) × (n ≤ 8) × (base + n ≤ 4096) }
+    ensures { f.new ≡ arguments_in f.old a base n }
 {
     let at = a + 4;
     let mut j = 0;
@@ -84,8 +79,8 @@ fn bind_arguments(a: usize, base: usize, n: usize, f: &mut [u16])
 
 // Writes the words of a new frame at a, on n arguments from base on.
 fn open_frame(a: usize, body: usize, base: usize, n: usize, f: &mut [u16])
-    requires { ⌜ (a + 24 ≤ length (now f)) × (body < 65536) × (n ≤ 8) × (base + n ≤ 4096) ⌝ }
-    ensures { λ x. ⌜ now (f .exit) ≡ openedIn (now (f .entry)) a body base n ⌝ }
+    requires { (a + 24 ≤ length f.old) × (body < 65536) × (n ≤ 8) × (base + n ≤ 4096) }
+    ensures { f.new ≡ opened_in f.old a body base n }
 {
     f[a] = body as u16;
     f[a + 2] = base as u16;
@@ -95,8 +90,8 @@ fn open_frame(a: usize, body: usize, base: usize, n: usize, f: &mut [u16])
 
 // Opens the first frame, on n arguments from slot 0 on.
 pub fn first_frame(body: usize, start: usize, end: usize, n: usize, f: &mut [u16]) -> Registers
-    requires { ⌜ (24 ≤ length (now f)) × (body < 65536) × (n ≤ 8) ⌝ }
-    ensures { λ r. ⌜ (r ≡ firstAt start end n) × (now (f .exit) ≡ openedIn (now (f .entry)) 0 body 0 n) ⌝ }
+    requires { (24 ≤ length f.old) × (body < 65536) × (n ≤ 8) }
+    ensures { (result ≡ first_at start end n) × (f.new ≡ opened_in f.old 0 body 0 n) }
 {
     open_frame(0, body, 0, n, f);
     Registers {
@@ -110,8 +105,8 @@ pub fn first_frame(body: usize, start: usize, end: usize, n: usize, f: &mut [u16
 
 // The registers at the start of function k.
 fn entered(file: &[u8], c: Sections, k: usize, frame: usize, height: usize) -> Registers
-    requires { ⌜ Packed (now file) c × (k < c .functions) ⌝ }
-    ensures { λ r. ⌜ r ≡ enteredAt (functionOf (edition (now (file .entry))) (functionsIn (now (file .entry))) (functionAt (edition (now (file .entry))) k)) frame height ⌝ }
+    requires { Packed file.now c × (k < c.functions) }
+    ensures { result ≡ entered_at (function_of (edition file.now) (functions_in file.now) (function_at (edition file.now) k)) frame height }
 {
     let at = c.records + c.stride * k;
     let start = format::word(file, at);
@@ -134,9 +129,9 @@ pub fn call(
     t: &[u8],
     f: &mut [u16],
 ) -> Progress
-    requires { ⌜ Packed (now file) c × (refusal (now file) ≡ 0) ⌝ }
-    requires { ⌜ (r .place + 5 ≤ length (now code)) × (r .place < r .stop) × ((p : List ℕ) × Prepared r p (now t) (now f)) ⌝ }
-    ensures { λ a. ⌜ ((cap : ℕ) (p : List ℕ) → Ready cap r p (now (t .entry)) (now (f .entry)) → DoesOrLacks cap r a p (now (t .entry)) (now (f .entry)) p (now (t .entry)) (now (f .exit)) (execIn (read (now (file .entry))) cap (Call (word 4 (now (code .entry)) (r .place + 1))) (stateOf r p (now (t .entry)) (now (f .entry))))) ⌝ }
+    requires packed { Packed file.now c × (refusal file.now ≡ 0) }
+    requires place_in_bounds { (r.place + 5 ≤ length code.now) × (r.place < r.stop) × ((p : List ℕ) × Prepared r p t.now f.old) }
+    ensures { (cap : ℕ) (p : List ℕ) → Ready cap r p t.now f.old → DoesOrLacks cap r result p t.now f.old p t.now f.new (exec_in (read file.now) cap (Call (word 4 code.now (r.place + 1))) (state_of r p t.now f.old)) }
 {
     let k = keys::operand(code, r.place) as usize;
     let found = view::function(file, c, k);
@@ -166,8 +161,8 @@ pub fn call(
 
 // The registers of the frame whose words begin at a.
 fn restored(a: usize, height: usize, f: &[u16]) -> Registers
-    requires { ⌜ a + 24 ≤ length (now f) ⌝ }
-    ensures { λ r. ⌜ r ≡ restoredAt (now (f .entry)) a height ⌝ }
+    requires { a + 24 ≤ length f.now }
+    ensures { result ≡ restored_at f.now a height }
 {
     Registers {
         place: wide(f[a + 1]),
@@ -180,8 +175,8 @@ fn restored(a: usize, height: usize, f: &[u16]) -> Registers
 
 // Drops the running frame, with so many slots left. In the first frame the run is over.
 fn leave(r: Registers, height: usize, f: &[u16]) -> Progress
-    requires { ⌜ (r .frame ≤ length (now f)) × (r .frame ≡ depthOf r * 24) ⌝ }
-    ensures { λ a. ⌜ a ≡ pastFrame (depthOf r) r (now (f .entry)) height ⌝ }
+    requires { (r.frame ≤ length f.now) × (r.frame ≡ depth_of r * 24) }
+    ensures { result ≡ past_frame (depth_of r) r f.now height }
 {
     let frame = r.frame;
     if frame == 0 {
@@ -199,9 +194,9 @@ pub fn ret(
     t: &mut [u8],
     f: &[u16],
 ) -> Progress
-    requires { ⌜ Packed (now file) c × (refusal (now file) ≡ 0) ⌝ }
-    requires { ⌜ Prepared r (now p) (now t) (now f) × Kinded (slotsOf (now p) (now t) (r .height)) ⌝ }
-    ensures { λ a. ⌜ ((cap : ℕ) → ActsOn cap r a (now (p .entry)) (now (t .entry)) (now (f .entry)) (now (p .exit)) (now (t .exit)) (now (f .entry)) (execIn (read (now (file .entry))) cap Ret)) ⌝ }
+    requires packed { Packed file.now c × (refusal file.now ≡ 0) }
+    requires prepared { Prepared r p.old t.old f.now × Kinded (slots_of p.old t.old r.height) }
+    ensures { (cap : ℕ) → ActsOn cap r result p.old t.old f.now p.new t.new f.now (exec_in (read file.now) cap Ret) }
 {
     let frame = r.frame;
     let found = view::function(file, c, wide(f[frame]));

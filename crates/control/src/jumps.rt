@@ -1,31 +1,26 @@
 // `jmp` and the conditional branches.
-ghost use mathlib.Core.Path.{_≡_};
-ghost use mathlib.Core.Bool.{Bool, cond};
-ghost use mathlib.Core.List.{List};
-ghost use Prim.Native.Nat.{ℕ, _+_, _-_, _*_, _<_, _≤_};
-ghost use lib.ListN.{length};
-ghost use Rattle·rules.specs.declared.Instruction.the-variants.{Jmp, Branch};
-ghost use Rattle·rules.specs.declared.Condition.the-variants.{Je, Jne, Ja, Jae, Jb, Jbe};
-ghost use Rattle·rules.specs.Bytes.{word};
-ghost use Rattle·rules.specs.Machine.{execIn, owned};
-ghost use Rattle·rules.specs.ModuleFile.{read, refusal};
-ghost use Rattle·format.specs.Layout.{Packed};
-ghost use Rattle·state.specs.State.{topOf, movedTo};
-ghost use Rattle·state.specs.declared.Progress.the-variants.{Goes};
-ghost use Rattle·control·specs.specs.Control.{placeOf, ActsOn, Prepared, PoppedIs, Branches};
-use crate::exceptions::LABEL_OUTOFRANGE;
-use crate::exceptions::STACK_DIFFERENTTYPE;
-use crate::exceptions::STACK_EMPTY;
+ghost use Rattle.std.specs.Prelude.{◌≡◌, Bool, cond, List, ℕ, ◌+◌, ◌-◌, ◌*◌, ◌<◌, ◌≤◌, length};
+ghost use Rattle.rules.specs.declared.Instruction.TheVariants.{Jmp, Branch};
+ghost use Rattle.rules.specs.declared.Condition.TheVariants.{Je, Jne, Ja, Jae, Jb, Jbe};
+ghost use Rattle.rules.specs.Bytes.{word};
+ghost use Rattle.rules.specs.Machine.{exec_in, owned};
+ghost use Rattle.rules.specs.ModuleFile.{read, refusal};
+ghost use Rattle.format.specs.Layout.{Packed};
+ghost use Rattle.state.specs.State.{top_of, moved_to};
+ghost use Rattle.state.specs.declared.Progress.TheVariants.{Goes};
+ghost use Rattle.control.specs.Control.{place_of, ActsOn, Prepared, PoppedIs, Branches};
+
+use crate::exceptions::{LABEL_OUTOFRANGE, STACK_DIFFERENTTYPE, STACK_EMPTY};
 use crate::wide;
 use format::Sections;
 use reader::entries::FoundLabel;
-use state::Progress;
-use state::Registers;
+use state::{Progress, Registers};
 use values::Value;
 
 // ---- places
 
 // A label's place.
+#[derive(Clone, Copy)]
 enum FoundPlace {
     At(usize),
     Nothing,
@@ -34,9 +29,9 @@ enum FoundPlace {
 // The place of the label that the instruction names, where it is one of this frame's body. An owner is below 128 or ffffffff,
 // so its lower half tells it.
 fn target(file: &[u8], c: Sections, code: &[u8], r: Registers, f: &[u16]) -> FoundPlace
-    requires { ⌜ Packed (now file) c × (refusal (now file) ≡ 0) ⌝ }
-    requires { ⌜ (r .place + 5 ≤ length (now code)) × (r .frame < length (now f)) ⌝ }
-    ensures { λ q. ⌜ placeOf q ≡ owned (topOf r (now (f .entry)) .body) (read (now (file .entry)) .label (word 4 (now (code .entry)) (r .place + 1))) ⌝ }
+    requires packed { Packed file.now c × (refusal file.now ≡ 0) }
+    requires place_in_bounds { (r.place + 5 ≤ length code.now) × (r.frame < length f.now) }
+    ensures { place_of result ≡ owned (top_of r f.now).body ((read file.now).label (word 4 code.now (r.place + 1))) }
 {
     let n = keys::operand(code, r.place);
     let found = view::label(file, c, n as usize);
@@ -52,9 +47,9 @@ fn target(file: &[u8], c: Sections, code: &[u8], r: Registers, f: &[u16]) -> Fou
 
 // `jmp`.
 pub fn jmp(file: &[u8], c: Sections, code: &[u8], r: Registers, f: &[u16]) -> Progress
-    requires { ⌜ Packed (now file) c × (refusal (now file) ≡ 0) ⌝ }
-    requires { ⌜ (r .place + 5 ≤ length (now code)) × (r .frame < length (now f)) ⌝ }
-    ensures { λ a. ⌜ ((cap : ℕ) (p t : List ℕ) → ActsOn cap r a p t (now (f .entry)) p t (now (f .entry)) (execIn (read (now (file .entry))) cap (Jmp (word 4 (now (code .entry)) (r .place + 1))))) ⌝ }
+    requires packed { Packed file.now c × (refusal file.now ≡ 0) }
+    requires place_in_bounds { (r.place + 5 ≤ length code.now) × (r.frame < length f.now) }
+    ensures { (cap : ℕ) (p t : List ℕ) → ActsOn cap r result p t f.now p t f.now (exec_in (read file.now) cap (Jmp (word 4 code.now (r.place + 1)))) }
 {
     let to = target(file, c, code, r, f);
     let FoundPlace::At(place) = to else {
@@ -66,6 +61,7 @@ pub fn jmp(file: &[u8], c: Sections, code: &[u8], r: Registers, f: &[u16]) -> Pr
 // ---- branches: the int that is tested leaves the stack, whether the branch is taken or not
 
 // The int on top and the place of the label, or the exception.
+#[derive(Clone, Copy)]
 enum Popped {
     Int(u32, usize),
     Refused(u32),
@@ -80,9 +76,9 @@ fn tested(
     t: &[u8],
     f: &[u16],
 ) -> Popped
-    requires { ⌜ Packed (now file) c × (refusal (now file) ≡ 0) ⌝ }
-    requires { ⌜ (r .place + 5 ≤ length (now code)) × Prepared r (now p) (now t) (now f) ⌝ }
-    ensures { λ x. ⌜ PoppedIs x r (now (p .entry)) (now (t .entry)) (now (f .entry)) (read (now (file .entry))) (word 4 (now (code .entry)) (r .place + 1)) ⌝ }
+    requires packed { Packed file.now c × (refusal file.now ≡ 0) }
+    requires place_in_bounds { (r.place + 5 ≤ length code.now) × Prepared r p.now t.now f.now }
+    ensures { PoppedIs result r p.now t.now f.now (read file.now) (word 4 code.now (r.place + 1)) }
 {
     let to = target(file, c, code, r, f);
     let FoundPlace::At(place) = to else {
@@ -101,8 +97,8 @@ fn tested(
 
 // Goes on at the label's place where the branch is taken, else behind it.
 fn branched(r: Registers, taken: bool, place: usize) -> Progress
-    requires { ⌜ (0 < r .height) × (r .place + 5 < 65536) ⌝ }
-    ensures { λ a. ⌜ a ≡ Goes (movedTo r (cond taken place (r .place + 5)) (r .height - 1)) ⌝ }
+    requires { (0 < r.height) × (r.place + 5 < 65536) }
+    ensures { result ≡ Goes (moved_to r (cond taken place (r.place + 5)) (r.height - 1)) }
 {
     let h = r.height;
     if taken {
@@ -121,9 +117,9 @@ pub fn je(
     t: &[u8],
     f: &[u16],
 ) -> Progress
-    requires { ⌜ Packed (now file) c × (refusal (now file) ≡ 0) ⌝ }
-    requires { ⌜ (r .place + 5 ≤ length (now code)) × Prepared r (now p) (now t) (now f) × (r .place < r .stop) ⌝ }
-    ensures { λ a. ⌜ Branches Je a r (now (p .entry)) (now (t .entry)) (now (f .entry)) (read (now (file .entry))) (word 4 (now (code .entry)) (r .place + 1)) ⌝ }
+    requires packed { Packed file.now c × (refusal file.now ≡ 0) }
+    requires place_in_bounds { (r.place + 5 ≤ length code.now) × Prepared r p.now t.now f.now × (r.place < r.stop) }
+    ensures { Branches Je result r p.now t.now f.now (read file.now) (word 4 code.now (r.place + 1)) }
 {
     let found = tested(file, c, code, r, p, t, f);
     match found {
@@ -142,9 +138,9 @@ pub fn jne(
     t: &[u8],
     f: &[u16],
 ) -> Progress
-    requires { ⌜ Packed (now file) c × (refusal (now file) ≡ 0) ⌝ }
-    requires { ⌜ (r .place + 5 ≤ length (now code)) × Prepared r (now p) (now t) (now f) × (r .place < r .stop) ⌝ }
-    ensures { λ a. ⌜ Branches Jne a r (now (p .entry)) (now (t .entry)) (now (f .entry)) (read (now (file .entry))) (word 4 (now (code .entry)) (r .place + 1)) ⌝ }
+    requires packed { Packed file.now c × (refusal file.now ≡ 0) }
+    requires place_in_bounds { (r.place + 5 ≤ length code.now) × Prepared r p.now t.now f.now × (r.place < r.stop) }
+    ensures { Branches Jne result r p.now t.now f.now (read file.now) (word 4 code.now (r.place + 1)) }
 {
     let found = tested(file, c, code, r, p, t, f);
     match found {
@@ -163,9 +159,9 @@ pub fn ja(
     t: &[u8],
     f: &[u16],
 ) -> Progress
-    requires { ⌜ Packed (now file) c × (refusal (now file) ≡ 0) ⌝ }
-    requires { ⌜ (r .place + 5 ≤ length (now code)) × Prepared r (now p) (now t) (now f) × (r .place < r .stop) ⌝ }
-    ensures { λ a. ⌜ Branches Ja a r (now (p .entry)) (now (t .entry)) (now (f .entry)) (read (now (file .entry))) (word 4 (now (code .entry)) (r .place + 1)) ⌝ }
+    requires packed { Packed file.now c × (refusal file.now ≡ 0) }
+    requires place_in_bounds { (r.place + 5 ≤ length code.now) × Prepared r p.now t.now f.now × (r.place < r.stop) }
+    ensures { Branches Ja result r p.now t.now f.now (read file.now) (word 4 code.now (r.place + 1)) }
 {
     let found = tested(file, c, code, r, p, t, f);
     match found {
@@ -184,9 +180,9 @@ pub fn jae(
     t: &[u8],
     f: &[u16],
 ) -> Progress
-    requires { ⌜ Packed (now file) c × (refusal (now file) ≡ 0) ⌝ }
-    requires { ⌜ (r .place + 5 ≤ length (now code)) × Prepared r (now p) (now t) (now f) × (r .place < r .stop) ⌝ }
-    ensures { λ a. ⌜ Branches Jae a r (now (p .entry)) (now (t .entry)) (now (f .entry)) (read (now (file .entry))) (word 4 (now (code .entry)) (r .place + 1)) ⌝ }
+    requires packed { Packed file.now c × (refusal file.now ≡ 0) }
+    requires place_in_bounds { (r.place + 5 ≤ length code.now) × Prepared r p.now t.now f.now × (r.place < r.stop) }
+    ensures { Branches Jae result r p.now t.now f.now (read file.now) (word 4 code.now (r.place + 1)) }
 {
     let found = tested(file, c, code, r, p, t, f);
     match found {
@@ -205,9 +201,9 @@ pub fn jb(
     t: &[u8],
     f: &[u16],
 ) -> Progress
-    requires { ⌜ Packed (now file) c × (refusal (now file) ≡ 0) ⌝ }
-    requires { ⌜ (r .place + 5 ≤ length (now code)) × Prepared r (now p) (now t) (now f) × (r .place < r .stop) ⌝ }
-    ensures { λ a. ⌜ Branches Jb a r (now (p .entry)) (now (t .entry)) (now (f .entry)) (read (now (file .entry))) (word 4 (now (code .entry)) (r .place + 1)) ⌝ }
+    requires packed { Packed file.now c × (refusal file.now ≡ 0) }
+    requires place_in_bounds { (r.place + 5 ≤ length code.now) × Prepared r p.now t.now f.now × (r.place < r.stop) }
+    ensures { Branches Jb result r p.now t.now f.now (read file.now) (word 4 code.now (r.place + 1)) }
 {
     let found = tested(file, c, code, r, p, t, f);
     match found {
@@ -226,9 +222,9 @@ pub fn jbe(
     t: &[u8],
     f: &[u16],
 ) -> Progress
-    requires { ⌜ Packed (now file) c × (refusal (now file) ≡ 0) ⌝ }
-    requires { ⌜ (r .place + 5 ≤ length (now code)) × Prepared r (now p) (now t) (now f) × (r .place < r .stop) ⌝ }
-    ensures { λ a. ⌜ Branches Jbe a r (now (p .entry)) (now (t .entry)) (now (f .entry)) (read (now (file .entry))) (word 4 (now (code .entry)) (r .place + 1)) ⌝ }
+    requires packed { Packed file.now c × (refusal file.now ≡ 0) }
+    requires place_in_bounds { (r.place + 5 ≤ length code.now) × Prepared r p.now t.now f.now × (r.place < r.stop) }
+    ensures { Branches Jbe result r p.now t.now f.now (read file.now) (word 4 code.now (r.place + 1)) }
 {
     let found = tested(file, c, code, r, p, t, f);
     match found {

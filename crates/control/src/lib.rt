@@ -1,13 +1,14 @@
 // The instructions that move between places and frames: `jmp` and the conditional branches; `call`, `ret`, and the first frame.
-ghost use mathlib.Core.Path.{_≡_};
-ghost use Prim.Native.Nat.{_<_};
+#![tactic(auto)]
+
+ghost use Rattle.std.specs.Prelude.{◌≡◌, ◌<◌};
 
 pub mod calls;
 mod exceptions;
 pub mod jumps;
 
 pub(crate) fn wide(x: u16) -> usize
-    ensures { λ r. ⌜ (r ≡ x) × (r < 65536) ⌝ }
+    ensures { (result ≡ x) × (result < 65536) }
 {
     x as usize
 }

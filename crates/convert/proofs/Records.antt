@@ -1,53 +1,53 @@
 -- Bytes put by numbers, and function records of the other edition, one by one, behind those that stand there.
-use Prim.Native.Nat.{ℕ, zero, suc, _+_, _-_, _*_, _≤_, _<_}
+use Prim.Native.Nat.{ℕ, zero, suc, ◌+◌, ◌-◌, ◌*◌, ◌≤◌, ◌<◌}
 use native.Mathlib.Numerals.{add-one}
 use native.Mathlib.Omega.{arith}
-use mathlib.Core.Path.{_≡_, refl, sym, ap, _∙_}
-use mathlib.Core.List.{List, _++_, append-assoc, append-nil}
-use lib.ListN.{length, getD, take, drop, length-append, length-drop, take-append-drop, drop-of-length-le}
-use lib.Seq.{take-at, take-all, take-append-le, drop-at, drop-drop, take-add, take-take, length-take-le}
-use Rattle·rules.specs.Bytes.{bytes, word, cut, written, zeros}
-use Rattle·rules.specs.Converting.{raised, lowered}
-use Rattle·soundness.specs.Cutting.{length-cut}
-use Rattle·memory.proofs.Copies.{word-bytes}
-use Rattle·convert·specs.specs.Rows.{recordPut}
+use mathlib.Core.Path.{◌≡◌, refl, sym, ap, ◌∙◌}
+use mathlib.Core.List.{List, ◌++◌, append_assoc, append-nil}
+use lib.ListN.{length, get_or, take, drop, length-append, length-drop, take-append-drop, drop_of_length-le}
+use lib.Seq.{take_at, take_all, take-append-le, drop_at, drop-drop, take-add, take-take, length-take-le}
+use Rattle.rules.specs.Bytes.{bytes, word, cut, written, zeros}
+use Rattle.rules.specs.Converting.{raised, lowered}
+use Rattle.soundness.specs.Cutting.{length_cut}
+use Rattle.memory.proofs.Copies.{word_bytes}
+use Rattle.convert.specs.Rows.{record_put}
 
 -- P stands at the front of what was `out`: m bytes more behind it
 behind : (o P new out : List ℕ) (a m : ℕ) → o ≡ P ++ drop a out → length P ≡ a → take a o ++ (new ++ drop (a + m) o) ≡ (P ++ new) ++ drop (a + m) out
 behind o P new out a m q h =
-    let front : take a o ≡ P = ap (take a) q ∙ take-at P (drop a out) a h in
-    let rest : drop (a + m) o ≡ drop (a + m) out = sym (drop-drop m a o) ∙ ap (drop m) (ap (drop a) q ∙ drop-at P (drop a out) a h) ∙ drop-drop m a out in
-    rw (front, rest) (sym (append-assoc P new (drop (a + m) out)))
+    let front : take a o ≡ P = ap (take a) q ∙ take_at P (drop a out) a h in
+    let rest : drop (a + m) o ≡ drop (a + m) out = sym (drop-drop m a o) ∙ ap (drop m) (ap (drop a) q ∙ drop_at P (drop a out) a h) ∙ drop-drop m a out in
+    rw (front, rest) (sym (append_assoc P new (drop (a + m) out)))
 
 -- what is put keeps the length
 kept : (o P out : List ℕ) (a : ℕ) → o ≡ P ++ drop a out → length P ≡ a → a ≤ length out → length o ≡ length out
 kept o P out a q h l = let x : length (drop a out) ≡ length out - a = length-drop a out in omega (arith, ap length q, length-append P (drop a out))
 
 -- a number stored behind it
-word-behind : (o P out : List ℕ) (a m v : ℕ) (new : List ℕ) → o ≡ P ++ drop a out → length P ≡ a → bytes m v ≡ new → written m o a v ≡ (P ++ new) ++ drop (a + m) out
+word_behind : (o P out : List ℕ) (a m v : ℕ) (new : List ℕ) → o ≡ P ++ drop a out → length P ≡ a → bytes m v ≡ new → written m o a v ≡ (P ++ new) ++ drop (a + m) out
 unfolding written
-word-behind o P out a m v new q h e = ap (λ (x : List ℕ). take a o ++ (x ++ drop (a + m) o)) e ∙ behind o P new out a m q h
+word_behind o P out a m v new q h e = ap (λ (x : List ℕ). take a o ++ (x ++ drop (a + m) o)) e ∙ behind o P new out a m q h
 
 -- ---- a copy by numbers of eight bytes
 
-module _ (s d : List ℕ) (small : (i : ℕ) → getD s i 0 < 256) where
-  pub copy-none : d ≡ take 0 s ++ drop 0 d
-  copy-none = refl
+module _ (s d : List ℕ) (small : (i : ℕ) → get_or s i 0 < 256) where
+  pub copy_none : d ≡ take 0 s ++ drop 0 d
+  copy_none = refl
 
-  pub copy-more : (o : List ℕ) (i : ℕ) → o ≡ take i s ++ drop i d → i + 8 ≤ length s → length d ≡ length s → (v : ℕ) → v ≡ word 8 s i → (o′ : List ℕ) → o′ ≡ written 8 o i v
-      → (o′ ≡ take (i + 8) s ++ drop (i + 8) d) × (length o′ ≡ length d)
-  copy-more o i q l e v w o′ r =
+  pub copy_more : (o : List ℕ) (i : ℕ) → o ≡ take i s ++ drop i d → i + 8 ≤ length s → length d ≡ length s → (v : ℕ) → v ≡ word 8 s i → (o' : List ℕ) → o' ≡ written 8 o i v
+      → (o' ≡ take (i + 8) s ++ drop (i + 8) d) × (length o' ≡ length d)
+  copy_more o i q l e v w o' r =
       let t : length (take i s) ≡ i = length-take-le i s (omega arith) in
-      let g : o′ ≡ take (i + 8) s ++ drop (i + 8) d =
-      r ∙ word-behind o (take i s) d i 8 v (take 8 (drop i s)) q t (ap (bytes 8) w ∙ word-bytes s small 8 i l)
+      let g : o' ≡ take (i + 8) s ++ drop (i + 8) d =
+      r ∙ word_behind o (take i s) d i 8 v (take 8 (drop i s)) q t (ap (bytes 8) w ∙ word_bytes s small 8 i l)
       ∙ ap (λ (x : List ℕ). x ++ drop (i + 8) d) (sym (take-add i 8 s)) in
-      (g, kept o′ (take (i + 8) s) d (i + 8) g (length-take-le (i + 8) s (omega arith)) (omega arith))
+      (g, kept o' (take (i + 8) s) d (i + 8) g (length-take-le (i + 8) s (omega arith)) (omega arith))
 
   -- the last eight, from a place that is reached
-  pub copy-last : (o : List ℕ) (i : ℕ) → o ≡ take i s ++ drop i d → 8 ≤ length s → length s - 8 ≤ i → i ≤ length s → length d ≡ length s → (v : ℕ) → v ≡ word 8 s (length s - 8)
-      → (o′ : List ℕ) → o′ ≡ written 8 o (length s - 8) v → o′ ≡ s
+  pub copy_last : (o : List ℕ) (i : ℕ) → o ≡ take i s ++ drop i d → 8 ≤ length s → length s - 8 ≤ i → i ≤ length s → length d ≡ length s → (v : ℕ) → v ≡ word 8 s (length s - 8)
+      → (o' : List ℕ) → o' ≡ written 8 o (length s - 8) v → o' ≡ s
   unfolding written
-  copy-last o i q l h u e v w o′ r =
+  copy_last o i q l h u e v w o' r =
       let a : ℕ = length s - 8 in
       let n : a + 8 ≡ length s = omega arith in
       let t : length (take i s) ≡ i = length-take-le i s u in
@@ -55,112 +55,112 @@ module _ (s d : List ℕ) (small : (i : ℕ) → getD s i 0 < 256) where
       let front : take a o ≡ take a s = ap (take a) q ∙ take-append-le a (take i s) (drop i d) (omega arith) ∙ take-take a i s h in
       let none : length o ≤ a + 8 = omega arith in
       let all : length s ≤ a + 8 = omega arith in
-      let b : bytes 8 v ≡ take 8 (drop a s) = ap (bytes 8) w ∙ word-bytes s small 8 a (omega arith) in
+      let b : bytes 8 v ≡ take 8 (drop a s) = ap (bytes 8) w ∙ word_bytes s small 8 a (omega arith) in
       r ∙ ap (λ (x : List ℕ). x ++ (bytes 8 v ++ drop (a + 8) o)) front ∙ ap (λ (x : List ℕ). take a s ++ (x ++ drop (a + 8) o)) b
-      ∙ ap (λ (x : List ℕ). take a s ++ (take 8 (drop a s) ++ x)) (drop-of-length-le o none)
-      ∙ ap (λ (x : List ℕ). take a s ++ x) (append-nil (take 8 (drop a s))) ∙ sym (take-add a 8 s) ∙ take-all (a + 8) s all
+      ∙ ap (λ (x : List ℕ). take a s ++ (take 8 (drop a s) ++ x)) (drop_of_length-le o none)
+      ∙ ap (λ (x : List ℕ). take a s ++ x) (append-nil (take 8 (drop a s))) ∙ sym (take-add a 8 s) ∙ take_all (a + 8) s all
 
 -- ---- a record
 
-module _ (o fs : List ℕ) (a b : ℕ) (small : (i : ℕ) → getD fs i 0 < 256) (room : a + 20 ≤ length o) (fits : b + 20 ≤ length fs) where
-  pub record-put : (u v w : ℕ) → u ≡ word 8 fs b → v ≡ word 8 fs (b + 8) → w ≡ word 4 fs (b + 16) → (o₁ o₂ o₃ : List ℕ) → o₁ ≡ written 8 o a u → o₂ ≡ written 8 o₁ (a + 8) v
-      → o₃ ≡ written 4 o₂ (a + 16) w → o₃ ≡ recordPut o a fs b
-  record-put u v w eu ev ew o₁ o₂ o₃ r₁ r₂ r₃ =
+module _ (o fs : List ℕ) (a b : ℕ) (small : (i : ℕ) → get_or fs i 0 < 256) (room : a + 20 ≤ length o) (fits : b + 20 ≤ length fs) where
+  pub record_put_lem : (u v w : ℕ) → u ≡ word 8 fs b → v ≡ word 8 fs (b + 8) → w ≡ word 4 fs (b + 16) → (o₁ o₂ o₃ : List ℕ) → o₁ ≡ written 8 o a u → o₂ ≡ written 8 o₁ (a + 8) v
+      → o₃ ≡ written 4 o₂ (a + 16) w → o₃ ≡ record_put o a fs b
+  record_put_lem u v w eu ev ew o₁ o₂ o₃ r₁ r₂ r₃ =
       let P : List ℕ = take a o in
       let x : List ℕ = take 8 (drop b fs) in
       let y : List ℕ = take 8 (drop (b + 8) fs) in
       let z : List ℕ = take 4 (drop (b + 16) fs) in
-      let lx : length x ≡ 8 = length-cut fs b 8 (omega arith) in
-      let ly : length y ≡ 8 = length-cut fs (b + 8) 8 (omega arith) in
+      let lx : length x ≡ 8 = length_cut fs b 8 (omega arith) in
+      let ly : length y ≡ 8 = length_cut fs (b + 8) 8 (omega arith) in
       let p : length P ≡ a = length-take-le a o (omega arith) in
       let k₁ : a + 8 + 8 ≡ a + 16 = omega arith in
       let k₂ : a + 16 + 4 ≡ a + 20 = omega arith in
-      let e₁ : o₁ ≡ (P ++ x) ++ drop (a + 8) o = r₁ ∙ word-behind o P o a 8 u x (sym (take-append-drop a o)) p (ap (bytes 8) eu ∙ word-bytes fs small 8 b (omega arith)) in
+      let e₁ : o₁ ≡ (P ++ x) ++ drop (a + 8) o = r₁ ∙ word_behind o P o a 8 u x (sym (take-append-drop a o)) p (ap (bytes 8) eu ∙ word_bytes fs small 8 b (omega arith)) in
       let e₂ : o₂ ≡ ((P ++ x) ++ y) ++ drop (a + 16) o =
-      r₂ ∙ word-behind o₁ (P ++ x) o (a + 8) 8 v y e₁ (simp length-append (omega arith)) (ap (bytes 8) ev ∙ word-bytes fs small 8 (b + 8) (omega arith))
+      r₂ ∙ word_behind o₁ (P ++ x) o (a + 8) 8 v y e₁ (simp length-append (omega arith)) (ap (bytes 8) ev ∙ word_bytes fs small 8 (b + 8) (omega arith))
       ∙ ap (λ (n : ℕ). ((P ++ x) ++ y) ++ drop n o) k₁ in
       let e₃ : o₃ ≡ (((P ++ x) ++ y) ++ z) ++ drop (a + 20) o =
-      r₃ ∙ word-behind o₂ ((P ++ x) ++ y) o (a + 16) 4 w z e₂ (simp length-append (omega arith)) (ap (bytes 4) ew ∙ word-bytes fs small 4 (b + 16) (omega arith))
+      r₃ ∙ word_behind o₂ ((P ++ x) ++ y) o (a + 16) 4 w z e₂ (simp length-append (omega arith)) (ap (bytes 4) ew ∙ word_bytes fs small 4 (b + 16) (omega arith))
       ∙ ap (λ (n : ℕ). (((P ++ x) ++ y) ++ z) ++ drop n o) k₂ in
       let whole : x ++ (y ++ z) ≡ cut fs b 20 =
       sym (take-add 8 12 (drop b fs) ∙ ap (λ (l : List ℕ). x ++ l) (ap (take 12) (drop-drop 8 b fs) ∙ take-add 8 4 (drop (b + 8) fs) ∙ ap (λ (l : List ℕ). y ++ take 4 l) (drop-drop 8 (b + 8) fs ∙ ap (λ (n : ℕ). drop n fs) (sixteen b)))) in
-      e₃ ∙ simp append-assoc (ap (λ (l : List ℕ). P ++ l) (sym (append-assoc x (y ++ z) (drop (a + 20) o) ∙ ap (λ (l : List ℕ). x ++ l) (append-assoc y z (drop (a + 20) o))) ∙ ap (λ (l : List ℕ). l ++ drop (a + 20) o) whole))
+      e₃ ∙ simp append_assoc (ap (λ (l : List ℕ). P ++ l) (sym (append_assoc x (y ++ z) (drop (a + 20) o) ∙ ap (λ (l : List ℕ). x ++ l) (append_assoc y z (drop (a + 20) o))) ∙ ap (λ (l : List ℕ). l ++ drop (a + 20) o) whole))
     where
       sixteen : (b : ℕ) → b + 8 + 8 ≡ b + 16
       sixteen b = omega arith
 
 -- ---- records of edition 4
 
-pub raised-length : (n : ℕ) (fs : List ℕ) → 20 * n ≤ length fs → length (raised n fs) ≡ 24 * n
+pub raised_length : (n : ℕ) (fs : List ℕ) → 20 * n ≤ length fs → length (raised n fs) ≡ 24 * n
 unfolding raised
-raised-length zero fs h = refl
-raised-length (suc n) fs h =
-    let r : length (raised n fs) ≡ 24 * n = raised-length n fs (omega arith) in
-    let c : length (cut fs (20 * n) 20) ≡ 20 = length-cut fs (20 * n) 20 (omega arith) in
+raised_length zero fs h = refl
+raised_length (suc n) fs h =
+    let r : length (raised n fs) ≡ 24 * n = raised_length n fs (omega arith) in
+    let c : length (cut fs (20 * n) 20) ≡ 20 = length_cut fs (20 * n) 20 (omega arith) in
     simp length-append (omega arith)
 
-pub raise-none : (fs out : List ℕ) → out ≡ raised 0 fs ++ drop (24 * 0) out
+pub raise_none : (fs out : List ℕ) → out ≡ raised 0 fs ++ drop (24 * 0) out
 unfolding raised
-raise-none fs out = refl
+raise_none fs out = refl
 
 -- one more
 module _ (fs out o : List ℕ) (i : ℕ) (here : o ≡ raised i fs ++ drop (24 * i) out) (fits : 20 * i + 20 ≤ length fs) (room : 24 * i + 24 ≤ length out) where
-  raised-next : (o₁ : List ℕ) → o₁ ≡ recordPut o (24 * i) fs (20 * i) → written 4 o₁ (24 * i + 20) 0 ≡ raised (suc i) fs ++ drop (24 * suc i) out
+  raised_next : (o₁ : List ℕ) → o₁ ≡ record_put o (24 * i) fs (20 * i) → written 4 o₁ (24 * i + 20) 0 ≡ raised (suc i) fs ++ drop (24 * suc i) out
   unfolding raised
-  raised-next o₁ r =
+  raised_next o₁ r =
       let P : List ℕ = raised i fs in
       let x : List ℕ = cut fs (20 * i) 20 in
-      let p : length P ≡ 24 * i = raised-length i fs (omega arith) in
-      let c : length x ≡ 20 = length-cut fs (20 * i) 20 (omega arith) in
+      let p : length P ≡ 24 * i = raised_length i fs (omega arith) in
+      let c : length x ≡ 20 = length_cut fs (20 * i) 20 (omega arith) in
       let first : o₁ ≡ (P ++ x) ++ drop (24 * i + 20) out = r ∙ behind o P x out (24 * i) 20 here p in
       let k : 24 * i + 20 + 4 ≡ 24 * suc i = omega arith in
-      word-behind o₁ (P ++ x) out (24 * i + 20) 4 0 (zeros 4) first (simp length-append (omega arith)) refl
-      ∙ ap (λ (y : List ℕ). y ++ drop (24 * i + 20 + 4) out) (append-assoc P x (zeros 4)) ∙ ap (λ (j : ℕ). (P ++ (x ++ zeros 4)) ++ drop j out) k
+      word_behind o₁ (P ++ x) out (24 * i + 20) 4 0 (zeros 4) first (simp length-append (omega arith)) refl
+      ∙ ap (λ (y : List ℕ). y ++ drop (24 * i + 20 + 4) out) (append_assoc P x (zeros 4)) ∙ ap (λ (j : ℕ). (P ++ (x ++ zeros 4)) ++ drop j out) k
 
-  pub raise-more : (o₁ : List ℕ) → o₁ ≡ recordPut o (24 * i) fs (20 * i) → (o₂ : List ℕ) → o₂ ≡ written 4 o₁ (24 * i + 20) 0
+  pub raise_more : (o₁ : List ℕ) → o₁ ≡ record_put o (24 * i) fs (20 * i) → (o₂ : List ℕ) → o₂ ≡ written 4 o₁ (24 * i + 20) 0
       → (o₂ ≡ raised (i + 1) fs ++ drop (24 * (i + 1)) out) × (length o₂ ≡ length out)
-  raise-more o₁ r o₂ q =
+  raise_more o₁ r o₂ q =
       rw add-one
-      (let g : o₂ ≡ raised (suc i) fs ++ drop (24 * suc i) out = q ∙ raised-next o₁ r in (g, kept o₂ (raised (suc i) fs) out (24 * suc i) g (raised-length (suc i) fs (omega arith)) (omega arith)))
+      (let g : o₂ ≡ raised (suc i) fs ++ drop (24 * suc i) out = q ∙ raised_next o₁ r in (g, kept o₂ (raised (suc i) fs) out (24 * suc i) g (raised_length (suc i) fs (omega arith)) (omega arith)))
 
-pub raise-end : (fs out o : List ℕ) (i n : ℕ) → o ≡ raised i fs ++ drop (24 * i) out → i ≤ n → n ≤ i → length out ≡ 24 * n → o ≡ raised n fs
-raise-end fs out o i n h u g e =
+pub raise_end : (fs out o : List ℕ) (i n : ℕ) → o ≡ raised i fs ++ drop (24 * i) out → i ≤ n → n ≤ i → length out ≡ 24 * n → o ≡ raised n fs
+raise_end fs out o i n h u g e =
     let q : i ≡ n = omega arith in
     let l : length out ≤ 24 * i = omega arith in
-    h ∙ ap (λ (x : List ℕ). raised i fs ++ x) (drop-of-length-le out l) ∙ append-nil (raised i fs) ∙ ap (λ (k : ℕ). raised k fs) q
+    h ∙ ap (λ (x : List ℕ). raised i fs ++ x) (drop_of_length-le out l) ∙ append-nil (raised i fs) ∙ ap (λ (k : ℕ). raised k fs) q
 
 -- ---- records of edition 3
 
-pub lowered-length : (n : ℕ) (gs : List ℕ) → 24 * n ≤ length gs → length (lowered n gs) ≡ 20 * n
+pub lowered_length : (n : ℕ) (gs : List ℕ) → 24 * n ≤ length gs → length (lowered n gs) ≡ 20 * n
 unfolding lowered
-lowered-length zero gs h = refl
-lowered-length (suc n) gs h =
-    let r : length (lowered n gs) ≡ 20 * n = lowered-length n gs (omega arith) in
-    let c : length (cut gs (24 * n) 20) ≡ 20 = length-cut gs (24 * n) 20 (omega arith) in
+lowered_length zero gs h = refl
+lowered_length (suc n) gs h =
+    let r : length (lowered n gs) ≡ 20 * n = lowered_length n gs (omega arith) in
+    let c : length (cut gs (24 * n) 20) ≡ 20 = length_cut gs (24 * n) 20 (omega arith) in
     simp length-append (omega arith)
 
-pub lower-none : (gs out : List ℕ) → out ≡ lowered 0 gs ++ drop (20 * 0) out
+pub lower_none : (gs out : List ℕ) → out ≡ lowered 0 gs ++ drop (20 * 0) out
 unfolding lowered
-lower-none gs out = refl
+lower_none gs out = refl
 
 -- one more
 module _ (gs out o : List ℕ) (i : ℕ) (here : o ≡ lowered i gs ++ drop (20 * i) out) (fits : 24 * i + 24 ≤ length gs) (room : 20 * i + 20 ≤ length out) where
-  lowered-next : recordPut o (20 * i) gs (24 * i) ≡ lowered (suc i) gs ++ drop (20 * suc i) out
+  lowered_next : record_put o (20 * i) gs (24 * i) ≡ lowered (suc i) gs ++ drop (20 * suc i) out
   unfolding lowered
-  lowered-next =
+  lowered_next =
       let P : List ℕ = lowered i gs in
       let x : List ℕ = cut gs (24 * i) 20 in
-      let p : length P ≡ 20 * i = lowered-length i gs (omega arith) in
+      let p : length P ≡ 20 * i = lowered_length i gs (omega arith) in
       let k : 20 * i + 20 ≡ 20 * suc i = omega arith in
       behind o P x out (20 * i) 20 here p ∙ ap (λ (j : ℕ). (P ++ x) ++ drop j out) k
 
-  pub lower-more : (o₁ : List ℕ) → o₁ ≡ recordPut o (20 * i) gs (24 * i) → (o₁ ≡ lowered (i + 1) gs ++ drop (20 * (i + 1)) out) × (length o₁ ≡ length out)
-  lower-more o₁ r =
+  pub lower_more : (o₁ : List ℕ) → o₁ ≡ record_put o (20 * i) gs (24 * i) → (o₁ ≡ lowered (i + 1) gs ++ drop (20 * (i + 1)) out) × (length o₁ ≡ length out)
+  lower_more o₁ r =
       rw add-one
-      (let g : o₁ ≡ lowered (suc i) gs ++ drop (20 * suc i) out = r ∙ lowered-next in (g, kept o₁ (lowered (suc i) gs) out (20 * suc i) g (lowered-length (suc i) gs (omega arith)) (omega arith)))
+      (let g : o₁ ≡ lowered (suc i) gs ++ drop (20 * suc i) out = r ∙ lowered_next in (g, kept o₁ (lowered (suc i) gs) out (20 * suc i) g (lowered_length (suc i) gs (omega arith)) (omega arith)))
 
-pub lower-end : (gs out o : List ℕ) (i n : ℕ) → o ≡ lowered i gs ++ drop (20 * i) out → i ≤ n → n ≤ i → length out ≡ 20 * n → o ≡ lowered n gs
-lower-end gs out o i n h u g e =
+pub lower_end : (gs out o : List ℕ) (i n : ℕ) → o ≡ lowered i gs ++ drop (20 * i) out → i ≤ n → n ≤ i → length out ≡ 20 * n → o ≡ lowered n gs
+lower_end gs out o i n h u g e =
     let q : i ≡ n = omega arith in
     let l : length out ≤ 20 * i = omega arith in
-    h ∙ ap (λ (x : List ℕ). lowered i gs ++ x) (drop-of-length-le out l) ∙ append-nil (lowered i gs) ∙ ap (λ (k : ℕ). lowered k gs) q
+    h ∙ ap (λ (x : List ℕ). lowered i gs ++ x) (drop_of_length-le out l) ∙ append-nil (lowered i gs) ∙ ap (λ (k : ℕ). lowered k gs) q

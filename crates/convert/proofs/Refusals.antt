@@ -1,98 +1,98 @@
 -- The rows of a file that must be of an edition, and the answers of refusals.
-use Prim.Native.Nat.{ℕ, zero, suc, _≤_, _<_}
+use Prim.Native.Nat.{ℕ, zero, suc, ◌≤◌, ◌<◌}
 use native.Mathlib.Omega.{arith}
-use mathlib.Core.Path.{_≡_, refl, sym, ap, _∙_}
-use mathlib.Core.Bool.{Bool, true, false, _&&_}
-use mathlib.Core.List.{List, _∷_}
+use mathlib.Core.Path.{◌≡◌, refl, sym, ap, ◌∙◌}
+use mathlib.Core.Bool.{Bool, true, false, ◌&&◌}
+use mathlib.Core.List.{List, ◌∷◌}
 use lib.Dec.{eqb, ltb}
 use lib.ListN.{length}
-use Rattle·rules.specs.declared.WriteAnswer.the-variants.{Unwritten}
-use Rattle·rules.specs.Tables.{headerSize, differs, unknownEdition, firstOf, contentTests}
-use Rattle·rules.specs.ModuleFile.{edition, short, otherEdition, otherTotal, overLimit, notPacked, refusal, tablesIn}
-use Rattle·rules.specs.Writing.{wrote, writeWith}
-use Rattle·rules.specs.Converting.{fourth, third, refusalIn, notInThird, downRefusalWith, downRefusal, toEdition4, toEdition3}
-use Rattle·format.specs.Layout.{sectionsOf, headerTests}
-use Rattle·format.proofs.Rows.{first-hit}
-use Rattle·reader.specs.declared.Opened.the-variants.{Refused}
-use Rattle·reader.specs.Answers.{answer, openedOf}
-use Rattle·soundness.specs.Tests.{decide, eqb-is, eqb-same, eqb-other, ltb-is, ltb-isnt, ltb-yes, ltb-no, and-both}
-use Rattle·convert·specs.specs.Rows.{FirstRows}
+use Rattle.rules.specs.declared.WriteAnswer.TheVariants.{Unwritten}
+use Rattle.rules.specs.Tables.{header_size, differs, unknown_edition, first_of, content_tests}
+use Rattle.rules.specs.ModuleFile.{edition, short, other_edition, other_total, over_limit, not_packed, refusal, tables_in}
+use Rattle.rules.specs.Writing.{wrote, write_with}
+use Rattle.rules.specs.Converting.{fourth, third, refusal_in, not_in_third, down_refusal_with, down_refusal, to_edition4, to_edition3}
+use Rattle.format.specs.Layout.{sections_of, header_tests}
+use Rattle.format.proofs.Rows.{first_hit}
+use Rattle.reader.specs.declared.Opened.TheVariants.{Refused}
+use Rattle.reader.specs.Answers.{answer, opened_of}
+use Rattle.soundness.specs.Tests.{decide, eqb_is, eqb_same, eqb_other, ltb_is, ltb_isnt, ltb_yes, ltb_no, and_both}
+use Rattle.convert.specs.Rows.{FirstRows}
 
 -- ---- rows 1 and 2
 
-pub under-header : (s : List ℕ) → length s < 48 → length s < headerSize (edition s)
-under-header s l = decide (eqb (edition s) 4) (λ y. rw y (omega arith)) (λ y. rw y l)
+pub under_header : (s : List ℕ) → length s < 48 → length s < header_size (edition s)
+under_header s l = decide (eqb (edition s) 4) (λ y. rw y (omega arith)) (λ y. rw y l)
 
 module _ (s : List ℕ) (found : ℕ) (is : found ≡ edition s) where
-  pub under-fourth : (eqb found 4 && ltb (length s) 56) ≡ true → length s < headerSize (edition s)
-  under-fourth h =
-      let b : (eqb found 4 ≡ true) × (ltb (length s) 56 ≡ true) = and-both (eqb found 4) (ltb (length s) 56) h in
-      let f : edition s ≡ 4 = sym is ∙ eqb-is found 4 (b .0) in
-      rw f (ltb-is (length s) 56 (b .1))
+  pub under_fourth : (eqb found 4 && ltb (length s) 56) ≡ true → length s < header_size (edition s)
+  under_fourth h =
+      let b : (eqb found 4 ≡ true) × (ltb (length s) 56 ≡ true) = and_both (eqb found 4) (ltb (length s) 56) h in
+      let f : edition s ≡ 4 = sym is ∙ eqb_is found 4 b.0 in
+      rw f (ltb_is (length s) 56 b.1)
 
-  pub over-header : (eqb found 4 && ltb (length s) 56) ≡ false → 48 ≤ length s → headerSize (edition s) ≤ length s
-  over-header h l = decide (eqb (edition s) 4) (λ y. rw y (let x : ltb (length s) 56 ≡ false = rw (is, y) at h in ltb-isnt (length s) 56 x)) (λ y. rw y l)
+  pub over_header : (eqb found 4 && ltb (length s) 56) ≡ false → 48 ≤ length s → header_size (edition s) ≤ length s
+  over_header h l = decide (eqb (edition s) 4) (λ y. rw y (let x : ltb (length s) 56 ≡ false = rw (is, y) at h in ltb_isnt (length s) 56 x)) (λ y. rw y l)
 
-pub first-short : (e : ℕ) (s : List ℕ) → length s < headerSize (edition s) → FirstRows e s 1
-unfolding refusalIn firstOf
-first-short e s l = record { passes = λ z. absurd (omega arith); refuses = λ z. rw (ltb-yes (length s) (headerSize (edition s)) l) refl }
+pub first_short : (e : ℕ) (s : List ℕ) → length s < header_size (edition s) → FirstRows e s 1
+unfolding refusal_in first_of
+first_short e s l = record { passes = λ z. absurd (omega arith); refuses = λ z. rw (ltb_yes (length s) (header_size (edition s)) l) refl }
 
-pub first-other : (e : ℕ) (s : List ℕ) → headerSize (edition s) ≤ length s → (edition s ≡ e → ⊥) → FirstRows e s 2
-unfolding refusalIn firstOf
-first-other e s l h =
-    record { passes = λ z. absurd (omega arith); refuses = λ z. rw (ltb-no (length s) (headerSize (edition s)) l, eqb-other (edition s) e h) refl }
+pub first_other : (e : ℕ) (s : List ℕ) → header_size (edition s) ≤ length s → (edition s ≡ e → ⊥) → FirstRows e s 2
+unfolding refusal_in first_of
+first_other e s l h =
+    record { passes = λ z. absurd (omega arith); refuses = λ z. rw (ltb_no (length s) (header_size (edition s)) l, eqb_other (edition s) e h) refl }
 
 -- ---- all rows
 
 -- a file of edition e is refused as the reader refuses it
-pub same-refusal : (e : ℕ) (s : List ℕ) → unknownEdition e ≡ false → edition s ≡ e → refusalIn e s ≡ refusal s
-unfolding refusalIn refusal
-same-refusal e s k q =
-    let d : differs (edition s) e ≡ false = rw (q, eqb-same e) in
-    let o : otherEdition s ≡ false = ap unknownEdition q ∙ k in
-    ap (λ (b : Bool). firstOf 1 (short s ∷ b ∷ otherTotal s ∷ overLimit s ∷ notPacked s ∷ contentTests (tablesIn s))) (d ∙ sym o)
+pub same_refusal : (e : ℕ) (s : List ℕ) → unknown_edition e ≡ false → edition s ≡ e → refusal_in e s ≡ refusal s
+unfolding refusal_in refusal
+same_refusal e s k q =
+    let d : differs (edition s) e ≡ false = rw (q, eqb_same e) in
+    let o : other_edition s ≡ false = ap unknown_edition q ∙ k in
+    ap (λ (b : Bool). first_of 1 (short s ∷ b ∷ other_total s ∷ over_limit s ∷ not_packed s ∷ content_tests (tables_in s))) (d ∙ sym o)
 
 -- by one of rows 1 to 5
-pub early-refusal : (s : List ℕ) (n : ℕ) → n ≡ firstOf 1 (headerTests s) → (n ≡ 0 → ⊥) → n ≡ refusal s
+pub early_refusal : (s : List ℕ) (n : ℕ) → n ≡ first_of 1 (header_tests s) → (n ≡ 0 → ⊥) → n ≡ refusal s
 unfolding refusal
-early-refusal s n e h = e ∙ sym (first-hit 0 (headerTests s) (contentTests (tablesIn s)) (λ z. h (e ∙ z)))
+early_refusal s n e h = e ∙ sym (first_hit 0 (header_tests s) (content_tests (tables_in s)) (λ z. h (e ∙ z)))
 
 -- a refusal of an opened file has a number
-pub refused-number : (s : List ℕ) (n : ℕ) → Refused n ≡ openedOf s → n ≡ 0 → ⊥
-refused-number s n opened z = go (refusal s) opened
+pub refused_number : (s : List ℕ) (n : ℕ) → Refused n ≡ opened_of s → n ≡ 0 → ⊥
+refused_number s n opened z = go (refusal s) opened
   where
-    go : (k : ℕ) → Refused n ≡ answer k (sectionsOf s) → ⊥
-    go zero g = let y : _≡_ {A = ℕ} 0 1 = cc in absurd (omega arith)
+    go : (k : ℕ) → Refused n ≡ answer k (sections_of s) → ⊥
+    go zero g = let y : ◌≡◌ {A = ℕ} 0 1 = cc in absurd (omega arith)
     go (suc k) g = let y : n ≡ suc k = cc in absurd (omega arith)
 
 -- ---- numbers of the way down
 
-pub down-early : (s : List ℕ) (n : ℕ) → n ≡ refusalIn 4 s → (n ≡ 0 → ⊥) → n ≡ downRefusal s
-unfolding downRefusal
-down-early s n e h = go n h ∙ ap (downRefusalWith s) e
+pub down_early : (s : List ℕ) (n : ℕ) → n ≡ refusal_in 4 s → (n ≡ 0 → ⊥) → n ≡ down_refusal s
+unfolding down_refusal
+down_early s n e h = go n h ∙ ap (down_refusal_with s) e
   where
-    go : (n : ℕ) → (n ≡ 0 → ⊥) → n ≡ downRefusalWith s n
+    go : (n : ℕ) → (n ≡ 0 → ⊥) → n ≡ down_refusal_with s n
     go zero h = absurd (h refl)
     go (suc n) h = refl
 
-pub down-newer : (s : List ℕ) → refusalIn 4 s ≡ 0 → notInThird (tablesIn s) ≡ true → 18 ≡ downRefusal s
-unfolding downRefusal
-down-newer s e h = rw (e, h) refl
+pub down_newer : (s : List ℕ) → refusal_in 4 s ≡ 0 → not_in_third (tables_in s) ≡ true → 18 ≡ down_refusal s
+unfolding down_refusal
+down_newer s e h = rw (e, h) refl
 
-pub down-allowed : (s : List ℕ) → refusalIn 4 s ≡ 0 → notInThird (tablesIn s) ≡ false → downRefusal s ≡ 0
-unfolding downRefusal
-down-allowed s e h = rw (e, h) refl
+pub down_allowed : (s : List ℕ) → refusal_in 4 s ≡ 0 → not_in_third (tables_in s) ≡ false → down_refusal s ≡ 0
+unfolding down_refusal
+down_allowed s e h = rw (e, h) refl
 
 -- ---- answers
 
-with-number : (n : ℕ) (file out : List ℕ) → (n ≡ 0 → ⊥) → wrote (Unwritten n) out ≡ writeWith n file out
-with-number zero file out h = absurd (h refl)
-with-number (suc n) file out h = refl
+with_number : (n : ℕ) (file out : List ℕ) → (n ≡ 0 → ⊥) → wrote (Unwritten n) out ≡ write_with n file out
+with_number zero file out h = absurd (h refl)
+with_number (suc n) file out h = refl
 
-pub refused-up : (s out : List ℕ) (n : ℕ) → n ≡ refusalIn 3 s → (n ≡ 0 → ⊥) → wrote (Unwritten n) out ≡ toEdition4 s out
-unfolding toEdition4
-refused-up s out n e h = with-number n (fourth s) out h ∙ ap (λ (k : ℕ). writeWith k (fourth s) out) e
+pub refused_up : (s out : List ℕ) (n : ℕ) → n ≡ refusal_in 3 s → (n ≡ 0 → ⊥) → wrote (Unwritten n) out ≡ to_edition4 s out
+unfolding to_edition4
+refused_up s out n e h = with_number n (fourth s) out h ∙ ap (λ (k : ℕ). write_with k (fourth s) out) e
 
-pub refused-down : (s out : List ℕ) (n : ℕ) → n ≡ downRefusal s → (n ≡ 0 → ⊥) → wrote (Unwritten n) out ≡ toEdition3 s out
-unfolding toEdition3
-refused-down s out n e h = with-number n (third s) out h ∙ ap (λ (k : ℕ). writeWith k (third s) out) e
+pub refused_down : (s out : List ℕ) (n : ℕ) → n ≡ down_refusal s → (n ≡ 0 → ⊥) → wrote (Unwritten n) out ≡ to_edition3 s out
+unfolding to_edition3
+refused_down s out n e h = with_number n (third s) out h ∙ ap (λ (k : ℕ). write_with k (third s) out) e

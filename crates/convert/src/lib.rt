@@ -1,25 +1,25 @@
 // The conversions of a module file between editions 3 and 4: other function records and another header; constants, labels, code
 // and entry stay.
-ghost use mathlib.Core.Path.{_≡_};
-ghost use mathlib.Core.Bool.{true, false};
-ghost use Prim.Native.Nat.{_+_, _*_, _≤_};
-ghost use lib.ListN.{length};
-ghost use Rattle·rules.specs.Bytes.{some-below};
-ghost use Rattle·rules.specs.Tables.{unknownEdition};
-ghost use Rattle·rules.specs.ModuleFile.{edition, tablesIn};
-ghost use Rattle·rules.specs.Writing.{wrote};
-ghost use Rattle·rules.specs.Converting.{raised, lowered, profiled, toFourth, toThird, refusalIn, downRefusal, notInThird, toEdition4, toEdition3};
-ghost use Rattle·format.specs.Layout.{Packed};
-ghost use Rattle·writer.specs.Output.{filledWith};
-ghost use Rattle·convert·specs.specs.Rows.{recordPut, FirstRows, Headed, GoesDown};
+#![tactic(auto)]
+
+ghost use Rattle.std.specs.Prelude.{◌≡◌, true, false, ◌+◌, ◌*◌, ◌≤◌, length};
+ghost use Rattle.rules.specs.Bytes.{some_below};
+ghost use Rattle.rules.specs.Tables.{unknown_edition};
+ghost use Rattle.rules.specs.ModuleFile.{edition, tables_in};
+ghost use Rattle.rules.specs.Writing.{wrote};
+ghost use Rattle.rules.specs.Converting.{raised, lowered, profiled, to_fourth, to_third, refusal_in, down_refusal, not_in_third, to_edition4, to_edition3};
+ghost use Rattle.format.specs.Layout.{Packed};
+ghost use Rattle.writer.specs.Output.{filled_with};
+ghost use Rattle.convert.specs.Rows.{record_put, FirstRows, Headed, GoesDown};
+
 use format::Sections;
 use reader::Opened;
 use rules::WriteAnswer;
 
 // A section is copied into its own part of the output, eight bytes at a time. The last eight may overlap those before.
 fn put_section(out: &mut [u8], table: &[u8])
-    requires { ⌜ length (now out) ≡ length (now table) ⌝ }
-    ensures { λ r. ⌜ now (out .exit) ≡ now (table .entry) ⌝ }
+    requires { length out.old ≡ length table.now }
+    ensures { out.new ≡ table.now }
 {
     if table.len() < 8 {
         writer::put_section(out, table);
@@ -36,8 +36,8 @@ fn put_section(out: &mut [u8], table: &[u8])
 
 // A function record is copied, without the profile that edition 4 has behind it.
 fn put_record(out: &mut [u8], at: usize, table: &[u8], from: usize)
-    requires { ⌜ (at + 20 ≤ length (now out)) × (from + 20 ≤ length (now table)) ⌝ }
-    ensures { λ r. ⌜ now (out .exit) ≡ recordPut (now (out .entry)) at (now (table .entry)) from ⌝ }
+    requires { (at + 20 ≤ length out.old) × (from + 20 ≤ length table.now) }
+    ensures { out.new ≡ record_put out.old at table.now from }
 {
     memory::store64(out, at, memory::load64(table, from));
     memory::store64(out, at + 8, memory::load64(table, from + 8));
@@ -46,8 +46,8 @@ fn put_record(out: &mut [u8], at: usize, table: &[u8], from: usize)
 
 // The records of edition 4 from those of edition 3: a zero word behind each.
 fn raise(out: &mut [u8], table: &[u8], n: usize)
-    requires { ⌜ (length (now table) ≡ 20 * n) × (length (now out) ≡ 24 * n) ⌝ }
-    ensures { λ r. ⌜ now (out .exit) ≡ raised n (now (table .entry)) ⌝ }
+    requires { (length table.now ≡ 20 * n) × (length out.old ≡ 24 * n) }
+    ensures { out.new ≡ raised n table.now }
 {
     let mut i = 0;
     while i < n {
@@ -59,9 +59,9 @@ fn raise(out: &mut [u8], table: &[u8], n: usize)
 
 // The records of edition 3 from those of edition 4: each without its last word. Whether one of these, a profile, is not zero.
 fn lower(out: &mut [u8], table: &[u8], n: usize) -> bool
-    requires { ⌜ (length (now table) ≡ 24 * n) × (length (now out) ≡ 20 * n) ⌝ }
-    ensures { λ r. ⌜ now (out .exit) ≡ lowered n (now (table .entry)) ⌝ }
-    ensures { λ r. ⌜ r ≡ some-below n (profiled (now (table .entry))) ⌝ }
+    requires { (length table.now ≡ 24 * n) × (length out.old ≡ 20 * n) }
+    ensures out_after { out.new ≡ lowered n table.now }
+    ensures value { result ≡ some_below n (profiled table.now) }
 {
     let mut found = false;
     let mut i = 0;
@@ -76,8 +76,8 @@ fn lower(out: &mut [u8], table: &[u8], n: usize) -> bool
 
 // Rows 1 and 2 of a file that must be of an edition; 0 where the edition is that.
 fn other_edition(edition: usize, file: &[u8]) -> u32
-    requires { ⌜ unknownEdition edition ≡ false ⌝ }
-    ensures { λ r. ⌜ FirstRows edition (now (file .entry)) r ⌝ }
+    requires { unknown_edition edition ≡ false }
+    ensures { FirstRows edition file.now result }
 {
     if file.len() < 48 {
         return 1;
@@ -95,8 +95,8 @@ fn other_edition(edition: usize, file: &[u8]) -> u32
 // Whether a file of edition 4 without structures can be read, and has no profile and nothing else that edition 3 lacks: it can
 // be read by the rules of edition 3 then, in one pass, with function records of that edition, in the lent table.
 fn in_third_with(file: &[u8], c: Sections, table: &mut [u8]) -> bool
-    requires { ⌜ Headed (now file) c × (c .structures ≡ 0) × (20 * c .functions ≤ length (now table)) ⌝ }
-    ensures { λ r. ⌜ GoesDown (now (file .entry)) c r ⌝ }
+    requires { Headed file.now c × (c.structures ≡ 0) × (20 * c.functions ≤ length table.old) }
+    ensures { GoesDown file.now c result }
 {
     let n = c.functions;
     let records = c.records;
@@ -121,32 +121,32 @@ fn in_third_with(file: &[u8], c: Sections, table: &mut [u8]) -> bool
 }
 
 fn with_small_table(file: &[u8], c: Sections) -> bool
-    requires { ⌜ Headed (now file) c × (c .structures ≡ 0) × (c .functions ≤ 8) ⌝ }
-    ensures { λ r. ⌜ GoesDown (now (file .entry)) c r ⌝ }
+    requires { Headed file.now c × (c.structures ≡ 0) × (c.functions ≤ 8) }
+    ensures { GoesDown file.now c result }
 {
     let mut table = [0u8; 160];
     in_third_with(file, c, &mut table)
 }
 
 fn with_middle_table(file: &[u8], c: Sections) -> bool
-    requires { ⌜ Headed (now file) c × (c .structures ≡ 0) × (c .functions ≤ 32) ⌝ }
-    ensures { λ r. ⌜ GoesDown (now (file .entry)) c r ⌝ }
+    requires { Headed file.now c × (c.structures ≡ 0) × (c.functions ≤ 32) }
+    ensures { GoesDown file.now c result }
 {
     let mut table = [0u8; 640];
     in_third_with(file, c, &mut table)
 }
 
 fn with_large_table(file: &[u8], c: Sections) -> bool
-    requires { ⌜ Headed (now file) c × (c .structures ≡ 0) × (c .functions ≤ 102) ⌝ }
-    ensures { λ r. ⌜ GoesDown (now (file .entry)) c r ⌝ }
+    requires { Headed file.now c × (c.structures ≡ 0) × (c.functions ≤ 102) }
+    ensures { GoesDown file.now c result }
 {
     let mut table = [0u8; 2040];
     in_third_with(file, c, &mut table)
 }
 
 fn with_full_table(file: &[u8], c: Sections) -> bool
-    requires { ⌜ Headed (now file) c × (c .structures ≡ 0) ⌝ }
-    ensures { λ r. ⌜ GoesDown (now (file .entry)) c r ⌝ }
+    requires { Headed file.now c × (c.structures ≡ 0) }
+    ensures { GoesDown file.now c result }
 {
     let mut table = [0u8; 2560];
     in_third_with(file, c, &mut table)
@@ -154,8 +154,8 @@ fn with_full_table(file: &[u8], c: Sections) -> bool
 
 // Whether a file of edition 4 of which rows 1 to 5 don't hold may go down, with a table no larger than its functions ask.
 fn in_third(file: &[u8], c: Sections) -> bool
-    requires { ⌜ Headed (now file) c ⌝ }
-    ensures { λ r. ⌜ GoesDown (now (file .entry)) c r ⌝ }
+    requires { Headed file.now c }
+    ensures { GoesDown file.now c result }
 {
     if c.structures != 0 {
         return false;
@@ -175,8 +175,8 @@ fn in_third(file: &[u8], c: Sections) -> bool
 // Writes the module of edition 4, without tests: the header, the constants, the function records, then labels and code as they
 // stand.
 fn put_fourth(file: &[u8], c: Sections, out: &mut [u8])
-    requires { ⌜ Packed (now file) c × (edition (now file) ≡ 3) × (length (now file) + 8 + 4 * c .functions ≤ length (now out)) ⌝ }
-    ensures { λ r. ⌜ now (out .exit) ≡ filledWith (toFourth (tablesIn (now (file .entry)))) (now (out .entry)) ⌝ }
+    requires { Packed file.now c × (edition file.now ≡ 3) × (length file.now + 8 + 4 * c.functions ≤ length out.old) }
+    ensures { out.new ≡ filled_with (to_fourth (tables_in file.now)) out.old }
 {
     let n = c.functions;
     let records = c.records;
@@ -205,8 +205,8 @@ fn put_fourth(file: &[u8], c: Sections, out: &mut [u8])
 
 // Writes the module of edition 3, likewise.
 fn put_third(file: &[u8], c: Sections, out: &mut [u8])
-    requires { ⌜ Packed (now file) c × (edition (now file) ≡ 4) × (c .structures ≡ 0) × (length (now file) ≤ length (now out) + 8 + 4 * c .functions) ⌝ }
-    ensures { λ r. ⌜ now (out .exit) ≡ filledWith (toThird (tablesIn (now (file .entry)))) (now (out .entry)) ⌝ }
+    requires { Packed file.now c × (edition file.now ≡ 4) × (c.structures ≡ 0) × (length file.now ≤ length out.old + 8 + 4 * c.functions) }
+    ensures { out.new ≡ filled_with (to_third (tables_in file.now)) out.old }
 {
     let n = c.functions;
     let records = c.records;
@@ -235,8 +235,8 @@ fn put_third(file: &[u8], c: Sections, out: &mut [u8])
 
 // The module of edition 4, or 16.
 fn deliver_fourth(file: &[u8], c: Sections, out: &mut [u8]) -> WriteAnswer
-    requires { ⌜ Packed (now file) c × (refusalIn 3 (now file) ≡ 0) ⌝ }
-    ensures { λ r. ⌜ wrote r (now (out .exit)) ≡ toEdition4 (now (file .entry)) (now (out .entry)) ⌝ }
+    requires { Packed file.now c × (refusal_in 3 file.now ≡ 0) }
+    ensures { wrote result out.new ≡ to_edition4 file.now out.old }
 {
     let longer = file.len() + 8 + 4 * c.functions;
     if out.len() < longer {
@@ -248,8 +248,8 @@ fn deliver_fourth(file: &[u8], c: Sections, out: &mut [u8]) -> WriteAnswer
 
 // The module of edition 3, or 16.
 fn deliver_third(file: &[u8], c: Sections, out: &mut [u8]) -> WriteAnswer
-    requires { ⌜ Packed (now file) c × (edition (now file) ≡ 4) × (c .structures ≡ 0) × (downRefusal (now file) ≡ 0) ⌝ }
-    ensures { λ r. ⌜ wrote r (now (out .exit)) ≡ toEdition3 (now (file .entry)) (now (out .entry)) ⌝ }
+    requires { Packed file.now c × (edition file.now ≡ 4) × (c.structures ≡ 0) × (down_refusal file.now ≡ 0) }
+    ensures { wrote result out.new ≡ to_edition3 file.now out.old }
 {
     let shorter = file.len() - 8 - 4 * c.functions;
     if out.len() < shorter {
@@ -261,8 +261,8 @@ fn deliver_third(file: &[u8], c: Sections, out: &mut [u8]) -> WriteAnswer
 
 // Why a file of edition 4 can't become one of edition 3: a refusal 1 to 9, or 18.
 fn down_refusal(file: &[u8]) -> u32
-    requires { ⌜ (refusalIn 4 (now file) ≡ 0 → notInThird (tablesIn (now file)) ≡ true) × (edition (now file) ≡ 4) ⌝ }
-    ensures { λ r. ⌜ (r ≡ downRefusal (now (file .entry))) × (r ≡ 0 → ⊥) ⌝ }
+    requires { (refusal_in 4 file.now ≡ 0 → not_in_third (tables_in file.now) ≡ true) × (edition file.now ≡ 4) }
+    ensures { (result ≡ down_refusal file.now) × (result ≡ 0 → ⊥) }
 {
     let opened = reader::open(file);
     match opened {
@@ -273,7 +273,7 @@ fn down_refusal(file: &[u8]) -> u32
 
 // Writes the module of edition 4 of a file of edition 3, each profile 0, or refuses and changes nothing.
 pub fn to_edition_4(file: &[u8], out: &mut [u8]) -> WriteAnswer
-    ensures { λ r. ⌜ wrote r (now (out .exit)) ≡ toEdition4 (now (file .entry)) (now (out .entry)) ⌝ }
+    ensures { wrote result out.new ≡ to_edition4 file.now out.old }
 {
     let first = other_edition(3, file);
     if first != 0 {
@@ -288,7 +288,7 @@ pub fn to_edition_4(file: &[u8], out: &mut [u8]) -> WriteAnswer
 
 // Writes the module of edition 3 of a file of edition 4, or refuses and changes nothing.
 pub fn to_edition_3(file: &[u8], out: &mut [u8]) -> WriteAnswer
-    ensures { λ r. ⌜ wrote r (now (out .exit)) ≡ toEdition3 (now (file .entry)) (now (out .entry)) ⌝ }
+    ensures { wrote result out.new ≡ to_edition3 file.now out.old }
 {
     let first = other_edition(4, file);
     if first != 0 {

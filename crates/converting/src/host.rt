@@ -1,9 +1,9 @@
 // The same for C: the number is the answer, and what else an answer holds goes through pointers.
-ghost use Rattle·promises.specs.ConvertPromises.{HostUpKeeps, HostDownKeeps};
+ghost use Rattle.promises.specs.ConvertPromises.{HostUpKeeps, HostDownKeeps};
 
 // `to_edition_4` for C.
 pub fn host_to_edition_4(file: &[u8], out: &mut [u8], written: &mut u64) -> u32
-    ensures { λ r. ⌜ HostUpKeeps (now (file .entry)) (now (out .entry)) (now (written .entry)) r (now (out .exit)) (now (written .exit)) ⌝ }
+    ensures { HostUpKeeps file.now out.old written.old result out.new written.new }
 {
     let answer = crate::to_edition_4(file, out);
     saving::host::write_number(answer, written)
@@ -11,7 +11,7 @@ pub fn host_to_edition_4(file: &[u8], out: &mut [u8], written: &mut u64) -> u32
 
 // `to_edition_3` for C.
 pub fn host_to_edition_3(file: &[u8], out: &mut [u8], written: &mut u64) -> u32
-    ensures { λ r. ⌜ HostDownKeeps (now (file .entry)) (now (out .entry)) (now (written .entry)) r (now (out .exit)) (now (written .exit)) ⌝ }
+    ensures { HostDownKeeps file.now out.old written.old result out.new written.new }
 {
     let answer = crate::to_edition_3(file, out);
     saving::host::write_number(answer, written)

@@ -1,19 +1,22 @@
 // The public calls `to_edition_4` and `to_edition_3`, with their promises.
-ghost use Rattle·promises.specs.ConvertPromises.{UpKeeps, DownKeeps};
+#![tactic(auto)]
+
+ghost use Rattle.promises.specs.ConvertPromises.{UpKeeps, DownKeeps};
+
 use rules::WriteAnswer;
 
 pub mod host;
 
 // Writes the module of edition 4 of a module of edition 3, its functions for any profile, or refuses and changes nothing.
 pub fn to_edition_4(file: &[u8], out: &mut [u8]) -> WriteAnswer
-    ensures { λ r. ⌜ UpKeeps (now (file .entry)) (now (out .entry)) r (now (out .exit)) ⌝ }
+    ensures { UpKeeps file.now out.old result out.new }
 {
     convert::to_edition_4(file, out)
 }
 
 // Writes the module of edition 3 of a module of edition 4, or refuses and changes nothing.
 pub fn to_edition_3(file: &[u8], out: &mut [u8]) -> WriteAnswer
-    ensures { λ r. ⌜ DownKeeps (now (file .entry)) (now (out .entry)) r (now (out .exit)) ⌝ }
+    ensures { DownKeeps file.now out.old result out.new }
 {
     convert::to_edition_3(file, out)
 }

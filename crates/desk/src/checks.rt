@@ -1,17 +1,16 @@
 // What the program says of checks that keep a record, in a lent buffer.
-ghost use Prim.Native.Nat.{_≤_};
-ghost use lib.ListN.{length};
-ghost use Rattle·rules.specs.Program as Program;
-ghost use Rattle·desk·specs.specs.Text.{Fills};
-ghost use Rattle·desk·specs.specs.Checks.{ReportsRecording, ReportsBody};
-use crate::reports;
-use crate::text;
-use rules::CheckAnswer;
-use rules::RecordingAnswer;
+ghost use Rattle.std.specs.Prelude.{◌≤◌, length};
+ghost use Rattle.rules.specs.Program as Program;
+ghost use Rattle.desk.specs.Text.{Fills};
+ghost use Rattle.desk.specs.Checks.{ReportsRecording, ReportsBody};
+
+use crate::{reports, text};
+use rules::{CheckAnswer, RecordingAnswer};
 
 const NO_TYPING: u32 = 11;
 
 // An answer's number, and how many bytes of the buffer its line has.
+#[derive(Clone, Copy)]
 pub struct Said {
     pub number: u32,
     pub text: usize,
@@ -19,16 +18,16 @@ pub struct Said {
 
 // 11 and the body without typing on a line.
 fn untyped_text(body: u32, out: &mut [u8]) -> usize
-    requires { ⌜ 42 ≤ length (now out) ⌝ }
-    ensures { λ r. ⌜ Fills (Program.line2 11 body) (now (out .exit)) r ⌝ }
+    requires { 42 ≤ length out.old }
+    ensures { Fills (Program.line2 11 body) out.new result }
 {
     text::put_line2(NO_TYPING as u64, body as u64, out, 0)
 }
 
 // The full check in enough room, with the record in `beside`.
 pub fn recording_report(file: &[u8], beside: &mut [u8], out: &mut [u8]) -> Said
-    requires { ⌜ 42 ≤ length (now out) ⌝ }
-    ensures { λ r. ⌜ ReportsRecording (now (file .entry)) (now (beside .entry)) r (now (beside .exit)) (now (out .exit)) ⌝ }
+    requires { 42 ≤ length out.old }
+    ensures { ReportsRecording file.now beside.old result beside.new out.new }
 {
     let mut room = [0u8; 16384];
     let answer = rechecking::check_recording(file, &mut room, beside);
@@ -59,8 +58,8 @@ pub fn recording_report(file: &[u8], beside: &mut [u8], out: &mut [u8]) -> Said
 
 // The check of one body beside a record.
 pub fn body_report(file: &[u8], body: u32, beside: &mut [u8], out: &mut [u8]) -> Said
-    requires { ⌜ 42 ≤ length (now out) ⌝ }
-    ensures { λ r. ⌜ ReportsBody (now (file .entry)) body (now (beside .entry)) r (now (beside .exit)) (now (out .exit)) ⌝ }
+    requires { 42 ≤ length out.old }
+    ensures { ReportsBody file.now body beside.old result beside.new out.new }
 {
     let answer = rechecking::check_body(file, body, beside);
     match answer {
@@ -90,8 +89,8 @@ pub fn body_report(file: &[u8], body: u32, beside: &mut [u8], out: &mut [u8]) ->
 
 // How many bytes a record has that was written here: 8, and as many as its first word counts.
 pub fn record_length(beside: &[u8]) -> usize
-    requires { ⌜ 8 ≤ length (now beside) ⌝ }
-    ensures { λ r. ⌜ r ≤ length (now (beside .entry)) ⌝ }
+    requires { 8 ≤ length beside.now }
+    ensures { result ≤ length beside.now }
 {
     let count = memory::load32(beside, 0) as usize;
     if beside.len() - 8 < count {

@@ -1,18 +1,14 @@
 // What the program writes, in a lent buffer: the lines of a run, and the module of a formula line, a converted module, or a
 // refusal.
-ghost use Prim.Native.Nat.{_≤_};
-ghost use lib.ListN.{length};
-ghost use mathlib.Core.Path.{_≡_};
-ghost use Rattle·rules.specs.Host.{heightAfter};
-ghost use Rattle·rules.specs.Writing.{wrote};
-ghost use Rattle·rules.specs.Program as Program;
-ghost use Rattle·desk·specs.specs.Text.{Fills, lentOf, tallyLines, acceptedLines};
-ghost use Rattle·desk·specs.specs.Commands.{Refuses, ReportsLine, sizeIn, convertTo, ReportsConversion};
+ghost use Rattle.std.specs.Prelude.{◌≤◌, length, ◌≡◌};
+ghost use Rattle.rules.specs.Host.{height_after};
+ghost use Rattle.rules.specs.Writing.{wrote};
+ghost use Rattle.rules.specs.Program as Program;
+ghost use Rattle.desk.specs.Text.{Fills, lent_of, tally_lines, accepted_lines};
+ghost use Rattle.desk.specs.Commands.{Refuses, ReportsLine, size_in, convert_to, ReportsConversion};
+
 use crate::text;
-use rules::CheckAnswer;
-use rules::RunAnswer;
-use rules::Tally;
-use rules::WriteAnswer;
+use rules::{CheckAnswer, RunAnswer, Tally, WriteAnswer};
 
 const ENTRY: u32 = 0xffff_ffff;
 
@@ -24,16 +20,16 @@ const NOT_IN_GRAMMAR: u64 = 41;
 
 // A number alone on a line.
 pub(crate) fn number_text(n: u64, out: &mut [u8]) -> usize
-    requires { ⌜ 21 ≤ length (now out) ⌝ }
-    ensures { λ r. ⌜ Fills (Program.refusedLine n) (now (out .exit)) r ⌝ }
+    requires { 21 ≤ length out.old }
+    ensures { Fills (Program.refused_line n) out.new result }
 {
     text::put_number(n, b'\n', out, 0)
 }
 
 // Outcome, steps and height, then the slots.
 fn tally_text(number: u64, tally: Tally, p: &[u8], t: &[u8], out: &mut [u8]) -> usize
-    requires { ⌜ (32768 ≤ length (now p)) × (4096 ≤ length (now t)) × (172095 ≤ length (now out)) × (tally .height ≤ 4096) ⌝ }
-    ensures { λ r. ⌜ Fills (tallyLines number tally (now (p .entry)) (now (t .entry))) (now (out .exit)) r ⌝ }
+    requires { (32768 ≤ length p.now) × (4096 ≤ length t.now) × (172095 ≤ length out.old) × (tally.height ≤ 4096) }
+    ensures { Fills (tally_lines number tally p.now t.now) out.new result }
 {
     let at = text::put_line3(number, tally.steps, tally.height, out, 0);
     let h = tally.height as usize;
@@ -42,8 +38,8 @@ fn tally_text(number: u64, tally: Tally, p: &[u8], t: &[u8], out: &mut [u8]) -> 
 
 // What a run answered.
 fn run_text(answer: RunAnswer, p: &[u8], t: &[u8], out: &mut [u8]) -> usize
-    requires { ⌜ (32768 ≤ length (now p)) × (4096 ≤ length (now t)) × (172095 ≤ length (now out)) × (heightAfter answer 0 ≤ 4096) ⌝ }
-    ensures { λ r. ⌜ Fills (Program.runLines answer (lentOf (now (p .entry)) (now (t .entry)))) (now (out .exit)) r ⌝ }
+    requires { (32768 ≤ length p.now) × (4096 ≤ length t.now) × (172095 ≤ length out.old) × (height_after answer 0 ≤ 4096) }
+    ensures { Fills (Program.run_lines answer (lent_of p.now t.now)) out.new result }
 {
     match answer {
         RunAnswer::Rejected(n) => number_text(n as u64, out),
@@ -61,8 +57,8 @@ fn accepted_text(
     profile: u32,
     out: &mut [u8],
 ) -> usize
-    requires { ⌜ 172095 ≤ length (now out) ⌝ }
-    ensures { λ r. ⌜ Fills (acceptedLines (now (file .entry)) function (lentOf (now («arg_payloads» .entry)) (now («arg_types» .entry))) profile) (now (out .exit)) r ⌝ }
+    requires { 172095 ≤ length out.old }
+    ensures { Fills (accepted_lines file.now function (lent_of arg_payloads.now arg_types.now) profile) out.new result }
 {
     let mut payloads = [0u8; 32768];
     let mut types = [0u8; 4096];
@@ -93,8 +89,8 @@ pub fn run_report(
     profile: u32,
     out: &mut [u8],
 ) -> usize
-    requires { ⌜ 172095 ≤ length (now out) ⌝ }
-    ensures { λ r. ⌜ Fills (Program.printedRun (now (file .entry)) function (lentOf (now («arg_payloads» .entry)) (now («arg_types» .entry))) profile) (now (out .exit)) r ⌝ }
+    requires { 172095 ≤ length out.old }
+    ensures { Fills (Program.printed_run file.now function (lent_of arg_payloads.now arg_types.now) profile) out.new result }
 {
     let mut room = [0u8; 16384];
     let answer = checking::check(file, &mut room);
@@ -109,15 +105,16 @@ pub fn run_report(
 
 // What the program prints for these bytes: the run of the entry.
 pub fn report(input: &[u8], out: &mut [u8]) -> usize
-    requires { ⌜ 172095 ≤ length (now out) ⌝ }
-    requires { ⌜ length (now input) ≤ Program.inputLimit ⌝ }
-    ensures { λ r. ⌜ Fills (Program.printed (now (input .entry))) (now (out .exit)) r ⌝ }
+    requires in_bounds { 172095 ≤ length out.old }
+    requires input_len_bound { length input.now ≤ Program.input_limit }
+    ensures { Fills (Program.printed input.now) out.new result }
 {
     let none = &input[0..0];
     run_report(input, ENTRY, none, none, 0, out)
 }
 
 // What a buffer holds: a module, for standard output, or a refusal, for standard error.
+#[derive(Clone, Copy)]
 pub enum Compiled {
     Module(usize),
     Refusal(usize),
@@ -125,8 +122,8 @@ pub enum Compiled {
 
 // The text of a refused formula line.
 fn refusal_text(line: &[u8], number: u64, out: &mut [u8]) -> usize
-    requires { ⌜ 42 ≤ length (now out) ⌝ }
-    ensures { λ r. ⌜ Refuses (now (line .entry)) number (now (out .exit)) r ⌝ }
+    requires { 42 ≤ length out.old }
+    ensures { Refuses line.now number out.new result }
 {
     if number == NOT_IN_GRAMMAR {
         let place = compiling::formula_stop(line);
@@ -137,8 +134,8 @@ fn refusal_text(line: &[u8], number: u64, out: &mut [u8]) -> usize
 
 // The module of a formula line, or its refusal.
 pub fn formula_report(line: &[u8], out: &mut [u8]) -> Compiled
-    requires { ⌜ 42 ≤ length (now out) ⌝ }
-    ensures { λ r. ⌜ ReportsLine (now (line .entry)) (now (out .entry)) r (now (out .exit)) ⌝ }
+    requires { 42 ≤ length out.old }
+    ensures { ReportsLine line.now out.old result out.new }
 {
     let answer = compiling::formula(line, out);
     match answer {
@@ -149,7 +146,7 @@ pub fn formula_report(line: &[u8], out: &mut [u8]) -> Compiled
 
 // A file in edition 4, or in edition 3.
 fn convert(up: bool, file: &[u8], out: &mut [u8]) -> WriteAnswer
-    ensures { λ r. ⌜ wrote r (now (out .exit)) ≡ convertTo up (now (file .entry)) (now (out .entry)) ⌝ }
+    ensures { wrote result out.new ≡ convert_to up file.now out.old }
 {
     if up {
         return converting::to_edition_4(file, out);
@@ -159,8 +156,8 @@ fn convert(up: bool, file: &[u8], out: &mut [u8]) -> WriteAnswer
 
 // The module in edition 4 or 3, or its refusal.
 pub fn convert_report(up: bool, file: &[u8], out: &mut [u8]) -> Compiled
-    requires { ⌜ 21 ≤ length (now out) ⌝ }
-    ensures { λ r. ⌜ ReportsConversion up (now (file .entry)) (now (out .entry)) r (now (out .exit)) × (sizeIn r ≤ length (now (out .exit))) ⌝ }
+    requires { 21 ≤ length out.old }
+    ensures { ReportsConversion up file.now out.old result out.new × (size_in result ≤ length out.new) }
 {
     let answer = convert(up, file, out);
     match answer {

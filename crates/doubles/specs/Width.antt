@@ -1,6 +1,5 @@
 -- The bits of an int, and of a long where `wide`.
-use Prim.Native.Nat.{ℕ}
-use mathlib.Core.Bool.{Bool, cond}
+use Rattle.std.specs.Prelude.{ℕ, Bool, cond}
 
 abbrev pub width : Bool → ℕ
 width wide = cond wide 64 32

@@ -1,15 +1,15 @@
 // Doubles: from patterns and back, their order, and conversions from and to whole numbers.
-ghost use mathlib.Core.Path.{_≡_};
-ghost use mathlib.Core.Bool.{not, _||_};
-ghost use Prim.Native.Nat.{_-_, _^_, _≤_};
-ghost use lib.Ieee as Ieee;
-ghost use Rattle·rules.specs.Words.{orderOf, negOf};
-ghost use Rattle·rules.specs.Doubles.{decodeOf, encodeOf, cutFits, cutOf, todOf};
-ghost use Rattle·doubles·specs.specs.Width.{width};
+#![tactic(auto)]
+
+ghost use Rattle.std.specs.Prelude.{◌≡◌, ◌-◌, ◌^◌, ◌≤◌, not, ◌||◌};
+ghost use Rattle.std.specs.Float.Ieee as Ieee;
+ghost use Rattle.rules.specs.Words.{order_of, neg_of};
+ghost use Rattle.rules.specs.Doubles.{decode_of, encode_of, cut_fits, cut_of, tod_of};
+ghost use Rattle.doubles.specs.Width.{width};
 
 // Whether a pattern is a number's, and no NaN's. Doubling drops the sign.
 fn number(p: u64) -> bool
-    ensures { λ r. ⌜ r ≡ not (Ieee.nanBits Ieee.binary64 p) ⌝ }
+    ensures { result ≡ not (Ieee.nan_bits Ieee.binary64 p) }
 {
     let d = std::num::wrapping_add_u64(p, p);
     d <= 0xffe0_0000_0000_0000
@@ -17,7 +17,7 @@ fn number(p: u64) -> bool
 
 // The double of a pattern. Every NaN's pattern gives a NaN.
 pub fn decode(p: u64) -> f64
-    ensures { λ r. ⌜ r ≡ decodeOf p ⌝ }
+    ensures { result ≡ decode_of p }
 {
     let n = number(p);
     if n {
@@ -28,7 +28,7 @@ pub fn decode(p: u64) -> f64
 
 // The pattern of a double, 7FF8000000000000 for a NaN.
 pub fn encode(x: f64) -> u64
-    ensures { λ r. ⌜ r ≡ encodeOf x ⌝ }
+    ensures { result ≡ encode_of x }
 {
     if x != x {
         0x7ff8_0000_0000_0000
@@ -39,14 +39,14 @@ pub fn encode(x: f64) -> u64
 
 // Whether one of two doubles is a NaN.
 pub fn unordered(x: f64, y: f64) -> bool
-    ensures { λ r. ⌜ r ≡ (Ieee.isNan x || Ieee.isNan y) ⌝ }
+    ensures { result ≡ (Ieee.is_nan x || Ieee.is_nan y) }
 {
     (x != x) | (y != y)
 }
 
 // 1 for more, 0 for equal, -1 for anything else, as an int. A NaN is neither more nor equal.
 pub fn compare(x: f64, y: f64) -> u32
-    ensures { λ r. ⌜ r ≡ orderOf (Ieee.lt y x) (Ieee.eq x y) ⌝ }
+    ensures { result ≡ order_of (Ieee.lt y x) (Ieee.eq x y) }
 {
     if x > y {
         return 1;
@@ -59,14 +59,14 @@ pub fn compare(x: f64, y: f64) -> u32
 
 // `tod` of an int: exact.
 pub fn tod_int(a: u32) -> f64
-    ensures { λ r. ⌜ encodeOf r ≡ todOf a ⌝ }
+    ensures { encode_of result ≡ tod_of a }
 {
     a as f64
 }
 
 // `tod` of a long: the upper half times 2^32 plus the lower half. Both are exact, and only the sum rounds.
 pub fn tod_long(a: u64) -> f64
-    ensures { λ r. ⌜ encodeOf r ≡ todOf a ⌝ }
+    ensures { encode_of result ≡ tod_of a }
 {
     let upper = (a / 0x1_0000_0000) as u32;
     let lower = (a % 0x1_0000_0000) as u32;
@@ -74,6 +74,7 @@ pub fn tod_long(a: u64) -> f64
 }
 
 // A double cut toward zero: whether the whole number is in range, and its pattern, or the one with only the top bit set.
+#[derive(Clone, Copy)]
 pub struct Truncated {
     pub fits: bool,
     pub pattern: u64,
@@ -81,7 +82,7 @@ pub struct Truncated {
 
 // The pattern with only the top bit set, of an int, or of a long where `wide`.
 fn top_bit(wide: bool) -> u64
-    ensures { λ r. ⌜ r ≡ 2 ^ (width wide - 1) ⌝ }
+    ensures { result ≡ 2 ^ (width wide - 1) }
 {
     if wide {
         return 0x8000_0000_0000_0000;
@@ -91,8 +92,8 @@ fn top_bit(wide: bool) -> u64
 
 // The pattern of -t.
 fn minus(wide: bool, t: u64) -> u64
-    requires { ⌜ t ≤ 2 ^ (width wide - 1) ⌝ }
-    ensures { λ r. ⌜ r ≡ negOf (width wide) t ⌝ }
+    requires { t ≤ 2 ^ (width wide - 1) }
+    ensures { result ≡ neg_of (width wide) t }
 {
     if wide {
         return words::neg64(t);
@@ -102,7 +103,7 @@ fn minus(wide: bool, t: u64) -> u64
 
 // For `toi`, or for `tol` where `wide`. The range is tested on the whole number. A NaN fails every test.
 pub fn truncate(wide: bool, x: f64) -> Truncated
-    ensures { λ r. ⌜ (r .fits ≡ cutFits (width wide) x) × (r .pattern ≡ cutOf (width wide) x) ⌝ }
+    ensures { (result.fits ≡ cut_fits (width wide) x) × (result.pattern ≡ cut_of (width wide) x) }
 {
     let top = top_bit(wide);
     if x > -1.0 {

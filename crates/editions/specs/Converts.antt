@@ -1,8 +1,8 @@
 -- 02, A7, whole: `converts`.
-use Rattle·rules.specs.Converted.{Converts}
-use Rattle·editions·specs.specs.Conversions.{up-read, down-read, up-down, down-up}
-use Rattle·editions·specs.specs.SameRuns.{same-run}
-use Rattle·editions·specs.specs.SameChecks.{same-check}
+use Rattle.rules.specs.Converted.{Converts}
+use Rattle.editions.specs.Conversions.{up_read, down_read, up_down, down_up}
+use Rattle.editions.specs.SameRuns.{same_run}
+use Rattle.editions.specs.SameChecks.{same_check}
 
 pub converts : Converts
-converts = record { up-read = up-read; down-read = down-read; up-down = up-down; down-up = down-up; same-run = same-run; same-check = same-check }
+converts = record { up_read = up_read; down_read = down_read; up_down = up_down; down_up = down_up; same_run = same_run; same_check = same_check }

@@ -1,29 +1,26 @@
 -- What the functions on whole lines promise.
-use mathlib.Core.Path.{_≡_}
-use Prim.Native.Nat.{ℕ, _*_, _≤_, _<_}
-use mathlib.Core.Option.{some}
-use mathlib.Core.List.{List, [], _∷_}
-use lib.ListN.{take}
-use Rattle·rules.specs.Tables.{Tables, tables}
-use Rattle·rules.specs.declared.WriteAnswer.the-variants.{Unwritten}
-use Rattle·rules.specs.Writing.{wrote}
-use Rattle·rules.specs.Files.{constantBytes, function, functionBytes}
-use Rattle·rules.specs.Grammar.{Tree, depth}
-use Rattle·rules.specs.Reading.{reading}
-use Rattle·rules.specs.Formula.{need, numbers, ints, codeBytes, formula}
-use Rattle·formula·specs.specs.Readers.{Cursor, Answer, Bad, Read}
+use Rattle.std.specs.Prelude.{◌≡◌, ℕ, ◌*◌, ◌≤◌, ◌<◌, List, [], ◌∷◌, take}
+use Rattle.std.proofs.Math.Option.{some}
+use Rattle.rules.specs.Tables.{Tables, tables}
+use Rattle.rules.specs.declared.WriteAnswer.TheVariants.{Unwritten}
+use Rattle.rules.specs.Writing.{wrote}
+use Rattle.rules.specs.Files.{constant_bytes, function, function_bytes}
+use Rattle.rules.specs.Grammar.{Tree, depth}
+use Rattle.rules.specs.Reading.{reading}
+use Rattle.rules.specs.Formula.{need, numbers, ints, code_bytes, formula}
+use Rattle.formula.specs.Readers.{Cursor, Answer, Bad, Read}
 
 -- the tables of one function of three ints to an int, with these constants and this code
-abbrev pub oneFunction : List ℕ → List ℕ → Tables
-oneFunction constants code = tables 3 constants (functionBytes 0 (function (3 ∷ 3 ∷ 3 ∷ []) 3 code ∷ [])) [] [] code 0
+abbrev pub one_function : List ℕ → List ℕ → Tables
+one_function constants code = tables 3 constants (function_bytes 0 (function (3 ∷ 3 ∷ 3 ∷ []) 3 code ∷ [])) [] [] code 0
 
 -- a line of this tree was read: its constants, and its code with `ret`
 pub record Whole (code pool : List ℕ) (c : Cursor) (t : Tree) : Type 0 where
-  pub code-is : take (c .code) code ≡ codeBytes t
-  pub pool-is : take (12 * c .numbers) pool ≡ constantBytes (ints (numbers t))
-  pub most : c .most ≡ need t
-  pub few : c .numbers ≤ 128
-  pub short : c .code ≤ 771
+  pub code_is : take c.code code ≡ code_bytes t
+  pub pool_is : take (12 * c.numbers) pool ≡ constant_bytes (ints (numbers t))
+  pub most : c.most ≡ need t
+  pub few : c.numbers ≤ 128
+  pub short : c.code ≤ 771
 
 -- a line that is not in the grammar, or is too deep
 abbrev pub Unread : List ℕ → Type 0

@@ -1,17 +1,11 @@
 -- What the functions of `tokens` promise.
-use mathlib.Core.Path.{_≡_}
-use mathlib.Core.Logic.{_≢_}
-use Prim.Native.Nat.{ℕ, zero, suc, _+_, _*_, _-_, _≤_, _<_}
-use mathlib.Core.Bool.{cond}
-use mathlib.Core.Option.{none}
-use mathlib.Core.List.{List, [], _∷_}
-use lib.ListN.{length, drop, getD}
-use lib.Dec.{leb, eqb}
-use Rattle·rules.specs.Grammar.{Sign, Tree, SumSign, ProductSign}
-use Rattle·rules.specs.Reading.{skip, digits, Lead, sign, closing, lead, Part, onward, negated, closed, productSign, sumSign, factor}
-use Rattle·rules.specs.Formula.{signBytes}
-pub use Rattle·formula·specs.specs.declared.tokens.Follow.{Follow}
-pub use Rattle·formula·specs.specs.declared.tokens.Follow.the-variants as Follow
+use Rattle.std.specs.Prelude.{◌≡◌, ◌≢◌, ℕ, zero, suc, ◌+◌, ◌*◌, ◌-◌, ◌≤◌, ◌<◌, cond, List, [], ◌∷◌, length, drop, get_or, leb, eqb}
+use Rattle.std.proofs.Math.Option.{none}
+use Rattle.rules.specs.Grammar.{Sign, Tree, SumSign, ProductSign}
+use Rattle.rules.specs.Reading.{skip, digits, Lead, sign, closing, lead, Part, onward, negated, closed, product_sign, sum_sign, factor}
+use Rattle.rules.specs.Formula.{sign_bytes}
+pub use Rattle.formula.specs.declared.tokens.Follow.{Follow}
+pub use Rattle.formula.specs.declared.tokens.Follow.TheVariants as Follow
 
 -- the place r after the spaces from a place on
 pub record Skipped (s : List ℕ) (at r : ℕ) : Type 0 where
@@ -50,14 +44,14 @@ pub record Leads (s : List ℕ) (at r : ℕ) (l : List ℕ → Lead) : Type 0 wh
   pub upto : r ≤ length s
 
 -- the parameter that a byte names; 3 where it names none
-abbrev pub nameOf : ℕ → ℕ
-nameOf c = cond (eqb c 114) 0 (cond (eqb c 103) 1 (cond (eqb c 98) 2 3))
+abbrev pub name_of : ℕ → ℕ
+name_of c = cond (eqb c 114) 0 (cond (eqb c 103) 1 (cond (eqb c 98) 2 3))
 
 -- ---- minuses
 
 -- no minus stands at a place
 abbrev pub Plain : List ℕ → ℕ → Type 0
-Plain s at = at < length s → getD s at 0 ≢ 45
+Plain s at = at < length s → get_or s at 0 ≢ 45
 
 -- a part behind n minuses
 abbrev pub negatives : ℕ → Part → Part
@@ -75,13 +69,13 @@ pub record AfterMinuses (s : List ℕ) (at n r : ℕ) : Type 0 where
 
 abbrev pub Signs : (Lead → Part → (Sign → List ℕ → Part) → Part) → (ℕ → Sign → Type 0) → List ℕ → ℕ → Follow → Type 0
 Signs S K s at Follow.Nothing = (d : Part) (k : Sign → List ℕ → Part) → S (lead (drop at s)) d k ≡ d
-Signs S K s at (Follow.Sign op r) = (o : Sign) × (b : ℕ) × K b o × (signBytes o ≡ op ∷ []) × Leads s at r (sign o)
+Signs S K s at (Follow.Sign op r) = (o : Sign) × (b : ℕ) × K b o × (sign_bytes o ≡ op ∷ []) × Leads s at r (sign o)
 
 abbrev pub SumFollow : List ℕ → ℕ → Follow → Type 0
-SumFollow = Signs sumSign SumSign
+SumFollow = Signs sum_sign SumSign
 
 abbrev pub ProductFollow : List ℕ → ℕ → Follow → Type 0
-ProductFollow = Signs productSign ProductSign
+ProductFollow = Signs product_sign ProductSign
 
 -- the closing bracket
 abbrev pub CloseFollow : List ℕ → ℕ → Follow → Type 0

@@ -1,24 +1,21 @@
 // Code and constants, put behind what was written before.
-ghost use mathlib.Core.Path.{_≡_};
-ghost use mathlib.Core.List.{[], _∷_, _++_};
-ghost use Prim.Native.Nat.{_+_, _*_, _<_, _≤_};
-ghost use lib.ListN.{length, take, replicate};
-ghost use Rattle·rules.specs.Bytes.{bytes};
-use memory::store32;
-use memory::store64;
+ghost use Rattle.std.specs.Prelude.{◌≡◌, [], ◌∷◌, ◌++◌, ◌+◌, ◌*◌, ◌<◌, ◌≤◌, length, take, replicate};
+ghost use Rattle.rules.specs.Bytes.{bytes};
+
+use memory::{store32, store64};
 
 // An instruction of one byte.
 pub fn put_bare(code: &mut [u8], at: usize, op: u8)
-    requires { ⌜ at < length (now code) ⌝ }
-    ensures { λ _. ⌜ take (at + 1) (now (code .exit)) ≡ take at (now (code .entry)) ++ (op ∷ []) ⌝ }
+    requires { at < length code.old }
+    ensures { take (at + 1) code.new ≡ take at code.old ++ (op ∷ []) }
 {
     code[at] = op;
 }
 
 // n times `neg`.
 pub fn put_negations(code: &mut [u8], at: usize, n: usize)
-    requires { ⌜ at + n ≤ length (now code) ⌝ }
-    ensures { λ _. ⌜ take (at + n) (now (code .exit)) ≡ take at (now (code .entry)) ++ replicate n 19 ⌝ }
+    requires { at + n ≤ length code.old }
+    ensures { take (at + n) code.new ≡ take at code.old ++ replicate n 19 }
 {
     let mut i = 0;
     while i < n {
@@ -29,8 +26,8 @@ pub fn put_negations(code: &mut [u8], at: usize, n: usize)
 
 // An instruction with a word behind it.
 pub fn put_wide(code: &mut [u8], at: usize, op: u8, w: u32)
-    requires { ⌜ at + 5 ≤ length (now code) ⌝ }
-    ensures { λ _. ⌜ take (at + 5) (now (code .exit)) ≡ take at (now (code .entry)) ++ (op ∷ bytes 4 w) ⌝ }
+    requires { at + 5 ≤ length code.old }
+    ensures { take (at + 5) code.new ≡ take at code.old ++ (op ∷ bytes 4 w) }
 {
     code[at] = op;
     store32(code, at + 1, w);
@@ -38,8 +35,8 @@ pub fn put_wide(code: &mut [u8], at: usize, op: u8, w: u32)
 
 // Constant k, an int.
 pub fn put_constant(pool: &mut [u8], k: usize, v: u64)
-    requires { ⌜ 12 * k + 12 ≤ length (now pool) ⌝ }
-    ensures { λ _. ⌜ take (12 * k + 12) (now (pool .exit)) ≡ take (12 * k) (now (pool .entry)) ++ (bytes 4 3 ++ bytes 8 v) ⌝ }
+    requires { 12 * k + 12 ≤ length pool.old }
+    ensures { take (12 * k + 12) pool.new ≡ take (12 * k) pool.old ++ (bytes 4 3 ++ bytes 8 v) }
 {
     store32(pool, 12 * k, 3);
     store64(pool, 12 * k + 4, v);

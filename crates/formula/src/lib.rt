@@ -1,13 +1,13 @@
 // Formula lines, compiled to modules of one function.
-ghost use mathlib.Core.Path.{_≡_};
-ghost use Prim.Native.Nat.{_≤_};
-ghost use lib.ListN.{length};
-ghost use Rattle·rules.specs.Writing.{fileOf, delivered, wrote};
-ghost use Rattle·rules.specs.Formula.{formula};
-ghost use Rattle·rules.specs.Grammar.{StopsAt};
-ghost use Rattle·formula·specs.specs.Lines.{Unread, Refuses, LineIs, oneFunction};
-use readers::Answer;
-use readers::Cursor;
+#![tactic(auto)]
+
+ghost use Rattle.std.specs.Prelude.{◌≡◌, ◌≤◌, length};
+ghost use Rattle.rules.specs.Writing.{file_of, delivered, wrote};
+ghost use Rattle.rules.specs.Formula.{formula};
+ghost use Rattle.rules.specs.Grammar.{StopsAt};
+ghost use Rattle.formula.specs.Lines.{Unread, Refuses, LineIs, one_function};
+
+use readers::{Answer, Cursor};
 use rules::WriteAnswer;
 use scan::Scan;
 
@@ -18,8 +18,8 @@ pub mod tokens;
 
 // The line, read whole: its constants, and its code with `ret` at the end.
 fn read_line(line: &[u8], code: &mut [u8], pool: &mut [u8]) -> Answer
-    requires { ⌜ (length (now line) ≤ 256) × (length (now code) ≡ 771) × (length (now pool) ≡ 1536) ⌝ }
-    ensures { λ r. ⌜ LineIs (now (line .entry)) (now (code .exit)) (now (pool .exit)) r ⌝ }
+    requires { (length line.now ≤ 256) × (length code.old ≡ 771) × (length pool.old ≡ 1536) }
+    ensures { LineIs line.now code.new pool.new result }
 {
     let at = tokens::skip(line, 0);
     let a = readers::sum(
@@ -46,8 +46,8 @@ fn read_line(line: &[u8], code: &mut [u8], pool: &mut [u8]) -> Answer
 
 // The module of one function of three ints to an int, from its constants and its code; or 16.
 fn write_module(constants: &[u8], code: &[u8], out: &mut [u8]) -> WriteAnswer
-    requires { ⌜ (length (now constants) ≤ 1536) × (length (now code) ≤ 771) ⌝ }
-    ensures { λ r. ⌜ wrote r (now (out .exit)) ≡ delivered (fileOf (oneFunction (now (constants .entry)) (now (code .entry)))) (now (out .entry)) ⌝ }
+    requires { (length constants.now ≤ 1536) × (length code.now ≤ 771) }
+    ensures { wrote result out.new ≡ delivered (file_of (one_function constants.now code.now)) out.old }
 {
     let length = 68 + constants.len() + code.len();
     if out.len() < length {
@@ -62,8 +62,8 @@ fn write_module(constants: &[u8], code: &[u8], out: &mut [u8]) -> WriteAnswer
 
 // Why a line that was not read is refused: 41, or 42.
 fn refusal(line: &[u8]) -> u32
-    requires { ⌜ (length (now line) ≤ 256) × Unread (now line) ⌝ }
-    ensures { λ r. ⌜ Refuses (now (line .entry)) r ⌝ }
+    requires { (length line.now ≤ 256) × Unread line.now }
+    ensures { Refuses line.now result }
 {
     let found = scan::scan_line(line);
     match found {
@@ -74,7 +74,7 @@ fn refusal(line: &[u8]) -> u32
 
 // Compiles a line of at most 256 bytes and writes its module. Refusals: 40, 41, 42, 43, 16.
 pub fn compile(line: &[u8], out: &mut [u8]) -> WriteAnswer
-    ensures { λ r. ⌜ wrote r (now (out .exit)) ≡ formula (now (line .entry)) (now (out .entry)) ⌝ }
+    ensures { wrote result out.new ≡ formula line.now out.old }
 {
     if 256 < line.len() {
         return WriteAnswer::Unwritten(40);
@@ -95,7 +95,7 @@ pub fn compile(line: &[u8], out: &mut [u8]) -> WriteAnswer
 
 // The place where a line stops making sense; its length where it is in the grammar or ends too early.
 pub fn stop(line: &[u8]) -> usize
-    ensures { λ r. ⌜ StopsAt (now (line .entry)) r ⌝ }
+    ensures { StopsAt line.now result }
 {
     let found = scan::scan_line(line);
     match found {

@@ -1,16 +1,15 @@
 // The readers of sums, products and factors. They call each other in a cycle, at most 16 brackets deep; each writes postfix code and
 // constants as it reads.
-ghost use mathlib.Core.Path.{_≡_};
-ghost use Prim.Native.Nat.{_+_, _<_, _≤_, max};
-ghost use lib.ListN.{length};
-ghost use Rattle·rules.specs.Grammar.{number, name};
-ghost use Rattle·formula·specs.specs.Tokens.{Plain};
-ghost use Rattle·formula·specs.specs.Readers.{Ready, AfterSign, Wrote, FactorIs, ProductIs, SumIs, BracketedIs, Signed, Completed, Negated};
-use crate::emit;
-use crate::tokens;
+ghost use Rattle.std.specs.Prelude.{◌≡◌, ◌+◌, ◌<◌, ◌≤◌, max, length};
+ghost use Rattle.rules.specs.Grammar.{number, name};
+ghost use Rattle.formula.specs.Tokens.{Plain};
+ghost use Rattle.formula.specs.Readers.{Ready, AfterSign, Wrote, FactorIs, ProductIs, SumIs, BracketedIs, Signed, Completed, Negated};
+
 use crate::tokens::Follow;
+use crate::{emit, tokens};
 
 // The place in the line, the bytes of code and the constants written so far, and the most operands so far.
+#[derive(Clone, Copy)]
 pub struct Cursor {
     pub at: usize,
     pub code: usize,
@@ -19,13 +18,14 @@ pub struct Cursor {
 }
 
 // No part of the grammar within 16 brackets; or read up to here.
+#[derive(Clone, Copy)]
 pub enum Answer {
     Bad,
     Read(Cursor),
 }
 
 fn larger(a: usize, b: usize) -> usize
-    ensures { λ r. ⌜ r ≡ max a b ⌝ }
+    ensures { result ≡ max a b }
 {
     if a < b {
         return b;
@@ -44,8 +44,8 @@ fn number_read(
     v: u64,
     next: usize,
 ) -> Cursor
-    requires { ⌜ Ready 0 (now s) (now code) (now pool) c depth held × AfterSign (now s) c next × (v < 4294967296) ⌝ }
-    ensures { λ r. ⌜ Wrote (number v) (now (s .entry)) (now (code .entry)) (now (pool .entry)) c depth held (now (code .exit)) (now (pool .exit)) r × (r .at ≡ next) ⌝ }
+    requires { Ready 0 s.now code.old pool.old c depth held × AfterSign s.now c next × (v < 4294967296) }
+    ensures { Wrote (number v) s.now code.old pool.old c depth held code.new pool.new result × (result.at ≡ next) }
 {
     let k = c.numbers;
     let at = c.code;
@@ -71,8 +71,8 @@ fn name_read(
     i: u32,
     next: usize,
 ) -> Cursor
-    requires { ⌜ Ready 0 (now s) (now code) (now pool) c depth held × AfterSign (now s) c next ⌝ }
-    ensures { λ r. ⌜ Wrote (name i) (now (s .entry)) (now (code .entry)) (now (pool .entry)) c depth held (now (code .exit)) (now (pool .entry)) r × (r .at ≡ next) ⌝ }
+    requires { Ready 0 s.now code.old pool.now c depth held × AfterSign s.now c next }
+    ensures { Wrote (name i) s.now code.old pool.now c depth held code.new pool.now result × (result.at ≡ next) }
 {
     let at = c.code;
     emit::put_wide(code, at, 3, i);
@@ -87,8 +87,8 @@ fn name_read(
 
 // An instruction of one byte behind what was read.
 pub(crate) fn operated(code: &mut [u8], c: Cursor, op: u8) -> Cursor
-    requires { ⌜ c .code < length (now code) ⌝ }
-    ensures { λ r. ⌜ Signed (now (code .entry)) c op (now (code .exit)) r ⌝ }
+    requires { c.code < length code.old }
+    ensures { Signed code.old c op code.new result }
 {
     let at = c.code;
     emit::put_bare(code, at, op);
@@ -102,8 +102,8 @@ pub(crate) fn operated(code: &mut [u8], c: Cursor, op: u8) -> Cursor
 
 // n times `neg` behind what was read.
 fn negated(code: &mut [u8], c: Cursor, n: usize) -> Cursor
-    requires { ⌜ c .code + n ≤ length (now code) ⌝ }
-    ensures { λ r. ⌜ Negated (now (code .entry)) c n (now (code .exit)) r ⌝ }
+    requires { c.code + n ≤ length code.old }
+    ensures { Negated code.old c n code.new result }
 {
     let at = c.code;
     emit::put_negations(code, at, n);
@@ -116,7 +116,7 @@ fn negated(code: &mut [u8], c: Cursor, n: usize) -> Cursor
 }
 
 fn moved(c: Cursor, at: usize) -> Cursor
-    ensures { λ r. ⌜ r ≡ record { at = at; code = c .code; numbers = c .numbers; most = c .most } ⌝ }
+    ensures { result ≡ record { at = at; code = c.code; numbers = c.numbers; most = c.most } }
 {
     Cursor {
         at: at,
@@ -128,8 +128,8 @@ fn moved(c: Cursor, at: usize) -> Cursor
 
 // The instruction that waited for its right operand, behind what was read; 0 where none did.
 fn completed(code: &mut [u8], c: Cursor, op: u8) -> Cursor
-    requires { ⌜ c .code < length (now code) ⌝ }
-    ensures { λ r. ⌜ Completed (now (code .entry)) c op (now (code .exit)) r ⌝ }
+    requires { c.code < length code.old }
+    ensures { Completed code.old c op code.new result }
 {
     if op == 0 {
         return c;
@@ -138,6 +138,7 @@ fn completed(code: &mut [u8], c: Cursor, op: u8) -> Cursor
 }
 
 // Minuses, then a number, a name or a bracketed sum.
+#[cycle(bracketed_factor_plain_product_sum)]
 fn factor(
     s: &[u8],
     code: &mut [u8],
@@ -146,8 +147,8 @@ fn factor(
     depth: usize,
     held: usize,
 ) -> Answer
-    requires { ⌜ Ready 0 (now s) (now code) (now pool) c depth held ⌝ }
-    ensures { λ r. ⌜ FactorIs (now (s .entry)) (now (code .entry)) (now (pool .entry)) c depth held (now (code .exit)) (now (pool .exit)) r ⌝ }
+    requires { Ready 0 s.now code.old pool.old c depth held }
+    ensures { FactorIs s.now code.old pool.old c depth held code.new pool.new result }
 {
     let at = c.at;
     let m = tokens::skip_minuses(s, at);
@@ -159,9 +160,10 @@ fn factor(
 }
 
 // A number, a name or a bracketed sum.
+#[cycle(bracketed_factor_plain_product_sum)]
 fn plain(s: &[u8], code: &mut [u8], pool: &mut [u8], c: Cursor, depth: usize, held: usize) -> Answer
-    requires { ⌜ Ready 0 (now s) (now code) (now pool) c depth held × Plain (now s) (c .at) ⌝ }
-    ensures { λ r. ⌜ FactorIs (now (s .entry)) (now (code .entry)) (now (pool .entry)) c depth held (now (code .exit)) (now (pool .exit)) r ⌝ }
+    requires { Ready 0 s.now code.old pool.old c depth held × Plain s.now c.at }
+    ensures { FactorIs s.now code.old pool.old c depth held code.new pool.new result }
 {
     let at = c.at;
     if s.len() <= at {
@@ -190,6 +192,7 @@ fn plain(s: &[u8], code: &mut [u8], pool: &mut [u8], c: Cursor, depth: usize, he
 }
 
 // What follows an opening bracket: a sum, one deeper, and the closing bracket. None is read where 16 are open.
+#[cycle(bracketed_factor_plain_product_sum)]
 fn bracketed(
     s: &[u8],
     code: &mut [u8],
@@ -199,8 +202,8 @@ fn bracketed(
     depth: usize,
     held: usize,
 ) -> Answer
-    requires { ⌜ Ready 0 (now s) (now code) (now pool) c depth held × AfterSign (now s) c next ⌝ }
-    ensures { λ r. ⌜ BracketedIs (now (s .entry)) (now (code .entry)) (now (pool .entry)) c next depth held (now (code .exit)) (now (pool .exit)) r ⌝ }
+    requires { Ready 0 s.now code.old pool.old c depth held × AfterSign s.now c next }
+    ensures { BracketedIs s.now code.old pool.old c next depth held code.new pool.new result }
 {
     if 16 <= depth {
         return Answer::Bad;
@@ -218,6 +221,7 @@ fn bracketed(
 }
 
 // A factor, and signs and factors after it. `op` is the sign that waits for its right operand, 0 before the first.
+#[cycle(bracketed_factor_plain_product_sum)]
 fn product(
     s: &[u8],
     code: &mut [u8],
@@ -226,8 +230,8 @@ fn product(
     depth: usize,
     held: usize,
 ) -> Answer
-    requires { ⌜ Ready 0 (now s) (now code) (now pool) c depth held ⌝ }
-    ensures { λ r. ⌜ ProductIs (now (s .entry)) (now (code .entry)) (now (pool .entry)) c depth held (now (code .exit)) (now (pool .exit)) r ⌝ }
+    requires { Ready 0 s.now code.old pool.old c depth held }
+    ensures { ProductIs s.now code.old pool.old c depth held code.new pool.new result }
 {
     let mut done = c;
     let mut op = 0u8;
@@ -250,6 +254,7 @@ fn product(
 }
 
 // A product, and signs and products after it. `op` is the sign that waits for its right operand, 0 before the first.
+#[cycle(bracketed_factor_plain_product_sum)]
 pub(crate) fn sum(
     s: &[u8],
     code: &mut [u8],
@@ -258,8 +263,8 @@ pub(crate) fn sum(
     depth: usize,
     held: usize,
 ) -> Answer
-    requires { ⌜ Ready 0 (now s) (now code) (now pool) c depth held ⌝ }
-    ensures { λ r. ⌜ SumIs (now (s .entry)) (now (code .entry)) (now (pool .entry)) c depth held (now (code .exit)) (now (pool .exit)) r ⌝ }
+    requires { Ready 0 s.now code.old pool.old c depth held }
+    ensures { SumIs s.now code.old pool.old c depth held code.new pool.new result }
 {
     let mut done = c;
     let mut op = 0u8;

@@ -1,13 +1,13 @@
 // The flat pass over a line: whether it is in the grammar, how deep its brackets go, or where it stops making sense. No recursion.
-ghost use mathlib.Core.Path.{_≡_};
-ghost use mathlib.Core.Bool.{true, false};
-ghost use Prim.Native.Nat.{_+_, _<_, _^_};
-ghost use Rattle·rules.specs.Reading.{isDigit};
-ghost use Rattle·grammar.specs.Scan.{isName, isSign};
-ghost use Rattle·formula·specs.specs.Scans.{Legal, Moves, ScanIs};
+ghost use Rattle.std.specs.Prelude.{◌≡◌, true, false, ◌+◌, ◌<◌, ◌^◌};
+ghost use Rattle.rules.specs.Reading.{is_digit};
+ghost use Rattle.grammar.specs.Scan.{is_name, is_sign};
+ghost use Rattle.formula.specs.Scans.{Legal, Moves, ScanIs};
+
 use crate::tokens::is_digit;
 
 // Where a line stops making sense, or how deep the brackets of one in the grammar go.
+#[derive(Clone, Copy)]
 pub enum Scan {
     Stops(usize),
     Deepest(usize),
@@ -15,6 +15,7 @@ pub enum Scan {
 
 // Where the pass stands: the factors that must come, 1 or 0; the value of the number so far; the brackets that are open, and the most that
 // were. The value is 0 where a factor must come, and `FULL` where no digit may follow.
+#[derive(Clone, Copy)]
 pub struct State {
     pub wanted: usize,
     pub value: u64,
@@ -26,27 +27,28 @@ pub struct State {
 const FULL: u64 = 4294967296;
 
 // One byte more: it can't stand there, or the pass goes on.
+#[derive(Clone, Copy)]
 pub enum Next {
     Refused,
     To(State),
 }
 
 fn is_name(c: u8) -> bool
-    ensures { λ r. ⌜ r ≡ isName c ⌝ }
+    ensures { result ≡ is_name c }
 {
     (c == 114) | (c == 103) | (c == 98)
 }
 
 fn is_sign(c: u8) -> bool
-    ensures { λ r. ⌜ r ≡ isSign c ⌝ }
+    ensures { result ≡ is_sign c }
 {
     (c == 43) | (c == 45) | (c == 42) | (c == 47)
 }
 
 // A digit, of a number that begins here or goes on.
 fn on_digit(c: u8, at: State) -> Next
-    requires { ⌜ Legal at × (isDigit c ≡ true) ⌝ }
-    ensures { λ r. ⌜ Moves at c r ⌝ }
+    requires { Legal at × (is_digit c ≡ true) }
+    ensures { Moves at c result }
 {
     let value = 10 * at.value + ((c - 48) as u64);
     if 4294967295 < value {
@@ -62,8 +64,8 @@ fn on_digit(c: u8, at: State) -> Next
 
 // A byte where a factor must come.
 fn in_front(c: u8, at: State) -> Next
-    requires { ⌜ Legal at × (0 < at .wanted) × (isDigit c ≡ false) × (at .brackets + 1 < 2 ^ 64) ⌝ }
-    ensures { λ r. ⌜ Moves at c r ⌝ }
+    requires { Legal at × (0 < at.wanted) × (is_digit c ≡ false) × (at.brackets + 1 < 2 ^ 64) }
+    ensures { Moves at c result }
 {
     if is_name(c) {
         return Next::To(State {
@@ -91,8 +93,8 @@ fn in_front(c: u8, at: State) -> Next
 
 // A byte where a factor is complete, or where the digits so far make one.
 fn behind(c: u8, at: State) -> Next
-    requires { ⌜ Legal at × (at .wanted ≡ 0) × (isDigit c ≡ false) ⌝ }
-    ensures { λ r. ⌜ Moves at c r ⌝ }
+    requires { Legal at × (at.wanted ≡ 0) × (is_digit c ≡ false) }
+    ensures { Moves at c result }
 {
     let mut open = at.brackets;
     if is_sign(c) {
@@ -121,8 +123,8 @@ fn behind(c: u8, at: State) -> Next
 
 // Any byte.
 fn step(c: u8, at: State) -> Next
-    requires { ⌜ Legal at × (at .brackets + 1 < 2 ^ 64) ⌝ }
-    ensures { λ r. ⌜ Moves at c r ⌝ }
+    requires { Legal at × (at.brackets + 1 < 2 ^ 64) }
+    ensures { Moves at c result }
 {
     if is_digit(c) {
         return on_digit(c, at);
@@ -135,7 +137,7 @@ fn step(c: u8, at: State) -> Next
 
 // The whole line. Where it ends too early, it stops at its end.
 pub fn scan_line(line: &[u8]) -> Scan
-    ensures { λ r. ⌜ ScanIs (now (line .entry)) r ⌝ }
+    ensures { ScanIs line.now result }
 {
     let mut at = State {
         wanted: 1,

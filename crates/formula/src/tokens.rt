@@ -1,39 +1,39 @@
 // What stands in front of the rest of a line: spaces, digits, names, minuses, and the sign that goes on with a part.
-ghost use mathlib.Core.Path.{_≡_};
-ghost use mathlib.Core.Bool.{true};
-ghost use Prim.Native.Nat.{_<_, _≤_};
-ghost use lib.ListN.{length};
-ghost use Rattle·rules.specs.Reading.{isDigit};
-ghost use Rattle·formula·specs.specs.Tokens.{Skipped, Grown, PastZeros, Counted, nameOf, AfterMinuses, ProductFollow, SumFollow, CloseFollow};
+ghost use Rattle.std.specs.Prelude.{◌≡◌, true, ◌<◌, ◌≤◌, length};
+ghost use Rattle.rules.specs.Reading.{is_digit};
+ghost use Rattle.formula.specs.Tokens.{Skipped, Grown, PastZeros, Counted, name_of, AfterMinuses, ProductFollow, SumFollow, CloseFollow};
 
 // Digits read: their value, and the place after them. A number over 4294967295 has any value over it.
+#[derive(Clone, Copy)]
 pub struct Numeral {
     pub value: u64,
     pub at: usize,
 }
 
 // Minuses read: how many, and the place after them and the spaces that follow.
+#[derive(Clone, Copy)]
 pub struct Minuses {
     pub count: usize,
     pub at: usize,
 }
 
 // The sign that goes on with a part: its opcode, and the place after it and the spaces that follow.
+#[derive(Clone, Copy)]
 pub enum Follow {
     Nothing,
     Sign(u8, usize),
 }
 
 pub fn is_digit(c: u8) -> bool
-    ensures { λ r. ⌜ r ≡ isDigit c ⌝ }
+    ensures { result ≡ is_digit c }
 {
     (48 <= c) & (c <= 57)
 }
 
 // The first place from `at` on that holds no space.
 pub fn skip(s: &[u8], at: usize) -> usize
-    requires { ⌜ at ≤ length (now s) ⌝ }
-    ensures { λ r. ⌜ Skipped (now (s .entry)) at r ⌝ }
+    requires { at ≤ length s.now }
+    ensures { Skipped s.now at result }
 {
     let mut i = at;
     while i < s.len() {
@@ -46,15 +46,15 @@ pub fn skip(s: &[u8], at: usize) -> usize
 }
 
 pub fn wide(x: u8) -> u64
-    ensures { λ r. ⌜ r ≡ x ⌝ }
+    ensures { result ≡ x }
 {
     x as u64
 }
 
 // One digit more; a value that is too large stays.
 fn grown(v: u64, c: u8) -> u64
-    requires { ⌜ (v < 42949672960) × (isDigit c ≡ true) ⌝ }
-    ensures { λ r. ⌜ Grown v c r ⌝ }
+    requires { (v < 42949672960) × (is_digit c ≡ true) }
+    ensures { Grown v c result }
 {
     if 4294967295 < v {
         return v;
@@ -64,8 +64,8 @@ fn grown(v: u64, c: u8) -> u64
 
 // The first place from `at` on that holds no zero; `at` itself after a first digit that is not zero.
 fn past_zeros(s: &[u8], at: usize, first: u64) -> usize
-    requires { ⌜ at ≤ length (now s) ⌝ }
-    ensures { λ r. ⌜ PastZeros (now (s .entry)) at first r ⌝ }
+    requires { at ≤ length s.now }
+    ensures { PastZeros s.now at first result }
 {
     if first != 0 {
         return at;
@@ -82,8 +82,8 @@ fn past_zeros(s: &[u8], at: usize, first: u64) -> usize
 
 // The digits from `at` on, after a first one of value `first`.
 pub fn digits(s: &[u8], at: usize, first: u64) -> Numeral
-    requires { ⌜ (at ≤ length (now s)) × (first < 10) ⌝ }
-    ensures { λ r. ⌜ Counted (now (s .entry)) at first (r .value) (r .at) ⌝ }
+    requires { (at ≤ length s.now) × (first < 10) }
+    ensures { Counted s.now at first result.value result.at }
 {
     let mut v = first;
     let mut i = past_zeros(s, at, first);
@@ -100,7 +100,7 @@ pub fn digits(s: &[u8], at: usize, first: u64) -> Numeral
 
 // The parameter that a byte names; 3 where it names none.
 pub fn name_of(c: u8) -> u32
-    ensures { λ r. ⌜ r ≡ nameOf c ⌝ }
+    ensures { result ≡ name_of c }
 {
     match c {
         114 => 0,
@@ -112,8 +112,8 @@ pub fn name_of(c: u8) -> u32
 
 // The minuses from `at` on, with spaces between.
 pub fn skip_minuses(s: &[u8], at: usize) -> Minuses
-    requires { ⌜ at ≤ length (now s) ⌝ }
-    ensures { λ r. ⌜ AfterMinuses (now (s .entry)) at (r .count) (r .at) ⌝ }
+    requires { at ≤ length s.now }
+    ensures { AfterMinuses s.now at result.count result.at }
 {
     let mut n = 0;
     let mut i = at;
@@ -128,8 +128,8 @@ pub fn skip_minuses(s: &[u8], at: usize) -> Minuses
 }
 
 pub fn product_sign(s: &[u8], at: usize) -> Follow
-    requires { ⌜ at ≤ length (now s) ⌝ }
-    ensures { λ r. ⌜ ProductFollow (now (s .entry)) at r ⌝ }
+    requires { at ≤ length s.now }
+    ensures { ProductFollow s.now at result }
 {
     if s.len() <= at {
         return Follow::Nothing;
@@ -145,8 +145,8 @@ pub fn product_sign(s: &[u8], at: usize) -> Follow
 }
 
 pub fn sum_sign(s: &[u8], at: usize) -> Follow
-    requires { ⌜ at ≤ length (now s) ⌝ }
-    ensures { λ r. ⌜ SumFollow (now (s .entry)) at r ⌝ }
+    requires { at ≤ length s.now }
+    ensures { SumFollow s.now at result }
 {
     if s.len() <= at {
         return Follow::Nothing;
@@ -163,8 +163,8 @@ pub fn sum_sign(s: &[u8], at: usize) -> Follow
 
 // The closing bracket; it has no opcode.
 pub fn close_sign(s: &[u8], at: usize) -> Follow
-    requires { ⌜ at ≤ length (now s) ⌝ }
-    ensures { λ r. ⌜ CloseFollow (now (s .entry)) at r ⌝ }
+    requires { at ≤ length s.now }
+    ensures { CloseFollow s.now at result }
 {
     if s.len() <= at {
         return Follow::Nothing;

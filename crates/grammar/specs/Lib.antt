@@ -8,5 +8,3 @@ pub mod Coded
 pub mod Evaluated
 pub mod Typed
 pub mod Needed
-pub mod Held
-pub mod Compiling

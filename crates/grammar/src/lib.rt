@@ -1,1 +1,2 @@
-// The grammar of formula lines and what is proved of it: all in specs/.
+// The grammar of formula lines and what is proved of it: in specs/ and proofs/.
+#![tactic(auto)]

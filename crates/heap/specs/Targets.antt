@@ -1,42 +1,37 @@
 -- What an address of the heap is to, by the module's structure records.
-use Prim.Native.Nat.{ℕ, _+_, _*_, _-_, _≤_, _<_}
-use mathlib.Core.Path.{_≡_}
-use mathlib.Core.Bool.{cond}
-use mathlib.Core.Option.{Option, none, some}
-use mathlib.Core.List.{List}
-use lib.ListN.{length}
-use lib.Dec.{eqb}
-use Rattle·rules.specs.declared.Num.{Num}
-use Rattle·rules.specs.Bytes.{maybe, byte}
-use Rattle·rules.specs.Instructions.{numOf, numKind}
-use Rattle·rules.specs.Tables.{Module, structureAt, fieldOf, fieldsFrom}
-use Rattle·rules.specs.Stack.{slot}
-use Rattle·rules.specs.Heap.{Shape, single, fields, shapeOf, serialIn, offsetIn, inHeap, nowhere, entire, this}
-use Rattle·rules.specs.Heap as rules
-use Rattle·heap·specs.specs.declared.Target.{Target}
-use Rattle·heap·specs.specs.declared.Target.the-variants.{Lost, Whole, Cell}
-use Rattle·heap·specs.specs.Blocks.{cellIn, entryAt, fieldsIn, widthIn}
+use Rattle.std.specs.Prelude.{ℕ, ◌+◌, ◌-◌, ◌<◌, ◌≡◌, cond, List, length, eqb}
+use Rattle.std.proofs.Math.Option.{Option, none, some}
+use Rattle.rules.specs.declared.Num.{Num}
+use Rattle.rules.specs.Bytes.{maybe, byte}
+use Rattle.rules.specs.Instructions.{num_of, num_kind}
+use Rattle.rules.specs.Tables.{Module, structure_at, field_of, fields_from}
+use Rattle.rules.specs.Stack.{slot}
+use Rattle.rules.specs.Heap.{Shape, single, fields, shape_of, serial_in, offset_in, in_heap, nowhere, entire, this}
+use Rattle.rules.specs.Heap as rules
+use Rattle.heap.specs.declared.Target.{Target}
+use Rattle.heap.specs.declared.Target.TheVariants.{Lost, Whole, Cell}
+use Rattle.heap.specs.Blocks.{cell_in, entry_at, fields_in, width_in}
 
 -- the shape of a type number in the records d
-unfoldable pub shapeIn : List ℕ → ℕ → Option Shape
-shapeIn d n =
-    maybe (numOf n) (cond (eqb (fieldsIn d n) 0) none (some (fields (fieldsFrom d (structureAt (n - 10) + 1) (fieldsIn d n))))) (λ τ. some (single τ))
+unfoldable pub shape_in : List ℕ → ℕ → Option Shape
+shape_in d n =
+    maybe (num_of n) (cond (eqb (fields_in d n) 0) none (some (fields (fields_from d (structure_at (n - 10) + 1) (fields_in d n))))) (λ τ. some (single τ))
 
 -- d holds the module's structures
 abbrev pub Shapes : Module → List ℕ → Type 0
-Shapes m d = (n : ℕ) → shapeOf m n ≡ shapeIn d n
+Shapes m d = (n : ℕ) → shape_of m n ≡ shape_in d n
 
 -- their fields are numbers
 abbrev pub Plain : List ℕ → Type 0
-Plain d = (i o : ℕ) → o < byte d (structureAt i) → numKind (fieldOf (byte d (structureAt i + 1 + o))) ≡ byte d (structureAt i + 1 + o)
+Plain d = (i o : ℕ) → o < byte d (structure_at i) → num_kind (field_of (byte d (structure_at i + 1 + o))) ≡ byte d (structure_at i + 1 + o)
 
 -- x, a whole structure of f fields: the address a is its block's
 pub record WholeAt (x : rules.Target) (a f : ℕ) : Type 0 where
   pub fields : List Num
-  pub is : x ≡ entire (serialIn a) fields
+  pub is : x ≡ entire (serial_in a) fields
   pub count : length fields ≡ f
   pub few : f < 256
-  pub block : offsetIn a ≡ 0
+  pub block : offset_in a ≡ 0
 
 -- x, a number of this type in cell c, which is cell o of the live block of entry i
 pub record CellAt (x : rules.Target) (d p t : List ℕ) (n a kind c : ℕ) : Type 0 where
@@ -44,11 +39,11 @@ pub record CellAt (x : rules.Target) (d p t : List ℕ) (n a kind c : ℕ) : Typ
   pub offset : ℕ
   pub number : Num
   pub live : entry < n
-  pub inside : offset < widthIn d (entryAt t entry .listed)
-  pub serial : entryAt t entry .serial ≡ serialIn a
-  pub at : c ≡ entryAt t entry .first + offset
-  pub type : numKind number ≡ kind
-  pub is : x ≡ this (inHeap (serialIn a) offset) (slot kind (cellIn p c))
+  pub inside : offset < width_in d (entry_at t entry).listed
+  pub serial : (entry_at t entry).serial ≡ serial_in a
+  pub at : c ≡ (entry_at t entry).first + offset
+  pub type : num_kind number ≡ kind
+  pub is : x ≡ this (in_heap (serial_in a) offset) (slot kind (cell_in p c))
 
 -- x is no live thing, a whole structure or a number
 abbrev pub Aims : rules.Target → List ℕ → List ℕ → List ℕ → ℕ → ℕ → Target → Type 0

@@ -1,28 +1,17 @@
 // Blocks: what `delete` and `new` do.
-ghost use mathlib.Core.Path.{_≡_};
-ghost use mathlib.Core.Logic.{_⊎_};
-ghost use mathlib.Core.List.{List};
-ghost use Prim.Native.Nat.{ℕ, _+_, _*_, _<_, _≤_};
-ghost use lib.ListN.{length};
-ghost use Rattle·rules.specs.Heap.{having, without, emptyHeap};
-ghost use Rattle·heap·specs.specs.Blocks.{entryAt, sizeIn, listedAs, bare, heapOf, Sane};
-ghost use Rattle·heap·specs.specs.Changes.{EntryPut, Makes, Removed, Given};
-ghost use Rattle·rules.specs.Stack.{slotsOf};
-ghost use Rattle·heap·specs.specs.Grants.{GrantsAt, Gives, source};
-use crate::Entry;
-use crate::Found;
-use crate::Grant;
-use crate::Room;
-use crate::Shelf;
-use crate::cells;
-use crate::collect;
-use crate::entries;
-use crate::rooms;
+ghost use Rattle.std.specs.Prelude.{◌≡◌, ◌⊎◌, List, ℕ, ◌+◌, ◌*◌, ◌<◌, ◌≤◌, length};
+ghost use Rattle.rules.specs.Heap.{having, without, empty_heap};
+ghost use Rattle.heap.specs.Blocks.{entry_at, size_in, listed_as, bare, heap_of, Sane};
+ghost use Rattle.heap.specs.Changes.{EntryPut, Makes, Removed, Given};
+ghost use Rattle.rules.specs.Stack.{slots_of};
+ghost use Rattle.heap.specs.Grants.{GrantsAt, Gives, source};
+
+use crate::{Entry, Found, Grant, Room, Shelf, cells, collect, entries, rooms};
 
 // The lent bytes show an empty heap.
 pub fn start(p: &mut [u8], t: &mut [u8], size: usize)
-    requires { ⌜ (size ≤ 4096) × (size * 8 ≤ length (now p)) × (size * 24 ≤ length (now t)) ⌝ }
-    ensures { λ r. ⌜ ((d : List ℕ) → Makes size bare d (now (p .entry)) (now (t .entry)) (now (p .exit)) (now (t .exit)) (emptyHeap size)) ⌝ }
+    requires { (size ≤ 4096) × (size * 8 ≤ length p.old) × (size * 24 ≤ length t.old) }
+    ensures { (d : List ℕ) → Makes size bare d p.old t.old p.new t.new (empty_heap size) }
 {
     cells::clear(p, 0, size);
     cells::clear(t, 0, size * 3);
@@ -30,8 +19,8 @@ pub fn start(p: &mut [u8], t: &mut [u8], size: usize)
 
 // The entry of the block that `delete` of an address takes. (size and d are there to say what the heap is.)
 pub fn given(d: &[u8], p: &[u8], t: &[u8], size: usize, k: Shelf, a: u64) -> Found
-    requires { ⌜ Sane size k (now d) (now p) (now t) ⌝ }
-    ensures { λ r. ⌜ Given (heapOf size k (now (d .entry)) (now (p .entry)) (now (t .entry))) (entryAt (now (t .entry))) (k .count) a r ⌝ }
+    requires { Sane size k d.now p.now t.now }
+    ensures { Given (heap_of size k d.now p.now t.now) (entry_at t.now) k.count a result }
 {
     if a % 65536 != 0 {
         return Found::Nothing;
@@ -48,8 +37,8 @@ pub fn given(d: &[u8], p: &[u8], t: &[u8], size: usize, k: Shelf, a: u64) -> Fou
 
 // The block of entry i is freed.
 pub fn remove(d: &[u8], p: &mut [u8], t: &mut [u8], size: usize, k: Shelf, i: usize) -> Shelf
-    requires { ⌜ Sane size k (now d) (now p) (now t) × (i < k .count) ⌝ }
-    ensures { λ r. ⌜ Makes size r (now (d .entry)) (now (p .entry)) (now (t .entry)) (now (p .exit)) (now (t .exit)) (having (heapOf size k (now (d .entry)) (now (p .entry)) (now (t .entry))) (without (heapOf size k (now (d .entry)) (now (p .entry)) (now (t .entry)) .blocks) (entryAt (now (t .entry)) i .serial))) × Removed k r (now (t .entry)) (now (t .exit)) i ⌝ }
+    requires { Sane size k d.now p.old t.old × (i < k.count) }
+    ensures { Makes size result d.now p.old t.old p.new t.new (having (heap_of size k d.now p.old t.old) (without (heap_of size k d.now p.old t.old).blocks (entry_at t.old i).serial)) × Removed k result t.old t.new i }
 {
     let e = entries::entry_at(t, i);
     let n = entries::width(d, e.listed);
@@ -67,7 +56,7 @@ pub fn remove(d: &[u8], p: &mut [u8], t: &mut [u8], size: usize, k: Shelf, i: us
 }
 
 fn least(a: usize, b: usize) -> usize
-    ensures { λ r. ⌜ (r ≤ a) × (r ≤ b) ⌝ }
+    ensures { (result ≤ a) × (result ≤ b) }
 {
     if a < b {
         return a;
@@ -77,7 +66,7 @@ fn least(a: usize, b: usize) -> usize
 
 // top, where a block from first to end is gone.
 fn lowered(top: usize, first: usize, end: usize) -> usize
-    ensures { λ r. ⌜ ((r ≡ top) ⊎ ((r ≡ first) × (end ≡ top))) ⌝ }
+    ensures { (result ≡ top) ⊎ ((result ≡ first) × (end ≡ top)) }
 {
     if end == top {
         return first;
@@ -100,9 +89,9 @@ pub fn new(
     st: &[u8],
     h: usize,
 ) -> Grant
-    requires { ⌜ Sane size k (now d) (now p) (now t) × (1 ≤ cells) × (cells < 256) × (cells ≡ sizeIn (now d) n) ⌝ }
-    requires { ⌜ (h * 8 ≤ length (now sp)) × (h ≤ length (now st)) ⌝ }
-    ensures { λ r. ⌜ Gives size (now (d .entry)) (now (p .entry)) (now (t .entry)) (now (p .exit)) (now (t .exit)) (source managed cells (slotsOf (now (sp .entry)) (now (st .entry)) h) (heapOf size k (now (d .entry)) (now (p .entry)) (now (t .entry)))) managed n r ⌝ }
+    requires sane { Sane size k d.now p.old t.old × (1 ≤ cells) × (cells < 256) × (cells ≡ size_in d.now n) }
+    requires h_in_bounds { (h * 8 ≤ length sp.now) × (h ≤ length st.now) }
+    ensures { Gives size d.now p.old t.old p.new t.new (source managed cells (slots_of sp.now st.now h) (heap_of size k d.now p.old t.old)) managed n result }
 {
     let q = collect::freed(managed, d, p, t, size, k, sp, st, h);
     let room = rooms::place(d, t, size, q, cells);
@@ -122,8 +111,8 @@ pub fn grant(
     managed: bool,
     n: u64,
 ) -> Grant
-    requires { ⌜ (k .count * 24 + 24 ≤ length (now t)) × (n < 64) ⌝ }
-    ensures { λ r. ⌜ GrantsAt k c low top (now (t .entry)) (now (t .exit)) managed n r ⌝ }
+    requires { (k.count * 24 + 24 ≤ length t.old) × (n < 64) }
+    ensures { GrantsAt k c low top t.old t.new managed n result }
 {
     if 281474976710655 <= k.next {
         return null_grant(k);
@@ -136,7 +125,7 @@ pub fn grant(
 }
 
 pub fn null_grant(k: Shelf) -> Grant
-    ensures { λ r. ⌜ r ≡ record { address = 18446744073709551615; shelf = k } ⌝ }
+    ensures { result ≡ record { address = 18446744073709551615; shelf = k } }
 {
     Grant {
         address: 18446744073709551615,
@@ -146,8 +135,8 @@ pub fn null_grant(k: Shelf) -> Grant
 
 // A type number as the table lists it.
 fn listed(managed: bool, n: u64) -> u64
-    requires { ⌜ n < 64 ⌝ }
-    ensures { λ r. ⌜ r ≡ listedAs managed n ⌝ }
+    requires { n < 64 }
+    ensures { result ≡ listed_as managed n }
 {
     if managed {
         return 64 + n;
@@ -157,8 +146,8 @@ fn listed(managed: bool, n: u64) -> u64
 
 // The entry of a block from cell c on.
 fn give(t: &mut [u8], k: Shelf, c: usize, low: usize, top: usize, listed: u64) -> Shelf
-    requires { ⌜ (k .count * 24 + 24 ≤ length (now t)) × (k .next < 281474976710655) ⌝ }
-    ensures { λ r. ⌜ EntryPut (now (t .exit)) (now (t .entry)) (k .count) (record { serial = k .next; first = c; listed = listed }) × (r ≡ record { count = k .count + 1; next = k .next + 1; low = low; top = top }) ⌝ }
+    requires { (k.count * 24 + 24 ≤ length t.old) × (k.next < 281474976710655) }
+    ensures { EntryPut t.new t.old k.count (record { serial = k.next; first = c; listed = listed }) × (result ≡ record { count = k.count + 1; next = k.next + 1; low = low; top = top }) }
 {
     let at = k.count;
     let next = k.next;

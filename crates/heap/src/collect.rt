@@ -1,24 +1,16 @@
 // What `gcnew` does before it does as `new`. The serials that type 8 slots hold are looked up once each, and their entries marked;
 // managed blocks whose entry is not marked are freed, the last first.
-ghost use mathlib.Core.Path.{_≡_};
-ghost use mathlib.Core.Bool.{true};
-ghost use mathlib.Core.List.{List};
-ghost use Prim.Native.Nat.{ℕ, _+_, _*_, _<_, _≤_};
-ghost use lib.ListN.{length, getD};
-ghost use Rattle·rules.specs.Stack.{slotsOf};
-ghost use Rattle·rules.specs.Heap.{having, swept};
-ghost use Rattle·heap·specs.specs.Blocks.{entryAt, sizeIn, heapOf, Rising, Sane};
-ghost use Rattle·heap·specs.specs.Changes.{Makes};
-ghost use Rattle·heap·specs.specs.Holds.{Noted, Holding};
-ghost use Rattle·heap·specs.specs.Rooms.{Finds};
-ghost use Rattle·heap·specs.specs.Grants.{sweptFor, packedFor, Gives};
-ghost use Rattle·heap·specs.specs.declared.Room.the-variants.{Nowhere};
-use crate::Found;
-use crate::Grant;
-use crate::Shelf;
-use crate::blocks;
-use crate::entries;
-use crate::pack;
+ghost use Rattle.std.specs.Prelude.{◌≡◌, true, List, ℕ, ◌+◌, ◌*◌, ◌<◌, ◌≤◌, length, get_or};
+ghost use Rattle.rules.specs.Stack.{slots_of};
+ghost use Rattle.rules.specs.Heap.{having, swept};
+ghost use Rattle.heap.specs.Blocks.{entry_at, size_in, heap_of, Rising, Sane};
+ghost use Rattle.heap.specs.Changes.{Makes};
+ghost use Rattle.heap.specs.Holds.{Noted, Holding};
+ghost use Rattle.heap.specs.Rooms.{Finds};
+ghost use Rattle.heap.specs.Grants.{swept_for, packed_for, Gives};
+ghost use Rattle.heap.specs.declared.Room.TheVariants.{Nowhere};
+
+use crate::{Found, Grant, Shelf, blocks, entries, pack};
 
 // The heap without its dead blocks, for `gcnew`; sp and st are the stack's payloads and types, h its height.
 pub fn freed(
@@ -32,8 +24,8 @@ pub fn freed(
     st: &[u8],
     h: usize,
 ) -> Shelf
-    requires { ⌜ Sane size k (now d) (now p) (now t) × (h * 8 ≤ length (now sp)) × (h ≤ length (now st)) ⌝ }
-    ensures { λ r. ⌜ Makes size r (now (d .entry)) (now (p .entry)) (now (t .entry)) (now (p .exit)) (now (t .exit)) (sweptFor managed (slotsOf (now (sp .entry)) (now (st .entry)) h) (heapOf size k (now (d .entry)) (now (p .entry)) (now (t .entry)))) ⌝ }
+    requires { Sane size k d.now p.old t.old × (h * 8 ≤ length sp.now) × (h ≤ length st.now) }
+    ensures { Makes size result d.now p.old t.old p.new t.new (swept_for managed (slots_of sp.now st.now h) (heap_of size k d.now p.old t.old)) }
 {
     if managed {
         return sweep(d, p, t, size, k, sp, st, h);
@@ -52,9 +44,9 @@ pub fn squeezed(
     n: u64,
     cells: usize,
 ) -> Grant
-    requires { ⌜ Sane size k (now d) (now p) (now t) × Finds size k (now d) (now p) (now t) cells Nowhere ⌝ }
-    requires { ⌜ (1 ≤ cells) × (cells < 256) × (cells ≡ sizeIn (now d) n) ⌝ }
-    ensures { λ r. ⌜ Gives size (now (d .entry)) (now (p .entry)) (now (t .entry)) (now (p .exit)) (now (t .exit)) (packedFor managed (heapOf size k (now (d .entry)) (now (p .entry)) (now (t .entry)))) managed n r ⌝ }
+    requires sane { Sane size k d.now p.old t.old × Finds size k d.now p.old t.old cells Nowhere }
+    requires le_cells { (1 ≤ cells) × (cells < 256) × (cells ≡ size_in d.now n) }
+    ensures { Gives size d.now p.old t.old p.new t.new (packed_for managed (heap_of size k d.now p.old t.old)) managed n result }
 {
     if managed {
         let q = pack::pack(d, p, t, size, k);
@@ -78,8 +70,8 @@ fn sweep(
     st: &[u8],
     h: usize,
 ) -> Shelf
-    requires { ⌜ Sane size k (now d) (now p) (now t) × (h * 8 ≤ length (now sp)) × (h ≤ length (now st)) ⌝ }
-    ensures { λ r. ⌜ Makes size r (now (d .entry)) (now (p .entry)) (now (t .entry)) (now (p .exit)) (now (t .exit)) (sweptFor true (slotsOf (now (sp .entry)) (now (st .entry)) h) (heapOf size k (now (d .entry)) (now (p .entry)) (now (t .entry)))) ⌝ }
+    requires { Sane size k d.now p.old t.old × (h * 8 ≤ length sp.now) × (h ≤ length st.now) }
+    ensures { Makes size result d.now p.old t.old p.new t.new (swept_for true (slots_of sp.now st.now h) (heap_of size k d.now p.old t.old)) }
 {
     if k.count <= 64 {
         let mut few = [0u8; 64];
@@ -101,18 +93,18 @@ fn sweep_by(
     h: usize,
     u: &mut [u8],
 ) -> Shelf
-    requires { ⌜ Sane size k (now d) (now p) (now t) × (h * 8 ≤ length (now sp)) × (h ≤ length (now st)) ⌝ }
-    requires { ⌜ (k .count ≤ length (now u)) × ((x : ℕ) → getD (now u) x 0 ≡ 0) ⌝ }
-    ensures { λ r. ⌜ Makes size r (now (d .entry)) (now (p .entry)) (now (t .entry)) (now (p .exit)) (now (t .exit)) (sweptFor true (slotsOf (now (sp .entry)) (now (st .entry)) h) (heapOf size k (now (d .entry)) (now (p .entry)) (now (t .entry)))) ⌝ }
+    requires sane { Sane size k d.now p.old t.old × (h * 8 ≤ length sp.now) × (h ≤ length st.now) }
+    requires count_in_bounds { (k.count ≤ length u.old) × ((x : ℕ) → get_or u.old x 0 ≡ 0) }
+    ensures { Makes size result d.now p.old t.old p.new t.new (swept_for true (slots_of sp.now st.now h) (heap_of size k d.now p.old t.old)) }
 {
     hold(t, k.count, k.next, sp, st, h, u);
     free_dead(d, p, t, size, k, sp, st, h, u)
 }
 
 fn hold(t: &[u8], count: usize, next: u64, sp: &[u8], st: &[u8], h: usize, u: &mut [u8])
-    requires { ⌜ (count * 24 ≤ length (now t)) × (count ≤ 4096) × Rising (entryAt (now t)) count next × (h * 8 ≤ length (now sp)) × (h ≤ length (now st)) ⌝ }
-    requires { ⌜ (count ≤ length (now u)) × ((x : ℕ) → getD (now u) x 0 ≡ 0) ⌝ }
-    ensures { λ r. ⌜ Holding (now (u .exit)) (entryAt (now (t .entry))) count (slotsOf (now (sp .entry)) (now (st .entry)) h) ⌝ }
+    requires count_in_bounds { (count * 24 ≤ length t.now) × (count ≤ 4096) × Rising (entry_at t.now) count next × (h * 8 ≤ length sp.now) × (h ≤ length st.now) }
+    requires count_in_bounds_2 { (count ≤ length u.old) × ((x : ℕ) → get_or u.old x 0 ≡ 0) }
+    ensures { Holding u.new (entry_at t.now) count (slots_of sp.now st.now h) }
 {
     let mut i = 0;
     while i < h {
@@ -128,8 +120,8 @@ fn hold(t: &[u8], count: usize, next: u64, sp: &[u8], st: &[u8], h: usize, u: &m
 
 // Marks the entry of serial s.
 fn note(t: &[u8], count: usize, next: u64, s: u64, u: &mut [u8])
-    requires { ⌜ (count * 24 ≤ length (now t)) × (count ≤ 4096) × Rising (entryAt (now t)) count next × (count ≤ length (now u)) ⌝ }
-    ensures { λ r. ⌜ Noted (now (u .exit)) (now (u .entry)) (entryAt (now (t .entry))) count s ⌝ }
+    requires { (count * 24 ≤ length t.now) × (count ≤ 4096) × Rising (entry_at t.now) count next × (count ≤ length u.old) }
+    ensures { Noted u.new u.old (entry_at t.now) count s }
 {
     let Found::At(j) = entries::find(t, count, next, s) else {
         return;
@@ -149,8 +141,8 @@ fn free_dead(
     h: usize,
     u: &[u8],
 ) -> Shelf
-    requires { ⌜ Sane size k (now d) (now p) (now t) × Holding (now u) (entryAt (now t)) (k .count) (slotsOf (now sp) (now st) h) ⌝ }
-    ensures { λ r. ⌜ Makes size r (now (d .entry)) (now (p .entry)) (now (t .entry)) (now (p .exit)) (now (t .exit)) (having (heapOf size k (now (d .entry)) (now (p .entry)) (now (t .entry))) (swept (slotsOf (now (sp .entry)) (now (st .entry)) h) (heapOf size k (now (d .entry)) (now (p .entry)) (now (t .entry)) .blocks))) ⌝ }
+    requires { Sane size k d.now p.old t.old × Holding u.now (entry_at t.old) k.count (slots_of sp.now st.now h) }
+    ensures { Makes size result d.now p.old t.old p.new t.new (having (heap_of size k d.now p.old t.old) (swept (slots_of sp.now st.now h) (heap_of size k d.now p.old t.old).blocks)) }
 {
     let mut q = k;
     let mut i = k.count;

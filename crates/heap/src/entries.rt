@@ -1,15 +1,13 @@
 // The table of blocks: an entry read and written, the cells of a type, the entry of a serial, an entry taken out.
-ghost use mathlib.Core.Path.{_≡_};
-ghost use Prim.Native.Nat.{_+_, _*_, _-_, _<_, _≤_};
-ghost use lib.ListN.{length};
-ghost use Rattle·heap·specs.specs.Blocks.{entryAt, sizeIn, widthIn, Rising, Finds};
-ghost use Rattle·heap·specs.specs.Changes.{EntryPut, Closed};
-use crate::Entry;
-use crate::Found;
+ghost use Rattle.std.specs.Prelude.{◌≡◌, ◌+◌, ◌*◌, ◌-◌, ◌<◌, ◌≤◌, length};
+ghost use Rattle.heap.specs.Blocks.{entry_at, size_in, width_in, Rising, Finds};
+ghost use Rattle.heap.specs.Changes.{EntryPut, Closed};
+
+use crate::{Entry, Found};
 
 pub fn entry_at(t: &[u8], i: usize) -> Entry
-    requires { ⌜ i * 24 + 24 ≤ length (now t) ⌝ }
-    ensures { λ r. ⌜ r ≡ entryAt (now (t .entry)) i ⌝ }
+    requires { i * 24 + 24 ≤ length t.now }
+    ensures { result ≡ entry_at t.now i }
 {
     let serial = memory::load64(t, i * 24);
     let first = memory::load64(t, i * 24 + 8);
@@ -22,8 +20,8 @@ pub fn entry_at(t: &[u8], i: usize) -> Entry
 }
 
 pub fn put_entry(t: &mut [u8], i: usize, e: Entry)
-    requires { ⌜ i * 24 + 24 ≤ length (now t) ⌝ }
-    ensures { λ r. ⌜ EntryPut (now (t .exit)) (now (t .entry)) i e ⌝ }
+    requires { i * 24 + 24 ≤ length t.old }
+    ensures { EntryPut t.new t.old i e }
 {
     memory::store64(t, i * 24, e.serial);
     memory::store64(t, i * 24 + 8, e.first);
@@ -32,14 +30,14 @@ pub fn put_entry(t: &mut [u8], i: usize, e: Entry)
 
 // The cells of a block of a listed type, 0 where there is no such type; d holds the module's structure records.
 pub fn width(d: &[u8], listed: u64) -> usize
-    ensures { λ r. ⌜ (r ≡ widthIn (now (d .entry)) listed) × (r < 256) ⌝ }
+    ensures { (result ≡ width_in d.now listed) × (result < 256) }
 {
     size_of(d, listed % 64)
 }
 
 // The same of a type number.
 pub fn size_of(d: &[u8], n: u64) -> usize
-    ensures { λ r. ⌜ (r ≡ sizeIn (now (d .entry)) n) × (r < 256) ⌝ }
+    ensures { (result ≡ size_in d.now n) × (result < 256) }
 {
     if n == 3 {
         return 1;
@@ -62,8 +60,8 @@ pub fn size_of(d: &[u8], n: u64) -> usize
 // The entry of serial s. Serials are all different, so it stands below s, and fewer than next - s entries stand above it:
 // where nothing was freed, one look finds it.
 pub fn find(t: &[u8], count: usize, next: u64, s: u64) -> Found
-    requires { ⌜ (count * 24 ≤ length (now t)) × Rising (entryAt (now t)) count next ⌝ }
-    ensures { λ r. ⌜ Finds (entryAt (now (t .entry))) count s r ⌝ }
+    requires { (count * 24 ≤ length t.now) × Rising (entry_at t.now) count next }
+    ensures { Finds (entry_at t.now) count s result }
 {
     if next <= s {
         return Found::Nothing;
@@ -87,7 +85,7 @@ pub fn find(t: &[u8], count: usize, next: u64, s: u64) -> Found
 
 // count less n, or 0
 fn above(count: usize, n: u64) -> usize
-    ensures { λ r. ⌜ r ≡ count - n ⌝ }
+    ensures { result ≡ count - n }
 {
     if n < count as u64 {
         return count - n as usize;
@@ -97,7 +95,7 @@ fn above(count: usize, n: u64) -> usize
 
 // the smaller of both
 fn below(count: usize, s: u64) -> usize
-    ensures { λ r. ⌜ r ≡ count - (count - s) ⌝ }
+    ensures { result ≡ count - (count - s) }
 {
     if s < count as u64 {
         return s as usize;
@@ -107,8 +105,8 @@ fn below(count: usize, s: u64) -> usize
 
 // Entry i is taken out; last is the number of the last one.
 pub fn close(t: &mut [u8], i: usize, last: usize)
-    requires { ⌜ (i ≤ last) × (last * 24 + 24 ≤ length (now t)) ⌝ }
-    ensures { λ r. ⌜ Closed (now (t .exit)) (now (t .entry)) i last ⌝ }
+    requires { (i ≤ last) × (last * 24 + 24 ≤ length t.old) }
+    ensures { Closed t.new t.old i last }
 {
     let mut j = i;
     while j < last {

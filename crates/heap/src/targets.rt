@@ -1,19 +1,16 @@
 // What an address of the heap is to.
-ghost use mathlib.Core.List.{List};
-ghost use Prim.Native.Nat.{ℕ, _≤_};
-ghost use Rattle·rules.specs.declared.Slot.{Slot};
-ghost use Rattle·rules.specs.Tables.{Module};
-ghost use Rattle·rules.specs.Heap.{targetOf};
-ghost use Rattle·heap·specs.specs.Blocks.{heapOf, Sane};
-ghost use Rattle·heap·specs.specs.Targets.{Shapes, Plain, Aims};
-use crate::Found;
-use crate::Shelf;
-use crate::Target;
-use crate::entries;
+ghost use Rattle.std.specs.Prelude.{List, ℕ, ◌≤◌};
+ghost use Rattle.rules.specs.declared.Slot.{Slot};
+ghost use Rattle.rules.specs.Tables.{Module};
+ghost use Rattle.rules.specs.Heap.{target_of};
+ghost use Rattle.heap.specs.Blocks.{heap_of, Sane};
+ghost use Rattle.heap.specs.Targets.{Shapes, Plain, Aims};
+
+use crate::{Found, Shelf, Target, entries};
 
 pub fn target(d: &[u8], t: &[u8], size: usize, k: Shelf, a: u64) -> Target
-    requires { ⌜ ((p : List ℕ) × Sane size k (now d) p (now t)) × Plain (now d) × (65536 ≤ a) ⌝ }
-    ensures { λ r. ⌜ ((p : List ℕ) → Sane size k (now (d .entry)) p (now (t .entry)) → (m : Module) → Shapes m (now (d .entry)) → (st : List Slot) → Aims (targetOf m (heapOf size k (now (d .entry)) p (now (t .entry))) st a) (now (d .entry)) p (now (t .entry)) (k .count) a r) ⌝ }
+    requires { ((p : List ℕ) × Sane size k d.now p t.now) × Plain d.now × (65536 ≤ a) }
+    ensures { (p : List ℕ) → Sane size k d.now p t.now → (m : Module) → Shapes m d.now → (st : List Slot) → Aims (target_of m (heap_of size k d.now p t.now) st a) d.now p t.now k.count a result }
 {
     let Found::At(i) = entries::find(t, k.count, k.next, a / 65536) else {
         return Target::Lost;

@@ -1,21 +1,17 @@
 // Code of edition 1 in keys, so that one machine and one checker serve all editions.
-ghost use mathlib.Core.Path.{_≡_};
-ghost use Prim.Native.Nat.{_+_, _≤_};
-ghost use mathlib.Core.Bool.{cond};
-ghost use lib.ListN.{length};
-ghost use lib.Dec.{eqb};
-ghost use Rattle·rules.specs.Instructions.{edition1, opcodeOf};
-ghost use Rattle·rules.specs.Tables.{dueAfter};
-ghost use Rattle·soundness.specs.Numbering.{keyOf};
-ghost use Rattle·soundness.specs.Translated.{InKeys};
-ghost use Rattle·keys·specs.specs.Keys.{withWord};
+ghost use Rattle.std.specs.Prelude.{◌≡◌, ◌+◌, ◌≤◌, cond, length, eqb};
+ghost use Rattle.rules.specs.Instructions.{edition1, opcode_of};
+ghost use Rattle.rules.specs.Tables.{due_after};
+ghost use Rattle.soundness.specs.Numbering.{key_of};
+ghost use Rattle.soundness.specs.Translated.{InKeys};
+ghost use Rattle.keys.specs.Keys.{with_word};
 
 // A bit for each opcode of edition 1 that a word follows: 01, 03, 04, 1A to 21 hex.
 const WIDE: u64 = 0x0003_fc00_001a;
 
 // The key of an opcode; 0 for no opcode.
 fn key(b: u8) -> u8
-    ensures { λ r. ⌜ r ≡ keyOf 1 b ⌝ }
+    ensures { result ≡ key_of 1 b }
 {
     if b < 0x05 {
         return b;
@@ -40,7 +36,7 @@ fn key(b: u8) -> u8
 
 // The operand bytes due behind a byte, where `due` were due before it.
 fn due_after(due: u32, b: u8) -> u32
-    ensures { λ r. ⌜ r ≡ dueAfter due (opcodeOf edition1 b) ⌝ }
+    ensures { result ≡ due_after due (opcode_of edition1 b) }
 {
     if 0 < due {
         return due - 1;
@@ -57,7 +53,7 @@ fn due_after(due: u32, b: u8) -> u32
 
 // An opcode's key, an operand byte as it is.
 fn in_keys(due: u32, b: u8) -> u8
-    ensures { λ r. ⌜ r ≡ cond (eqb due 0) (keyOf 1 b) b ⌝ }
+    ensures { result ≡ cond (eqb due 0) (key_of 1 b) b }
 {
     if due == 0 {
         return key(b);
@@ -67,8 +63,8 @@ fn in_keys(due: u32, b: u8) -> u8
 
 // Four bytes from p on, as they are. All are read before one is written: so the compiler copies them at once.
 fn copy_word(code: &[u8], own: &mut [u8], p: usize)
-    requires { ⌜ (p + 4 ≤ length (now code)) × (p + 4 ≤ length (now own)) ⌝ }
-    ensures { λ r. ⌜ now (own .exit) ≡ withWord (now (code .entry)) (now (own .entry)) p ⌝ }
+    requires { (p + 4 ≤ length code.now) × (p + 4 ≤ length own.old) }
+    ensures { own.new ≡ with_word code.now own.old p }
 {
     let w = code[p];
     let x = code[p + 1];
@@ -82,8 +78,8 @@ fn copy_word(code: &[u8], own: &mut [u8], p: usize)
 
 // Puts the code in keys into lent bytes: by instruction where a whole one is left for certain, then byte by byte.
 pub fn translate(code: &[u8], own: &mut [u8])
-    requires { ⌜ length (now code) ≤ length (now own) ⌝ }
-    ensures { λ r. ⌜ InKeys 1 (now (code .entry)) (now (own .exit)) ⌝ }
+    requires { length code.now ≤ length own.old }
+    ensures { InKeys 1 code.now own.new }
 {
     let mut p = 0;
     while p + 5 <= code.len() {

@@ -1,13 +1,14 @@
 // Decoding: the key of the instruction at a place of the code, and the word behind it.
+#![tactic(auto)]
+
 pub mod edition1;
 
-ghost use mathlib.Core.Path.{_≡_};
-ghost use Prim.Native.Nat.{_+_, _≤_};
-ghost use lib.ListN.{length};
-ghost use Rattle·rules.specs.Bytes.{word};
-ghost use Rattle·keys·specs.specs.Keys.{decoded};
+ghost use Rattle.std.specs.Prelude.{◌≡◌, ◌+◌, ◌≤◌, length};
+ghost use Rattle.rules.specs.Bytes.{word};
+ghost use Rattle.keys.specs.Keys.{decoded};
 
 // A decoded instruction: its key; or the end of its body.
+#[derive(Clone, Copy)]
 pub enum Decoded {
     Instruction(u8),
     End,
@@ -15,8 +16,8 @@ pub enum Decoded {
 
 // The instruction at a place of a body that ends at the place `stop`. A key has six bits, so that a match on all of them has no default.
 pub fn decode(code: &[u8], place: usize, stop: usize) -> Decoded
-    requires { ⌜ stop ≤ length (now code) ⌝ }
-    ensures { λ r. ⌜ r ≡ decoded (now (code .entry)) place stop ⌝ }
+    requires { stop ≤ length code.now }
+    ensures { result ≡ decoded code.now place stop }
 {
     if stop <= place {
         return Decoded::End;
@@ -26,8 +27,8 @@ pub fn decode(code: &[u8], place: usize, stop: usize) -> Decoded
 
 // The word behind the key.
 pub fn operand(code: &[u8], place: usize) -> u32
-    requires { ⌜ place + 5 ≤ length (now code) ⌝ }
-    ensures { λ r. ⌜ r ≡ word 4 (now (code .entry)) (place + 1) ⌝ }
+    requires { place + 5 ≤ length code.now }
+    ensures { result ≡ word 4 code.now (place + 1) }
 {
     memory::load32(code, place + 1)
 }

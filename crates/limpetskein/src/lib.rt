@@ -1,40 +1,48 @@
-// The public library: the check of any bytes, with a record of its bodies, or of one body beside such a record, the run of any body of any bytes, the call of a function for rows, the writer of modules,
+// The public library: the check of any bytes, with a record of its bodies, or of one body beside such a record, the stack that a module needs, the run of any body of any bytes, the call of a function for rows, the writer of modules,
 // the conversions between editions 3 and 4, and the compiler of formula lines.
-ghost use Rattle·rules.specs.Tables.{tables};
-ghost use Rattle·promises.specs.Promises.{lentOf, lentHeapOf, CheckKeeps, RunKeeps};
-ghost use Rattle·rules.specs.Grammar.{StopsAt};
-ghost use Rattle·promises.specs.RecordingPromises.{RecordingKeeps, RecheckKeeps};
-ghost use Rattle·promises.specs.WritePromises.{WriteKeeps};
-ghost use Rattle·promises.specs.FormulaPromises.{FormulaKeeps};
-ghost use Rattle·promises.specs.ConvertPromises.{UpKeeps, DownKeeps};
-use rules::CheckAnswer;
-use rules::RecordingAnswer;
-use rules::RunAnswer;
-use rules::WriteAnswer;
+#![tactic(auto)]
 
-mod host;
-mod host_map;
+ghost use Rattle.rules.specs.Tables.{tables};
+ghost use Rattle.promises.specs.Promises.{lent_of, lent_heap_of, CheckKeeps, RunKeeps};
+ghost use Rattle.rules.specs.Grammar.{StopsAt};
+ghost use Rattle.promises.specs.RecordingPromises.{RecordingKeeps, RecheckKeeps};
+ghost use Rattle.promises.specs.NeedPromises.{NeedKeeps};
+ghost use Rattle.promises.specs.WritePromises.{WriteKeeps};
+ghost use Rattle.promises.specs.FormulaPromises.{FormulaKeeps};
+ghost use Rattle.promises.specs.ConvertPromises.{UpKeeps, DownKeeps};
+
+use rules::{CheckAnswer, NeedAnswer, RecordingAnswer, RunAnswer, WriteAnswer};
+
+pub mod host;
+pub mod host_map;
 pub mod map;
 
 // The check of any bytes in the lent room, of which 64 bytes a label are used.
 pub fn check(file: &[u8], room: &mut [u8]) -> CheckAnswer
-    ensures { λ r. ⌜ CheckKeeps (now (file .entry)) (now (room .entry)) r (now (room .exit)) ⌝ }
+    ensures { CheckKeeps file.now room.old result room.new }
 {
     checking::check(file, room)
 }
 
 // The check of any bytes in the lent room, which writes a record of which bodies have a typing into `beside`.
 pub fn check_recording(file: &[u8], room: &mut [u8], beside: &mut [u8]) -> RecordingAnswer
-    ensures { λ r. ⌜ RecordingKeeps (now (file .entry)) (now (room .entry)) (now (beside .entry)) r (now (room .exit)) (now (beside .exit)) ⌝ }
+    ensures { RecordingKeeps file.now room.old beside.old result room.new beside.new }
 {
     rechecking::check_recording(file, room, beside)
 }
 
 // The check of one body of any bytes, beside a record whose byte for it is set. ffffffff names the entry.
 pub fn check_body(file: &[u8], body: u32, beside: &mut [u8]) -> CheckAnswer
-    ensures { λ r. ⌜ RecheckKeeps (now (file .entry)) body (now (beside .entry)) r (now (beside .exit)) ⌝ }
+    ensures { RecheckKeeps file.now body beside.old result beside.new }
 {
     rechecking::check_body(file, body, beside)
+}
+
+// The stack that the module of any bytes needs, in the lent room: need and frames of the entry and of each function, into `report`.
+pub fn need(file: &[u8], room: &mut [u8], report: &mut [u8]) -> NeedAnswer
+    ensures { NeedKeeps file.now room.old report.old result room.new report.new }
+{
+    measuring::need(file, room, report)
 }
 
 // The run of a body of any bytes on the lent arguments, for a scan of this profile, on the lent slots and heap: cells, and entries
@@ -51,7 +59,7 @@ pub fn run(
     heap: &mut [u8],
     blocks: &mut [u8],
 ) -> RunAnswer
-    ensures { λ r. ⌜ RunKeeps (now (file .entry)) function (lentOf (now («arg_payloads» .entry)) (now («arg_types» .entry))) profile allowance (lentOf (now (payloads .entry)) (now (types .entry))) (lentHeapOf (now (heap .entry)) (now (blocks .entry))) r (lentOf (now (payloads .exit)) (now (types .exit))) (lentHeapOf (now (heap .exit)) (now (blocks .exit))) ⌝ }
+    ensures { RunKeeps file.now function (lent_of arg_payloads.now arg_types.now) profile allowance (lent_of payloads.old types.old) (lent_heap_of heap.old blocks.old) result (lent_of payloads.new types.new) (lent_heap_of heap.new blocks.new) }
 {
     running::run(
         file,
@@ -78,44 +86,37 @@ pub fn write(
     entry: usize,
     out: &mut [u8],
 ) -> WriteAnswer
-    ensures { λ r. ⌜ WriteKeeps (tables edition (now (constants .entry)) (now (functions .entry)) (now (labels .entry)) (now (structures .entry)) (now (code .entry)) entry) (now (out .entry)) r (now (out .exit)) ⌝ }
+    ensures { WriteKeeps (tables edition constants.now functions.now labels.now structures.now code.now entry) out.old result out.new }
 {
     saving::write(
-        edition,
-        constants,
-        functions,
-        labels,
-        structures,
-        code,
-        entry,
-        out,
+        edition, constants, functions, labels, structures, code, entry, out,
     )
 }
 
 // Writes the module of edition 4 of a module of edition 3, its functions for any profile, or refuses and changes nothing.
 pub fn to_edition_4(file: &[u8], out: &mut [u8]) -> WriteAnswer
-    ensures { λ r. ⌜ UpKeeps (now (file .entry)) (now (out .entry)) r (now (out .exit)) ⌝ }
+    ensures { UpKeeps file.now out.old result out.new }
 {
     converting::to_edition_4(file, out)
 }
 
 // Writes the module of edition 3 of a module of edition 4, or refuses and changes nothing.
 pub fn to_edition_3(file: &[u8], out: &mut [u8]) -> WriteAnswer
-    ensures { λ r. ⌜ DownKeeps (now (file .entry)) (now (out .entry)) r (now (out .exit)) ⌝ }
+    ensures { DownKeeps file.now out.old result out.new }
 {
     converting::to_edition_3(file, out)
 }
 
 // Compiles a formula line and writes its module into the lent output, or refuses and changes nothing.
 pub fn formula(line: &[u8], out: &mut [u8]) -> WriteAnswer
-    ensures { λ r. ⌜ FormulaKeeps (now (line .entry)) (now (out .entry)) r (now (out .exit)) ⌝ }
+    ensures { FormulaKeeps line.now out.old result out.new }
 {
     compiling::formula(line, out)
 }
 
 // The place where a formula line stops making sense: its length where it is in the grammar or ends too early.
 pub fn formula_stop(line: &[u8]) -> usize
-    ensures { λ r. ⌜ StopsAt (now (line .entry)) r ⌝ }
+    ensures { StopsAt line.now result }
 {
     compiling::formula_stop(line)
 }

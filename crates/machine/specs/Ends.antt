@@ -1,51 +1,45 @@
 -- How a run's end stands in the registers and the lent bytes.
-use Prim.Native.Nat.{ℕ, _+_, _*_, _-_, _≤_, _<_}
-use mathlib.Core.Path.{_≡_}
-use mathlib.Core.Bool.{Bool, true, false, _||_, cond}
-use mathlib.Core.Logic.{_⊎_}
-use mathlib.Core.Option.{some}
-use mathlib.Core.List.{List}
-use lib.ListN.{length, getD, drop}
-use lib.Dec.{eqb}
-use Rattle·rules.specs.declared.Instruction.{Instruction}
-use Rattle·rules.specs.Tables.{Module}
-use Rattle·rules.specs.Heap.{Heap}
-use Rattle·rules.specs.Machine.{State, outcome, keeping, run}
-use Rattle·soundness.specs.Framed.{heapless, withHeap}
-use Rattle·soundness.specs.Started.{Fit}
-use Rattle·soundness.specs.Kinds.{OfKind}
-use Rattle·state.specs.State.{memoryOf, stateOf, Ready}
-use Rattle·state.specs.declared.Registers.{Registers}
-use Rattle·machine·specs.specs.declared.Ended.{Ended}
+use Rattle.std.specs.Prelude.{ℕ, ◌+◌, ◌*◌, ◌-◌, ◌≤◌, ◌<◌, ◌≡◌, Bool, true, false, ◌||◌, cond, ◌⊎◌, List, length, get_or, drop, eqb}
+use Rattle.std.proofs.Math.Option.{some}
+use Rattle.rules.specs.declared.Instruction.{Instruction}
+use Rattle.rules.specs.Tables.{Module}
+use Rattle.rules.specs.Heap.{Heap}
+use Rattle.rules.specs.Machine.{State, outcome, keeping, run}
+use Rattle.soundness.specs.Framed.{heapless, with_heap}
+use Rattle.soundness.specs.Started.{Fit}
+use Rattle.soundness.specs.Kinds.{OfKind}
+use Rattle.state.specs.State.{memory_of, state_of, Ready}
+use Rattle.state.specs.declared.Registers.{Registers}
+use Rattle.machine.specs.declared.Ended.{Ended}
 
-abbrev pub endWith : ℕ → ℕ → Registers → Ended
-endWith n k r = record { number = n; rest = k; last = r }
+abbrev pub end_with : ℕ → ℕ → Registers → Ended
+end_with n k r = record { number = n; rest = k; last = r }
 
 -- at the end of a body
-unfoldable pub endAtStop : List ℕ → Registers → ℕ → Ended
-endAtStop f r k = cond (eqb (getD f (r .frame) 0) 65535) (endWith 0 k r) (endWith 29 k r)
+unfoldable pub end_at_stop : List ℕ → Registers → ℕ → Ended
+end_at_stop f r k = cond (eqb (get_or f r.frame 0) 65535) (end_with 0 k r) (end_with 29 k r)
 
 -- ready in a state that a run can come to
 pub record Fits (m : Module) (cap : ℕ) (r : Registers) (p t f : List ℕ) : Type 0 where
   pub ready : Ready cap r p t f
-  pub fit : Fit m OfKind cap (stateOf r p t f)
+  pub fit : Fit m OfKind cap (state_of r p t f)
 
 -- the run from the state s on n steps, over any heap, is that from these registers and bytes on the rest; k steps were counted before
 pub record Resumes (m : Module) (cap n : ℕ) (s : State) (e : Ended) (p t f : List ℕ) : Type 0 where
-  pub fits : Fits m cap (e .last) p t f
-  pub same : (h : Heap) (k : ℕ) → run m cap (e .rest) (k + (n - e .rest)) (withHeap h (stateOf (e .last) p t f)) ≡ run m cap n k (withHeap h s)
+  pub fits : Fits m cap e.last p t f
+  pub same : (h : Heap) (k : ℕ) → run m cap e.rest (k + (n - e.rest)) (with_heap h (state_of e.last p t f)) ≡ run m cap n k (with_heap h s)
 
 -- the instruction at the place needs the heap
 pub record Needs (m : Module) (r : Registers) : Type 0 where
   pub instruction : Instruction
-  pub found : m .code (r .place) ≡ some instruction
+  pub found : m.code r.place ≡ some instruction
   pub needs : heapless instruction ≡ false
 
 -- the run stands before it, with a step left
 pub record Deferred (m : Module) (e : Ended) : Type 0 where
-  pub more : 0 < e .rest
-  pub inside : e .last .place < e .last .stop
-  pub instruction : Needs m (e .last)
+  pub more : 0 < e.rest
+  pub inside : e.last.place < e.last.stop
+  pub instruction : Needs m e.last
 
 -- the numbers with which an instruction is left to who has the heap
 abbrev pub left : ℕ → Bool
@@ -54,15 +48,15 @@ left n = eqb n 33 || eqb n 36 || eqb n 37
 -- the run from the state s on n steps ended as e says, over any heap: its stack is in the first slots, its heap is as it was, and what lies
 -- past the capacity, too. A run that met a call for which there were no words lent stands as it was before the call, with the number 20 and
 -- the rest of its steps; one that met an instruction that needs the heap stands before that, with a number that says so
-pub record RunsTo (m : Module) (cap n : ℕ) (s : State) (e : Ended) (p t f p′ t′ f′ : List ℕ) : Type 0 where
-  pub exact : (e .number ≡ 20 → 1536 ≤ length f) → left (e .number) ≡ false
-      → (h : Heap) (k : ℕ) → outcome (e .number) (k + (n - e .rest)) (keeping (memoryOf p′ t′ (e .last .height)) h) ≡ run m cap n k (withHeap h s)
-  pub resumes : (e .number ≡ 20) ⊎ (left (e .number) ≡ true) → Resumes m cap n s e p′ t′ f′
-  pub deferred : left (e .number) ≡ true → Deferred m e
-  pub left : e .rest ≤ n
-  pub high : e .last .height ≤ cap
-  pub rest-payloads : drop (cap * 8) p′ ≡ drop (cap * 8) p
-  pub rest-types : drop cap t′ ≡ drop cap t
-  pub same-payloads : length p′ ≡ length p
-  pub same-types : length t′ ≡ length t
-  pub same-words : length f′ ≡ length f
+pub record RunsTo (m : Module) (cap n : ℕ) (s : State) (e : Ended) (p t f p' t' f' : List ℕ) : Type 0 where
+  pub exact : (e.number ≡ 20 → 1536 ≤ length f) → left e.number ≡ false
+      → (h : Heap) (k : ℕ) → outcome e.number (k + (n - e.rest)) (keeping (memory_of p' t' e.last.height) h) ≡ run m cap n k (with_heap h s)
+  pub resumes : (e.number ≡ 20) ⊎ (left e.number ≡ true) → Resumes m cap n s e p' t' f'
+  pub deferred : left e.number ≡ true → Deferred m e
+  pub left : e.rest ≤ n
+  pub high : e.last.height ≤ cap
+  pub rest_payloads : drop (cap * 8) p' ≡ drop (cap * 8) p
+  pub rest_types : drop cap t' ≡ drop cap t
+  pub same_payloads : length p' ≡ length p
+  pub same_types : length t' ≡ length t
+  pub same_words : length f' ≡ length f

@@ -1,23 +1,19 @@
 -- The keys of the machine's three matches, and what each match promises.
-use Prim.Native.Nat.{ℕ}
-use mathlib.Core.Path.{_≡_}
-use mathlib.Core.Bool.{true, false}
-use mathlib.Core.Logic.{_⊎_}
-use mathlib.Core.Option.{some}
-use mathlib.Core.List.{List, [], _∷_}
-use Rattle·rules.specs.declared.Instruction.{Instruction}
-use Rattle·rules.specs.Bytes.{byte}
-use Rattle·rules.specs.Instructions.{opcodeOf, instructionOf}
-use Rattle·rules.specs.Tables.{Module}
-use Rattle·rules.specs.Machine.{execIn}
-use Rattle·soundness.specs.Framed.{heapless}
-use Rattle·soundness.specs.Numbering.{keyTable}
-use Rattle·keys.specs.Keys.{Says, each}
-use Rattle·state.specs.State.{Ready, DoesOver, Lacks}
-use Rattle·state.specs.declared.Registers.{Registers}
-use Rattle·state.specs.declared.Progress.{Progress}
-use Rattle·state.specs.declared.Progress.the-variants.{Stops}
-use Rattle·machine·specs.specs.Ends.{left}
+use Rattle.std.specs.Prelude.{ℕ, ◌≡◌, true, false, ◌⊎◌, List, [], ◌∷◌}
+use Rattle.std.proofs.Math.Option.{some}
+use Rattle.rules.specs.declared.Instruction.{Instruction}
+use Rattle.rules.specs.Bytes.{byte}
+use Rattle.rules.specs.Instructions.{opcode_of, instruction_of}
+use Rattle.rules.specs.Tables.{Module}
+use Rattle.rules.specs.Machine.{exec_in}
+use Rattle.soundness.specs.Framed.{heapless}
+use Rattle.soundness.specs.Numbering.{key_table}
+use Rattle.keys.specs.Keys.{Says, each}
+use Rattle.state.specs.State.{Ready, DoesOver, Lacks}
+use Rattle.state.specs.declared.Registers.{Registers}
+use Rattle.state.specs.declared.Progress.{Progress}
+use Rattle.state.specs.declared.Progress.TheVariants.{Stops}
+use Rattle.machine.specs.Ends.{left}
 
 -- ---- keys, the last arm first
 
@@ -36,37 +32,37 @@ even = 0 ∷ 54 ∷ 56 ∷ 58 ∷ 60 ∷ 62 ∷ []
 abbrev pub odd : List ℕ
 odd = 53 ∷ 55 ∷ 57 ∷ 59 ∷ 61 ∷ 63 ∷ []
 
-abbrev pub ofHeap : List ℕ
-ofHeap = 6 ∷ 48 ∷ 50 ∷ 52 ∷ []
+abbrev pub of_heap : List ℕ
+of_heap = 6 ∷ 48 ∷ 50 ∷ 52 ∷ []
 
-abbrev pub ofHeapOdd : List ℕ
-ofHeapOdd = 49 ∷ 51 ∷ []
+abbrev pub of_heap_odd : List ℕ
+of_heap_odd = 49 ∷ 51 ∷ []
 
 abbrev pub singles : List (List ℕ)
-singles = odd ∷ even ∷ ofHeapOdd ∷ ofHeap ∷ each (47 ∷ 45 ∷ 42 ∷ 41 ∷ 46 ∷ 44 ∷ 43 ∷ 31 ∷ 30 ∷ 29 ∷ 28 ∷ 27 ∷ 26 ∷ 25 ∷ 24 ∷ 23 ∷ 22 ∷ 19 ∷ 2 ∷ [])
+singles = odd ∷ even ∷ of_heap_odd ∷ of_heap ∷ each (47 ∷ 45 ∷ 42 ∷ 41 ∷ 46 ∷ 44 ∷ 43 ∷ 31 ∷ 30 ∷ 29 ∷ 28 ∷ 27 ∷ 26 ∷ 25 ∷ 24 ∷ 23 ∷ 22 ∷ 19 ∷ 2 ∷ [])
 
 -- ---- promises
 
 -- i has the key b, with some word behind it
 abbrev pub HasKey : ℕ → Instruction → Type 0
-HasKey b i = (w : ℕ) × (instructionOf (opcodeOf keyTable b) w ≡ some i)
+HasKey b i = (w : ℕ) × (instruction_of (opcode_of key_table b) w ≡ some i)
 
 -- an instruction was left to who has the heap, with a number that says so; nothing changed
-pub record Leaves (a : Progress) (p t f p′ t′ f′ : List ℕ) : Type 0 where
+pub record Leaves (a : Progress) (p t f p' t' f' : List ℕ) : Type 0 where
   pub number : ℕ
-  pub stops-with : a ≡ Stops number
-  pub says-so : left number ≡ true
-  pub keeps-payloads : p′ ≡ p
-  pub keeps-types : t′ ≡ t
-  pub keeps-words : f′ ≡ f
+  pub stops_with : a ≡ Stops number
+  pub says_so : left number ≡ true
+  pub keeps_payloads : p' ≡ p
+  pub keeps_types : t' ≡ t
+  pub keeps_words : f' ≡ f
 
 -- the code did what i does, over every heap, or left it and i needs the heap
 abbrev pub DoesOrLeaves : Module → ℕ → Instruction → Registers → Progress → List ℕ → List ℕ → List ℕ → List ℕ → List ℕ → List ℕ → Type 0
-DoesOrLeaves m cap i r a p t f p′ t′ f′ = DoesOver cap r a p t f p′ t′ f′ (execIn m cap i) ⊎ ((heapless i ≡ false) × Leaves a p t f p′ t′ f′)
+DoesOrLeaves m cap i r a p t f p' t' f' = DoesOver cap r a p t f p' t' f' (exec_in m cap i) ⊎ ((heapless i ≡ false) × Leaves a p t f p' t' f')
 
 -- the code did what the instruction with key b does, in any module, or left it; it does not touch the frames
 abbrev pub Performs : ℕ → ℕ → Registers → Progress → List ℕ → List ℕ → List ℕ → List ℕ → Type 0
-Performs b cap r a p t p′ t′ = (i : Instruction) → HasKey b i → (m : Module) (f : List ℕ) → Ready cap r p t f → DoesOrLeaves m cap i r a p t f p′ t′ f
+Performs b cap r a p t p' t' = (i : Instruction) → HasKey b i → (m : Module) (f : List ℕ) → Ready cap r p t f → DoesOrLeaves m cap i r a p t f p' t' f
 
 -- an instruction with key b stands at place q of the code, and all of it is there
 pub record Stands (code : List ℕ) (q b : ℕ) : Type 0 where
@@ -76,4 +72,4 @@ pub record Stands (code : List ℕ) (q b : ℕ) : Type 0 where
 
 -- the code did what the instruction at its place does, or left it, or found no words for a frame
 abbrev pub Steps : Module → ℕ → List ℕ → Registers → Progress → List ℕ → List ℕ → List ℕ → List ℕ → List ℕ → List ℕ → Type 0
-Steps m cap code r a p t f p′ t′ f′ = (i : Instruction) → Says code (r .place) i → DoesOrLeaves m cap i r a p t f p′ t′ f′ ⊎ Lacks a p t f p′ t′ f′
+Steps m cap code r a p t f p' t' f' = (i : Instruction) → Says code r.place i → DoesOrLeaves m cap i r a p t f p' t' f' ⊎ Lacks a p t f p' t' f'

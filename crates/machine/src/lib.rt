@@ -1,16 +1,16 @@
 // The run from any state.
-ghost use mathlib.Core.Path.{_≡_};
-ghost use Prim.Native.Nat.{_<_};
-ghost use lib.ListN.{length};
-ghost use Rattle·rules.specs.ModuleFile.{read, refusal};
-ghost use Rattle·format.specs.Layout.{Packed};
-ghost use Rattle·keys.specs.Keys.{Keyed};
-ghost use Rattle·state.specs.State.{stateOf};
-ghost use Rattle·machine·specs.specs.Ends.{left, endWith, endAtStop, Fits, RunsTo};
+#![tactic(auto)]
+
+ghost use Rattle.std.specs.Prelude.{◌≡◌, ◌<◌, length};
+ghost use Rattle.rules.specs.ModuleFile.{read, refusal};
+ghost use Rattle.format.specs.Layout.{Packed};
+ghost use Rattle.keys.specs.Keys.{Keyed};
+ghost use Rattle.state.specs.State.{state_of};
+ghost use Rattle.machine.specs.Ends.{left, end_with, end_at_stop, Fits, RunsTo};
+
 use format::Sections;
 use keys::Decoded;
-use state::Progress;
-use state::Registers;
+use state::{Progress, Registers};
 
 mod steps;
 
@@ -20,12 +20,13 @@ const FUNCTION_NORETINSTRUCTION: u32 = 29;
 
 // Whether a run ended with this number before an instruction that it left to who has the heap: 33 where a pointer names no slot.
 pub fn left(number: u32) -> bool
-    ensures { λ r. ⌜ r ≡ left number ⌝ }
+    ensures { result ≡ left number }
 {
     number == 33 || number == 36 || number == 37
 }
 
 // How a run ended: its number, the steps left of the allowance, and the registers then.
+#[derive(Clone, Copy)]
 pub struct Ended {
     pub number: u32,
     pub rest: u64,
@@ -33,15 +34,15 @@ pub struct Ended {
 }
 
 fn ending(number: u32, rest: u64, last: Registers) -> Ended
-    ensures { λ e. ⌜ e ≡ endWith number rest last ⌝ }
+    ensures { result ≡ end_with number rest last }
 {
     Ended { number, rest, last }
 }
 
 // At the end of the entry, 0; at the end of a function, 29.
 fn at_end(r: Registers, rest: u64, f: &[u16]) -> Ended
-    requires { ⌜ r .frame < length (now f) ⌝ }
-    ensures { λ e. ⌜ e ≡ endAtStop (now (f .entry)) r rest ⌝ }
+    requires { r.frame < length f.now }
+    ensures { result ≡ end_at_stop f.now r rest }
 {
     let a = r.frame;
     if f[a] == 65535 {
@@ -64,9 +65,9 @@ pub fn run_from(
     source: &[u8],
     from: usize,
 ) -> Ended
-    requires { ⌜ Packed (now file) c × (refusal (now file) ≡ 0) ⌝ }
-    requires { ⌜ Keyed (now file) (now source) from × Fits (read (now file)) cap first (now p) (now t) (now f) ⌝ }
-    ensures { λ e. ⌜ RunsTo (read (now (file .entry))) cap allowance (stateOf first (now (p .entry)) (now (t .entry)) (now (f .entry))) e (now (p .entry)) (now (t .entry)) (now (f .entry)) (now (p .exit)) (now (t .exit)) (now (f .exit)) ⌝ }
+    requires packed { Packed file.now c × (refusal file.now ≡ 0) }
+    requires keyed { Keyed file.now source.now from × Fits (read file.now) cap first p.old t.old f.old }
+    ensures { RunsTo (read file.now) cap allowance (state_of first p.old t.old f.old) result p.old t.old f.old p.new t.new f.new }
 {
     let code = &source[from..];
     let constants = c.pool;

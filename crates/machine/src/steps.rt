@@ -1,17 +1,15 @@
 // One step, by the key of the instruction. The three matches are one table of jumps over all 64 keys, and each instruction
 // stands in it once.
-ghost use mathlib.Core.Path.{_≡_};
-ghost use Prim.Native.Nat.{ℕ, _<_};
-ghost use lib.ListN.{drop};
-ghost use Rattle·rules.specs.ModuleFile.{read, refusal};
-ghost use Rattle·format.specs.Layout.{Packed};
-ghost use Rattle·keys.specs.Keys.{Known, Outside};
-ghost use Rattle·operands.specs.Operands.{Computable};
-ghost use Rattle·state.specs.State.{Ready, ReadyOn};
-ghost use Rattle·machine·specs.specs.Matches.{wides, numerics, Performs, Stands, Steps};
+ghost use Rattle.std.specs.Prelude.{◌≡◌, ℕ, ◌<◌, drop};
+ghost use Rattle.rules.specs.ModuleFile.{read, refusal};
+ghost use Rattle.format.specs.Layout.{Packed};
+ghost use Rattle.keys.specs.Keys.{Known, Outside};
+ghost use Rattle.operands.specs.Operands.{Computable};
+ghost use Rattle.state.specs.State.{Ready, ReadyOn};
+ghost use Rattle.machine.specs.Matches.{wides, numerics, Performs, Stands, Steps};
+
 use format::Sections;
-use state::Progress;
-use state::Registers;
+use state::{Progress, Registers};
 
 // The instruction is left to who has the heap. Keys that are neighbours have no arm in common, and these numbers are no other
 // exit's, so that the table needs no test of ranges.
@@ -28,9 +26,9 @@ const NEVER_ODD: u32 = 2;
 
 // On the top operand, on bits, comparisons, conversions; `flea`, `null`, `new`, `delete`, `gcnull`, `gcnew` are left.
 fn single(r: Registers, b: u8, p: &mut [u8], t: &mut [u8]) -> Progress
-    requires { ⌜ Known b × Outside b wides × Outside b numerics ⌝ }
-    requires { ⌜ Computable r (now p) (now t) ⌝ }
-    ensures { λ a. ⌜ ((cap : ℕ) → Performs b cap r a (now (p .entry)) (now (t .entry)) (now (p .exit)) (now (t .exit))) ⌝ }
+    requires known { Known b × Outside b wides × Outside b numerics }
+    requires computable { Computable r p.old t.old }
+    ensures { (cap : ℕ) → Performs b cap r result p.old t.old p.new t.new }
 {
     match b {
         0x02 => moves::stack::pop(r),
@@ -62,9 +60,9 @@ fn single(r: Registers, b: u8, p: &mut [u8], t: &mut [u8]) -> Progress
 
 // Through pointers, copies, arithmetic.
 fn numeric(cap: usize, r: Registers, b: u8, p: &mut [u8], t: &mut [u8]) -> Progress
-    requires { ⌜ Known b × Outside b wides ⌝ }
-    requires { ⌜ ReadyOn cap r (now p) (now t) × Computable r (now p) (now t) ⌝ }
-    ensures { λ a. ⌜ Performs b cap r a (now (p .entry)) (now (t .entry)) (now (p .exit)) (now (t .exit)) ⌝ }
+    requires known { Known b × Outside b wides }
+    requires ready_on { ReadyOn cap r p.old t.old × Computable r p.old t.old }
+    ensures { Performs b cap r result p.old t.old p.new t.new }
 {
     match b {
         0x07 => moves::pointers::tload(cap, r, p, t),
@@ -98,10 +96,10 @@ pub(crate) fn step(
     t: &mut [u8],
     f: &mut [u16],
 ) -> Progress
-    requires { ⌜ Packed (now file) c × (refusal (now file) ≡ 0) × (now pool ≡ drop (c .pool) (now file)) ⌝ }
-    requires { ⌜ (r .place < r .stop) × Stands (now code) (r .place) b ⌝ }
-    requires { ⌜ Ready cap r (now p) (now t) (now f) × Computable r (now p) (now t) ⌝ }
-    ensures { λ a. ⌜ Steps (read (now (file .entry))) cap (now (code .entry)) r a (now (p .entry)) (now (t .entry)) (now (f .entry)) (now (p .exit)) (now (t .exit)) (now (f .exit)) ⌝ }
+    requires packed { Packed file.now c × (refusal file.now ≡ 0) × (pool.now ≡ drop c.pool file.now) }
+    requires place_lt_stop { (r.place < r.stop) × Stands code.now r.place b }
+    requires ready { Ready cap r p.old t.old f.old × Computable r p.old t.old }
+    ensures { Steps (read file.now) cap code.now r result p.old t.old f.old p.new t.new f.new }
 {
     match b {
         0x01 => moves::locals::push(file, c, pool, code, cap, r, p, t),

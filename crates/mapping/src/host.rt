@@ -1,6 +1,6 @@
 // The same for C: the number is the answer, and what else an answer holds goes through pointers.
-ghost use Rattle·promises.specs.Promises.{lentOf, lentHeapOf};
-ghost use Rattle·promises.specs.MapPromises.{MapKeeps};
+ghost use Rattle.promises.specs.Promises.{lent_of, lent_heap_of};
+ghost use Rattle.promises.specs.MapPromises.{MapKeeps};
 
 // `map` for C. The rows are written with every answer: 13 can come before any row and at a row.
 pub fn host_map(
@@ -16,7 +16,7 @@ pub fn host_map(
     blocks: &mut [u8],
     rows: &mut u64,
 ) -> u32
-    ensures { λ r. ⌜ MapKeeps (now (file .entry)) function profile (now («arg_payloads» .entry)) (now (out .entry)) allowance (lentOf (now (payloads .entry)) (now (types .entry))) (lentHeapOf (now (heap .entry)) (now (blocks .entry))) r (now (rows .exit)) (now (out .exit)) (lentOf (now (payloads .exit)) (now (types .exit))) (lentHeapOf (now (heap .exit)) (now (blocks .exit))) ⌝ }
+    ensures { MapKeeps file.now function profile arg_payloads.now out.old allowance (lent_of payloads.old types.old) (lent_heap_of heap.old blocks.old) result rows.new out.new (lent_of payloads.new types.new) (lent_heap_of heap.new blocks.new) }
 {
     let answer = crate::map(
         file,

@@ -1,6 +1,9 @@
 // The public call `map`, with its promise.
-ghost use Rattle·promises.specs.Promises.{lentOf, lentHeapOf};
-ghost use Rattle·promises.specs.MapPromises.{MapKeeps};
+#![tactic(auto)]
+
+ghost use Rattle.promises.specs.Promises.{lent_of, lent_heap_of};
+ghost use Rattle.promises.specs.MapPromises.{MapKeeps};
+
 use rules::MapAnswer;
 
 pub mod host;
@@ -19,7 +22,7 @@ pub fn map(
     heap: &mut [u8],
     blocks: &mut [u8],
 ) -> MapAnswer
-    ensures { λ r. ⌜ MapKeeps (now (file .entry)) function profile (now («arg_payloads» .entry)) (now (out .entry)) allowance (lentOf (now (payloads .entry)) (now (types .entry))) (lentHeapOf (now (heap .entry)) (now (blocks .entry))) (r .number) (r .rows) (now (out .exit)) (lentOf (now (payloads .exit)) (now (types .exit))) (lentHeapOf (now (heap .exit)) (now (blocks .exit))) ⌝ }
+    ensures { MapKeeps file.now function profile arg_payloads.now out.old allowance (lent_of payloads.old types.old) (lent_heap_of heap.old blocks.old) result.number result.rows out.new (lent_of payloads.new types.new) (lent_heap_of heap.new blocks.new) }
 {
     rows::map(
         file,

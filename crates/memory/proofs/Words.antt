@@ -1,138 +1,138 @@
 -- Laws of `word` and `written`, for every width.
-use Prim.Native.Nat.{ℕ, zero, suc, _+_, _*_, _/_, _%_, _^_, _-_, _≤_, _<_}
-use native.Mathlib.Nat.{pow-suc, add-zero, le-refl}
-use native.Mathlib.Numerals.{add-one, add-two, add-three, add-four, add-five, add-six, add-seven}
+use Prim.Native.Nat.{ℕ, zero, suc, ◌+◌, ◌*◌, ◌/◌, ◌%◌, ◌^◌, ◌-◌, ◌≤◌, ◌<◌}
+use native.Mathlib.Nat.{pow-suc, add-zero, le_refl}
+use native.Mathlib.Numerals.{add-one, add-two, add-three, add-four, add_five, add_six, add_seven}
 use native.Mathlib.Omega.{arith}
-use mathlib.Core.Path.{_≡_, refl, sym, ap, _∙_}
-use mathlib.Core.List.{List, [], _∷_, _++_, append-assoc}
-use lib.ListN.{length, take, drop, getD, set, length-append, length-drop, take-append-drop, drop-of-length-le}
-use lib.Seq.{sets, sets-eq, take-at, drop-at, take-append-le, drop-append-le, drop-append-add, drop-drop, length-take-le, getD-drop, take-all}
-use Rattle·rules.specs.Bytes.{number, bytes, word, written}
+use mathlib.Core.Path.{◌≡◌, refl, sym, ap, ◌∙◌}
+use mathlib.Core.List.{List, [], ◌∷◌, ◌++◌, append_assoc}
+use lib.ListN.{length, take, drop, get_or, set, length-append, length-drop, take-append-drop, drop_of_length-le}
+use lib.Seq.{sets, sets-eq, take_at, drop_at, take-append-le, drop-append-le, drop-append-add, drop-drop, length-take-le, get_or-drop, take_all}
+use Rattle.rules.specs.Bytes.{number, bytes, word, written}
 
 -- ---- reading byte by byte; bytes past the end count as 0
 
-number-none : (n : ℕ) → 0 ≡ number (take n [])
-number-none zero = refl
-number-none (suc n) = refl
+number_none : (n : ℕ) → 0 ≡ number (take n [])
+number_none zero = refl
+number_none (suc n) = refl
 
-number-split : (n : ℕ) (l : List ℕ) → number (take (suc n) l) ≡ getD l 0 0 + 256 * number (take n (drop 1 l))
-number-split n [] = let h : number (take n []) ≡ 0 = sym (number-none n) in omega arith
-number-split n (b ∷ l) = refl
+number_split : (n : ℕ) (l : List ℕ) → number (take (suc n) l) ≡ get_or l 0 0 + 256 * number (take n (drop 1 l))
+number_split n [] = let h : number (take n []) ≡ 0 = sym (number_none n) in omega arith
+number_split n (b ∷ l) = refl
 
-pub word-suc : (n : ℕ) (s : List ℕ) (at : ℕ) → word (suc n) s at ≡ getD s at 0 + 256 * word n s (at + 1)
+pub word_suc : (n : ℕ) (s : List ℕ) (at : ℕ) → word (suc n) s at ≡ get_or s at 0 + 256 * word n s (at + 1)
 unfolding word
-word-suc n s at =
-    number-split n (drop at s)
-    ∙ ap (λ (b : ℕ). b + 256 * number (take n (drop 1 (drop at s)))) (getD-drop at s 0 0 ∙ ap (λ (k : ℕ). getD s k 0) (add-zero at))
-    ∙ ap (λ (l : List ℕ). getD s at 0 + 256 * number (take n l)) (drop-drop 1 at s)
+word_suc n s at =
+    number_split n (drop at s)
+    ∙ ap (λ (b : ℕ). b + 256 * number (take n (drop 1 (drop at s)))) (get_or-drop at s 0 0 ∙ ap (λ (k : ℕ). get_or s k 0) (add-zero at))
+    ∙ ap (λ (l : List ℕ). get_or s at 0 + 256 * number (take n l)) (drop-drop 1 at s)
 
-word-at : (n : ℕ) (s : List ℕ) (at i : ℕ) → word (suc n) s (at + i) ≡ getD s (at + i) 0 + 256 * word n s (at + suc i)
-word-at n s at i = let e : at + i + 1 ≡ at + suc i = omega arith in rw (← e) (word-suc n s (at + i))
+word_at : (n : ℕ) (s : List ℕ) (at i : ℕ) → word (suc n) s (at + i) ≡ get_or s (at + i) 0 + 256 * word n s (at + suc i)
+word_at n s at i = let e : at + i + 1 ≡ at + suc i = omega arith in rw (← e) (word_suc n s (at + i))
 
-word-none : (s : List ℕ) (at : ℕ) → word 0 s at ≡ 0
+word_none : (s : List ℕ) (at : ℕ) → word 0 s at ≡ 0
 unfolding word
-word-none s at = refl
+word_none s at = refl
 
 -- the part of a slice from a place on
 abbrev pub part : List ℕ → ℕ → List ℕ
 part s at = take (length s - at) (drop at s)
 
-pub word-part : (n : ℕ) (s : List ℕ) (at : ℕ) → word n (part s at) 0 ≡ word n s at
+pub word_part : (n : ℕ) (s : List ℕ) (at : ℕ) → word n (part s at) 0 ≡ word n s at
 unfolding word
-word-part n s at = ap (λ (l : List ℕ). number (take n l)) (take-all (length s - at) (drop at s) (rw length-drop (le-refl _)))
+word_part n s at = ap (λ (l : List ℕ). number (take n l)) (take_all (length s - at) (drop at s) (rw length-drop (le_refl _)))
 
-pub word-out : (n : ℕ) (s : List ℕ) (at : ℕ) → length s ≤ at → word n s at ≡ 0
+pub word_out : (n : ℕ) (s : List ℕ) (at : ℕ) → length s ≤ at → word n s at ≡ 0
 unfolding word
-word-out n s at h = rw (drop-of-length-le s h) (sym (number-none n))
+word_out n s at h = rw (drop_of_length-le s h) (sym (number_none n))
 
-pub word-4 : (s : List ℕ) (at : ℕ)
-    → word 4 s at ≡ getD s at 0 + 256 * getD s (at + 1) 0 + 65536 * getD s (at + 2) 0 + 16777216 * getD s (at + 3) 0
-word-4 s at =
-    omega (arith, word-suc 3 s at, word-at 2 s at 1, word-at 1 s at 2, word-at 0 s at 3, word-none s (at + 4))
+pub word_4 : (s : List ℕ) (at : ℕ)
+    → word 4 s at ≡ get_or s at 0 + 256 * get_or s (at + 1) 0 + 65536 * get_or s (at + 2) 0 + 16777216 * get_or s (at + 3) 0
+word_4 s at =
+    omega (arith, word_suc 3 s at, word_at 2 s at 1, word_at 1 s at 2, word_at 0 s at 3, word_none s (at + 4))
 
-pub word-8 : (s : List ℕ) (at : ℕ) → word 8 s at ≡ word 4 s at + 4294967296 * word 4 s (at + 4)
-word-8 s at =
-    omega (arith, word-4 s at, word-suc 7 s at, word-at 6 s at 1, word-at 5 s at 2, word-at 4 s at 3)
+pub word_8 : (s : List ℕ) (at : ℕ) → word 8 s at ≡ word 4 s at + 4294967296 * word 4 s (at + 4)
+word_8 s at =
+    omega (arith, word_4 s at, word_suc 7 s at, word_at 6 s at 1, word_at 5 s at 2, word_at 4 s at 3)
 
 -- ---- storing byte by byte
 
-pub length-bytes : (n v : ℕ) → length (bytes n v) ≡ n
-length-bytes zero v = refl
-length-bytes (suc n) v = ap suc (length-bytes n (v / 256))
+pub length_bytes : (n v : ℕ) → length (bytes n v) ≡ n
+length_bytes zero v = refl
+length_bytes (suc n) v = ap suc (length_bytes n (v / 256))
 
 pub put : (n : ℕ) (s : List ℕ) (at v : ℕ) → at + n ≤ length s → sets s at (bytes n v) ≡ written n s at v
 unfolding written
 put n s at v h =
-    sets-eq (bytes n v) s at (rw length-bytes h)
-    ∙ append-assoc (take at s) (bytes n v) (drop (at + length (bytes n v)) s)
-    ∙ ap (λ (k : ℕ). take at s ++ (bytes n v ++ drop (at + k) s)) (length-bytes n v)
+    sets-eq (bytes n v) s at (rw length_bytes h)
+    ∙ append_assoc (take at s) (bytes n v) (drop (at + length (bytes n v)) s)
+    ∙ ap (λ (k : ℕ). take at s ++ (bytes n v ++ drop (at + k) s)) (length_bytes n v)
 
-pub put-4 : (s : List ℕ) (at v : ℕ) → at + 4 ≤ length s
+pub put_4 : (s : List ℕ) (at v : ℕ) → at + 4 ≤ length s
     → set (set (set (set s at (v % 256)) (at + 1) (v / 256 % 256)) (at + 2) (v / 65536 % 256)) (at + 3) (v / 16777216 % 256) ≡ written 4 s at v
-put-4 s at v h =
+put_4 s at v h =
     let a : v / 256 / 256 ≡ v / 65536 = omega arith in
     let b : v / 65536 / 256 ≡ v / 16777216 = omega arith in
     rw (add-one, add-two, add-three) (rw (a, b) at (put 4 s at v h))
 
-pub put-8 : (s : List ℕ) (at v : ℕ) → at + 8 ≤ length s
+pub put_8 : (s : List ℕ) (at v : ℕ) → at + 8 ≤ length s
     → set (set (set (set (set (set (set (set s at (v % 256)) (at + 1) (v / 256 % 256)) (at + 2) (v / 65536 % 256)) (at + 3) (v / 16777216 % 256))
     (at + 4) (v / 4294967296 % 256)) (at + 5) (v / 1099511627776 % 256)) (at + 6) (v / 281474976710656 % 256)) (at + 7) (v / 72057594037927936 % 256)
     ≡ written 8 s at v
-put-8 s at v h =
+put_8 s at v h =
     let a : v / 256 / 256 ≡ v / 65536 = omega arith in
     let b : v / 65536 / 256 ≡ v / 16777216 = omega arith in
     let d : v / 16777216 / 256 ≡ v / 4294967296 = omega arith in
     let e : v / 4294967296 / 256 ≡ v / 1099511627776 = omega arith in
     let f : v / 1099511627776 / 256 ≡ v / 281474976710656 = omega arith in
     let g : v / 281474976710656 / 256 ≡ v / 72057594037927936 = omega arith in
-    rw (add-one, add-two, add-three, add-four, add-five, add-six, add-seven) (rw (a, b, d, e, f, g) at (put 8 s at v h))
+    rw (add-one, add-two, add-three, add-four, add_five, add_six, add_seven) (rw (a, b, d, e, f, g) at (put 8 s at v h))
 
 -- ---- a number that was stored is read back, and others are kept
 
-pub number-bytes : (n v : ℕ) → v < 256 ^ n → number (bytes n v) ≡ v
-number-bytes zero v h = omega (arith, h)
-number-bytes (suc n) v h =
+pub number_bytes : (n v : ℕ) → v < 256 ^ n → number (bytes n v) ≡ v
+number_bytes zero v h = omega (arith, h)
+number_bytes (suc n) v h =
     let q : v / 256 < 256 ^ n = omega (arith, rw pow-suc at h) in
-    omega (arith, number-bytes n (v / 256) q)
+    omega (arith, number_bytes n (v / 256) q)
 
-pub length-written : (n : ℕ) (s : List ℕ) (at v : ℕ) → at + n ≤ length s → length (written n s at v) ≡ length s
+pub length_written : (n : ℕ) (s : List ℕ) (at v : ℕ) → at + n ≤ length s → length (written n s at v) ≡ length s
 unfolding written
-length-written n s at v h = simp (length-append, length-bytes, length-drop) (omega (arith, length-take-le at s (omega arith)))
+length_written n s at v h = simp (length-append, length_bytes, length-drop) (omega (arith, length-take-le at s (omega arith)))
 
-pub word-written-same : (n : ℕ) (s : List ℕ) (at v : ℕ) → at + n ≤ length s → v < 256 ^ n → word n (written n s at v) at ≡ v
+pub word_written_same : (n : ℕ) (s : List ℕ) (at v : ℕ) → at + n ≤ length s → v < 256 ^ n → word n (written n s at v) at ≡ v
 unfolding word written
-word-written-same n s at v h f =
+word_written_same n s at v h f =
     rw (
-      drop-at (take at s) (bytes n v ++ drop (at + n) s) at (length-take-le at s (omega arith)),
-      take-at (bytes n v) (drop (at + n) s) n (length-bytes n v),
-    ) (number-bytes n v f)
+      drop_at (take at s) (bytes n v ++ drop (at + n) s) at (length-take-le at s (omega arith)),
+      take_at (bytes n v) (drop (at + n) s) n (length_bytes n v),
+    ) (number_bytes n v f)
 
-pub word-front : (n : ℕ) (p q : List ℕ) (j : ℕ) → j + n ≤ length p → word n (p ++ q) j ≡ word n p j
+pub word_front : (n : ℕ) (p q : List ℕ) (j : ℕ) → j + n ≤ length p → word n (p ++ q) j ≡ word n p j
 unfolding word
-word-front n p q j h =
+word_front n p q j h =
     let g : n ≤ length (drop j p) = simp length-drop (omega arith) in
     rw (drop-append-le j p q (omega arith), take-append-le n (drop j p) q g)
 
-pub word-written-below : (n m : ℕ) (s : List ℕ) (at v j : ℕ) → at + n ≤ length s → j + m ≤ at → word m (written n s at v) j ≡ word m s j
+pub word_written_below : (n m : ℕ) (s : List ℕ) (at v j : ℕ) → at + n ≤ length s → j + m ≤ at → word m (written n s at v) j ≡ word m s j
 unfolding written
-word-written-below n m s at v j h g =
+word_written_below n m s at v j h g =
     let k : j + m ≤ length (take at s) = omega (arith, length-take-le at s (omega arith)) in
-    word-front m (take at s) (bytes n v ++ drop (at + n) s) j k
-    ∙ sym (word-front m (take at s) (drop at s) j k)
+    word_front m (take at s) (bytes n v ++ drop (at + n) s) j k
+    ∙ sym (word_front m (take at s) (drop at s) j k)
     ∙ ap (λ (l : List ℕ). word m l j) (take-append-drop at s)
 
-pub drop-written : (n : ℕ) (s : List ℕ) (at v j : ℕ) → at + n ≤ length s → at + n ≤ j → drop j (written n s at v) ≡ drop j s
+pub drop_written : (n : ℕ) (s : List ℕ) (at v j : ℕ) → at + n ≤ length s → at + n ≤ j → drop j (written n s at v) ≡ drop j s
 unfolding written
-drop-written n s at v j h g =
+drop_written n s at v j h g =
     let f : at + n + (j - (at + n)) ≡ j = omega arith in
-    let l : length (take at s ++ bytes n v) ≡ at + n = simp (length-append, length-bytes) (omega (arith, length-take-le at s (omega arith))) in
+    let l : length (take at s ++ bytes n v) ≡ at + n = simp (length-append, length_bytes) (omega (arith, length-take-le at s (omega arith))) in
     let e : j ≡ length (take at s ++ bytes n v) + (j - (at + n)) = omega arith in
-    ap (λ (x : List ℕ). drop j x) (sym (append-assoc (take at s) (bytes n v) (drop (at + n) s)))
+    ap (λ (x : List ℕ). drop j x) (sym (append_assoc (take at s) (bytes n v) (drop (at + n) s)))
     ∙ ap (λ (k : ℕ). drop k ((take at s ++ bytes n v) ++ drop (at + n) s)) e
     ∙ drop-append-add (take at s ++ bytes n v) (drop (at + n) s) (j - (at + n))
     ∙ drop-drop (j - (at + n)) (at + n) s
     ∙ ap (λ (k : ℕ). drop k s) f
 
-pub word-written-above : (n m : ℕ) (s : List ℕ) (at v j : ℕ) → at + n ≤ length s → at + n ≤ j → word m (written n s at v) j ≡ word m s j
+pub word_written_above : (n m : ℕ) (s : List ℕ) (at v j : ℕ) → at + n ≤ length s → at + n ≤ j → word m (written n s at v) j ≡ word m s j
 unfolding word
-word-written-above n m s at v j h g = ap (λ (l : List ℕ). number (take m l)) (drop-written n s at v j h g)
+word_written_above n m s at v j h g = ap (λ (l : List ℕ). number (take m l)) (drop_written n s at v j h g)

@@ -1,26 +1,23 @@
 // `push`, and the instructions on locals. A local's slot is the word at frame + 4 + n.
-ghost use mathlib.Core.Path.{_≡_};
-ghost use Prim.Native.Nat.{_+_, _<_, _≤_};
-ghost use lib.ListN.{length, drop};
-ghost use Rattle·rules.specs.Bytes.{word};
-ghost use Rattle·rules.specs.Tables.{Module};
-ghost use Rattle·rules.specs.ModuleFile.{read};
-ghost use Rattle·rules.specs.Machine.{execIn};
-ghost use Rattle·rules.specs.declared.Instruction.the-variants.{Push, Load, Store, Lea};
-ghost use Rattle·format.specs.Layout.{Packed};
-ghost use Rattle·state.specs.State.{stateOf, Ready, ReadyOn, Does, Acts};
-ghost use Rattle·moves·specs.specs.Moves.{assignedTo};
-use crate::exceptions::CONSTANTPOOL_OUTOFRANGE;
-use crate::exceptions::LOCALVARIABLE_INVALIDINDEX;
-use crate::exceptions::LOCALVARIABLE_OUTOFRANGE;
-use crate::exceptions::STACK_DIFFERENTTYPE;
-use crate::exceptions::STACK_EMPTY;
+ghost use Rattle.std.specs.Prelude.{◌≡◌, ◌+◌, ◌<◌, ◌≤◌, length, drop};
+ghost use Rattle.rules.specs.Bytes.{word};
+ghost use Rattle.rules.specs.Tables.{Module};
+ghost use Rattle.rules.specs.ModuleFile.{read};
+ghost use Rattle.rules.specs.Machine.{exec_in};
+ghost use Rattle.rules.specs.declared.Instruction.TheVariants.{Push, Load, Store, Lea};
+ghost use Rattle.format.specs.Layout.{Packed};
+ghost use Rattle.state.specs.State.{state_of, Ready, ReadyOn, Does, Acts};
+ghost use Rattle.moves.specs.Moves.{assigned_to};
+
+use crate::exceptions::{
+    CONSTANTPOOL_OUTOFRANGE, LOCALVARIABLE_INVALIDINDEX, LOCALVARIABLE_OUTOFRANGE,
+    STACK_DIFFERENTTYPE, STACK_EMPTY,
+};
 use crate::stack::pushed;
 use format::Sections;
 use reader::entries::FoundConstant;
 use rules::Slot;
-use state::Progress;
-use state::Registers;
+use state::{Progress, Registers};
 
 // `push`, of a constant of the lent pool.
 pub fn push(
@@ -33,10 +30,10 @@ pub fn push(
     p: &mut [u8],
     t: &mut [u8],
 ) -> Progress
-    requires { ⌜ Packed (now file) c × (now pool ≡ drop (c .pool) (now file)) ⌝ }
-    requires { ⌜ ReadyOn cap r (now p) (now t) ⌝ }
-    requires { ⌜ (r .place < r .stop) × (r .place + 5 ≤ length (now code)) ⌝ }
-    ensures { λ a. ⌜ Acts cap r a (now (p .entry)) (now (t .entry)) (now (p .exit)) (now (t .exit)) (execIn (read (now (file .entry))) cap (Push (word 4 (now (code .entry)) (r .place + 1)))) ⌝ }
+    requires packed { Packed file.now c × (pool.now ≡ drop c.pool file.now) }
+    requires ready_on { ReadyOn cap r p.old t.old }
+    requires place_lt_stop { (r.place < r.stop) × (r.place + 5 ≤ length code.now) }
+    ensures { Acts cap r result p.old t.old p.new t.new (exec_in (read file.now) cap (Push (word 4 code.now (r.place + 1)))) }
 {
     let n = keys::operand(code, r.place);
     let found = reader::entries::pooled(pool, c.constants, n as usize);
@@ -55,9 +52,9 @@ pub fn load(
     p: &mut [u8],
     t: &mut [u8],
 ) -> Progress
-    requires { ⌜ Ready cap r (now p) (now t) (now f) ⌝ }
-    requires { ⌜ (r .place < r .stop) × (r .place + 5 ≤ length (now code)) ⌝ }
-    ensures { λ a. ⌜ ((m : Module) → Does cap r a (now (p .entry)) (now (t .entry)) (now (f .entry)) (now (p .exit)) (now (t .exit)) (now (f .entry)) (execIn m cap (Load (word 4 (now (code .entry)) (r .place + 1))) (stateOf r (now (p .entry)) (now (t .entry)) (now (f .entry))))) ⌝ }
+    requires ready { Ready cap r p.old t.old f.now }
+    requires place_lt_stop { (r.place < r.stop) × (r.place + 5 ≤ length code.now) }
+    ensures { (m : Module) → Does cap r result p.old t.old f.now p.new t.new f.now (exec_in m cap (Load (word 4 code.now (r.place + 1))) (state_of r p.old t.old f.now)) }
 {
     let n = keys::operand(code, r.place) as usize;
     let a = r.frame;
@@ -74,9 +71,9 @@ pub fn load(
 
 // `lea`.
 pub fn lea(code: &[u8], cap: usize, r: Registers, f: &[u16], p: &mut [u8], t: &mut [u8]) -> Progress
-    requires { ⌜ Ready cap r (now p) (now t) (now f) ⌝ }
-    requires { ⌜ (r .place < r .stop) × (r .place + 5 ≤ length (now code)) ⌝ }
-    ensures { λ a. ⌜ ((m : Module) → Does cap r a (now (p .entry)) (now (t .entry)) (now (f .entry)) (now (p .exit)) (now (t .exit)) (now (f .entry)) (execIn m cap (Lea (word 4 (now (code .entry)) (r .place + 1))) (stateOf r (now (p .entry)) (now (t .entry)) (now (f .entry))))) ⌝ }
+    requires ready { Ready cap r p.old t.old f.now }
+    requires place_lt_stop { (r.place < r.stop) × (r.place + 5 ≤ length code.now) }
+    ensures { (m : Module) → Does cap r result p.old t.old f.now p.new t.new f.now (exec_in m cap (Lea (word 4 code.now (r.place + 1))) (state_of r p.old t.old f.now)) }
 {
     let n = keys::operand(code, r.place) as usize;
     let a = r.frame;
@@ -93,9 +90,9 @@ pub fn lea(code: &[u8], cap: usize, r: Registers, f: &[u16], p: &mut [u8], t: &m
 
 // Moves the top to slot s, which has its type and keeps its type byte.
 fn assigned(cap: usize, r: Registers, s: usize, p: &mut [u8], t: &[u8]) -> Progress
-    requires { ⌜ ReadyOn cap r (now p) (now t) ⌝ }
-    requires { ⌜ r .place < r .stop ⌝ }
-    ensures { λ a. ⌜ Acts cap r a (now (p .entry)) (now (t .entry)) (now (p .exit)) (now (t .entry)) (assignedTo s) ⌝ }
+    requires ready_on { ReadyOn cap r p.old t.now }
+    requires place_lt_stop { r.place < r.stop }
+    ensures { Acts cap r result p.old t.now p.new t.now (assigned_to s) }
 {
     let h = r.height;
     if h < r.floor + 1 {
@@ -122,9 +119,9 @@ pub fn store(
     p: &mut [u8],
     t: &[u8],
 ) -> Progress
-    requires { ⌜ Ready cap r (now p) (now t) (now f) ⌝ }
-    requires { ⌜ (r .place < r .stop) × (r .place + 5 ≤ length (now code)) ⌝ }
-    ensures { λ a. ⌜ ((m : Module) → Does cap r a (now (p .entry)) (now (t .entry)) (now (f .entry)) (now (p .exit)) (now (t .entry)) (now (f .exit)) (execIn m cap (Store (word 4 (now (code .entry)) (r .place + 1))) (stateOf r (now (p .entry)) (now (t .entry)) (now (f .entry))))) ⌝ }
+    requires ready { Ready cap r p.old t.now f.old }
+    requires place_lt_stop { (r.place < r.stop) × (r.place + 5 ≤ length code.now) }
+    ensures { (m : Module) → Does cap r result p.old t.now f.old p.new t.now f.new (exec_in m cap (Store (word 4 code.now (r.place + 1))) (state_of r p.old t.now f.old)) }
 {
     let n = keys::operand(code, r.place) as usize;
     let a = r.frame;

@@ -1,24 +1,23 @@
 // Moves through a pointer: type 7 or 8, its payload the number of the slot that it names. Where that is no slot, who has the heap
 // does it.
-ghost use Prim.Native.Nat.{_<_};
-ghost use Rattle·rules.specs.Tables.{Module};
-ghost use Rattle·rules.specs.Machine.{execIn};
-ghost use Rattle·rules.specs.Stack.{slotsOf};
-ghost use Rattle·rules.specs.declared.Instruction.the-variants.{Tload, Tstore};
-ghost use Rattle·soundness.specs.Kinds.{Kinded};
-ghost use Rattle·state.specs.State.{ReadyOn, ActsOrDefers};
-use crate::exceptions::POINTER_NOTPOINTER;
-use crate::exceptions::POINTER_UNKNOWNADDRESS;
-use crate::exceptions::STACK_DIFFERENTTYPE;
-use crate::exceptions::STACK_EMPTY;
-use state::Progress;
-use state::Registers;
+ghost use Rattle.std.specs.Prelude.{◌<◌};
+ghost use Rattle.rules.specs.Tables.{Module};
+ghost use Rattle.rules.specs.Machine.{exec_in};
+ghost use Rattle.rules.specs.Stack.{slots_of};
+ghost use Rattle.rules.specs.declared.Instruction.TheVariants.{Tload, Tstore};
+ghost use Rattle.soundness.specs.Kinds.{Kinded};
+ghost use Rattle.state.specs.State.{ReadyOn, ActsOrDefers};
+
+use crate::exceptions::{
+    POINTER_NOTPOINTER, POINTER_UNKNOWNADDRESS, STACK_DIFFERENTTYPE, STACK_EMPTY,
+};
+use state::{Progress, Registers};
 
 // `tload`.
 pub fn tload(cap: usize, r: Registers, p: &mut [u8], t: &mut [u8]) -> Progress
-    requires { ⌜ ReadyOn cap r (now p) (now t) ⌝ }
-    requires { ⌜ (r .place < r .stop) × Kinded (slotsOf (now p) (now t) (r .height)) ⌝ }
-    ensures { λ a. ⌜ ((m : Module) → ActsOrDefers cap r a (now (p .entry)) (now (t .entry)) (now (p .exit)) (now (t .exit)) (execIn m cap Tload)) ⌝ }
+    requires ready_on { ReadyOn cap r p.old t.old }
+    requires place_lt_stop { (r.place < r.stop) × Kinded (slots_of p.old t.old r.height) }
+    ensures { (m : Module) → ActsOrDefers cap r result p.old t.old p.new t.new (exec_in m cap Tload) }
 {
     let h = r.height;
     if h < r.floor + 1 {
@@ -38,9 +37,9 @@ pub fn tload(cap: usize, r: Registers, p: &mut [u8], t: &mut [u8]) -> Progress
 
 // `tstore`: the pointer is under the value. The slot that it names keeps its type byte.
 pub fn tstore(cap: usize, r: Registers, p: &mut [u8], t: &[u8]) -> Progress
-    requires { ⌜ ReadyOn cap r (now p) (now t) ⌝ }
-    requires { ⌜ (r .place < r .stop) × Kinded (slotsOf (now p) (now t) (r .height)) ⌝ }
-    ensures { λ a. ⌜ ((m : Module) → ActsOrDefers cap r a (now (p .entry)) (now (t .entry)) (now (p .exit)) (now (t .entry)) (execIn m cap Tstore)) ⌝ }
+    requires ready_on { ReadyOn cap r p.old t.now }
+    requires place_lt_stop { (r.place < r.stop) × Kinded (slots_of p.old t.now r.height) }
+    ensures { (m : Module) → ActsOrDefers cap r result p.old t.now p.new t.now (exec_in m cap Tstore) }
 {
     let h = r.height;
     if h < r.floor + 2 {

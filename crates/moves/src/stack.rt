@@ -1,19 +1,16 @@
 // Instructions on the top one or two slots.
-ghost use mathlib.Core.List.{List};
-ghost use Prim.Native.Nat.{ℕ, _<_};
-ghost use Rattle·rules.specs.Tables.{Module};
-ghost use Rattle·rules.specs.Machine.{execIn};
-ghost use Rattle·rules.specs.declared.Binary.the-variants.{Swap};
-ghost use Rattle·rules.specs.declared.Unary.the-variants.{Pop, Copy};
-ghost use Rattle·rules.specs.declared.Instruction.the-variants.{One, Two};
-ghost use Rattle·state.specs.State.{ReadyOn, Acts};
-ghost use Rattle·moves·specs.specs.Moves.{pushedAt};
-use crate::exceptions::STACK_DIFFERENTTYPE;
-use crate::exceptions::STACK_EMPTY;
-use crate::exceptions::STACK_OVERFLOW;
+ghost use Rattle.std.specs.Prelude.{List, ℕ, ◌<◌};
+ghost use Rattle.rules.specs.Tables.{Module};
+ghost use Rattle.rules.specs.Machine.{exec_in};
+ghost use Rattle.rules.specs.declared.Binary.TheVariants.{Swap};
+ghost use Rattle.rules.specs.declared.Unary.TheVariants.{Pop, Copy};
+ghost use Rattle.rules.specs.declared.Instruction.TheVariants.{One, Two};
+ghost use Rattle.state.specs.State.{ReadyOn, Acts};
+ghost use Rattle.moves.specs.Moves.{pushed_at};
+
+use crate::exceptions::{STACK_DIFFERENTTYPE, STACK_EMPTY, STACK_OVERFLOW};
 use rules::Slot;
-use state::Progress;
-use state::Registers;
+use state::{Progress, Registers};
 
 // Puts a slot on the stack.
 pub(crate) fn pushed(
@@ -24,8 +21,8 @@ pub(crate) fn pushed(
     p: &mut [u8],
     t: &mut [u8],
 ) -> Progress
-    requires { ⌜ ReadyOn cap r (now p) (now t) ⌝ }
-    ensures { λ a. ⌜ Acts cap r a (now (p .entry)) (now (t .entry)) (now (p .exit)) (now (t .exit)) (pushedAt cap place v) ⌝ }
+    requires { ReadyOn cap r p.old t.old }
+    ensures { Acts cap r result p.old t.old p.new t.new (pushed_at cap place v) }
 {
     let h = r.height;
     if cap <= h {
@@ -37,8 +34,8 @@ pub(crate) fn pushed(
 
 // `pop`.
 pub fn pop(r: Registers) -> Progress
-    requires { ⌜ r .place < r .stop ⌝ }
-    ensures { λ a. ⌜ ((m : Module) (cap : ℕ) (p t : List ℕ) → Acts cap r a p t p t (execIn m cap (One Pop))) ⌝ }
+    requires { r.place < r.stop }
+    ensures { (m : Module) (cap : ℕ) (p t : List ℕ) → Acts cap r result p t p t (exec_in m cap (One Pop)) }
 {
     let h = r.height;
     if h <= r.floor {
@@ -49,9 +46,9 @@ pub fn pop(r: Registers) -> Progress
 
 // `copy`.
 pub fn copy(cap: usize, r: Registers, p: &mut [u8], t: &mut [u8]) -> Progress
-    requires { ⌜ ReadyOn cap r (now p) (now t) ⌝ }
-    requires { ⌜ r .place < r .stop ⌝ }
-    ensures { λ a. ⌜ ((m : Module) → Acts cap r a (now (p .entry)) (now (t .entry)) (now (p .exit)) (now (t .exit)) (execIn m cap (One Copy))) ⌝ }
+    requires ready_on { ReadyOn cap r p.old t.old }
+    requires place_lt_stop { r.place < r.stop }
+    ensures { (m : Module) → Acts cap r result p.old t.old p.new t.new (exec_in m cap (One Copy)) }
 {
     let h = r.height;
     if h < r.floor + 1 {
@@ -63,9 +60,9 @@ pub fn copy(cap: usize, r: Registers, p: &mut [u8], t: &mut [u8]) -> Progress
 
 // `swap`. The type bytes are alike and stay.
 pub fn swap(cap: usize, r: Registers, p: &mut [u8], t: &[u8]) -> Progress
-    requires { ⌜ ReadyOn cap r (now p) (now t) ⌝ }
-    requires { ⌜ r .place < r .stop ⌝ }
-    ensures { λ a. ⌜ ((m : Module) → Acts cap r a (now (p .entry)) (now (t .entry)) (now (p .exit)) (now (t .entry)) (execIn m cap (Two Swap))) ⌝ }
+    requires ready_on { ReadyOn cap r p.old t.now }
+    requires place_lt_stop { r.place < r.stop }
+    ensures { (m : Module) → Acts cap r result p.old t.now p.new t.now (exec_in m cap (Two Swap)) }
 {
     let h = r.height;
     if h < r.floor + 2 {

@@ -1,46 +1,46 @@
 -- Where bodies start and end, and their function records in the file.
-use Prim.Native.Nat.{ℕ, _+_, _*_, _<_}
-use mathlib.Core.Path.{_≡_, refl, ap, _∙_, sym, subst}
+use Prim.Native.Nat.{ℕ, ◌+◌, ◌*◌, ◌<◌}
+use mathlib.Core.Path.{◌≡◌, refl, ap, ◌∙◌, sym, subst}
 use native.Mathlib.Omega.{arith}
 use mathlib.Core.List.{List}
-use Rattle·rules.specs.Bytes.{word}
-use Rattle·rules.specs.Tables.{functionCount, functionAt, entry, fn, bodyOf, bodyStart, bodyEnd}
-use Rattle·rules.specs.ModuleFile.{edition, bodiesIn, functionsIn}
-use Rattle·format.specs.declared.Sections.{Sections}
-use Rattle·format.specs.Layout.{Packed}
-use Rattle·soundness.specs.Tests.{eqb-other}
-use Rattle·soundness.specs.Readable.{Has}
-use Rattle·reader.proofs.Records.{function-count, function-first, function-word}
+use Rattle.rules.specs.Bytes.{word}
+use Rattle.rules.specs.Tables.{function_count, function_at, entry, fn, body_of, body_start, body_end}
+use Rattle.rules.specs.ModuleFile.{edition, bodies_in, functions_in}
+use Rattle.format.specs.declared.Sections.{Sections}
+use Rattle.format.specs.Layout.{Packed}
+use Rattle.soundness.specs.Tests.{eqb_other}
+use Rattle.soundness.specs.Readable.{Has}
+use Rattle.reader.proofs.Records.{function_count_lem, function_first, function_word}
 
-pub is-entry : (owner : ℕ) → owner ≡ 0xffffffff → bodyOf owner ≡ entry
-is-entry owner e = rw e refl
+pub is_entry : (owner : ℕ) → owner ≡ 0xffffffff → body_of owner ≡ entry
+is_entry owner e = rw e refl
 
-pub is-function : (owner : ℕ) → (owner ≡ 0xffffffff → ⊥) → bodyOf owner ≡ fn owner
-is-function owner n = rw (eqb-other owner 0xffffffff n) refl
+pub is_function : (owner : ℕ) → (owner ≡ 0xffffffff → ⊥) → body_of owner ≡ fn owner
+is_function owner n = rw (eqb_other owner 0xffffffff n) refl
 
 module _ (s : List ℕ) (c : Sections) (p : Packed s c) (owner : ℕ) where
-  pub entry-end : owner ≡ 0xffffffff → c .entry ≡ bodyEnd (bodiesIn s) (bodyOf owner)
-  entry-end e = p .entry-is ∙ ap (bodyEnd (bodiesIn s)) (sym (is-entry owner e))
+  pub entry_end_lem : owner ≡ 0xffffffff → c.entry ≡ body_end (bodies_in s) (body_of owner)
+  entry_end_lem e = p.entry_is ∙ ap (body_end (bodies_in s)) (sym (is_entry owner e))
 
-  pub entry-start : owner ≡ 0xffffffff → 0 ≡ bodyStart (bodiesIn s) (bodyOf owner)
-  entry-start e = ap (bodyStart (bodiesIn s)) (sym (is-entry owner e))
+  pub entry_start : owner ≡ 0xffffffff → 0 ≡ body_start (bodies_in s) (body_of owner)
+  entry_start e = ap (body_start (bodies_in s)) (sym (is_entry owner e))
 
-  module _ (has : Has (bodiesIn s) (bodyOf owner)) (other : owner ≡ 0xffffffff → ⊥) where
-    pub function-there : owner < functionCount (edition s) (functionsIn s)
-    function-there = subst (Has (bodiesIn s)) (is-function owner other) has
+  module _ (has : Has (bodies_in s) (body_of owner)) (other : owner ≡ 0xffffffff → ⊥) where
+    pub function_there : owner < function_count (edition s) (functions_in s)
+    function_there = subst (Has (bodies_in s)) (is_function owner other) has
 
-    pub function-number : owner < c .functions
-    function-number = omega (arith, function-there, function-count s c p)
+    pub function_number : owner < c.functions
+    function_number = omega (arith, function_there, function_count_lem s c p)
 
-    pub function-end : (a l : ℕ) → a ≡ word 4 s (c .records + c .stride * owner) → l ≡ word 4 s (c .records + c .stride * owner + 4) → a + l ≡ bodyEnd (bodiesIn s) (bodyOf owner)
-    function-end a l u v =
-        let fs : List ℕ = functionsIn s in
-        let at : c .stride * owner ≡ functionAt (edition s) owner = ap (λ (n : ℕ). n * owner) (p .stride-is) in
-        let x : a ≡ word 4 fs (functionAt (edition s) owner) = u ∙ sym (function-first s c p owner function-number) ∙ ap (word 4 fs) at in
-        let y : l ≡ word 4 fs (functionAt (edition s) owner + 4) = v ∙ sym (function-word s c p owner 4 function-number (omega arith)) ∙ ap (λ (n : ℕ). word 4 fs (n + 4)) at in
-        ap (λ (n : ℕ). n + l) x ∙ ap (λ (n : ℕ). word 4 fs (functionAt (edition s) owner) + n) y ∙ ap (bodyEnd (bodiesIn s)) (sym (is-function owner other))
+    pub function_end : (a l : ℕ) → a ≡ word 4 s (c.records + c.stride * owner) → l ≡ word 4 s (c.records + c.stride * owner + 4) → a + l ≡ body_end (bodies_in s) (body_of owner)
+    function_end a l u v =
+        let fs : List ℕ = functions_in s in
+        let at : c.stride * owner ≡ function_at (edition s) owner = ap (λ (n : ℕ). n * owner) p.stride_is in
+        let x : a ≡ word 4 fs (function_at (edition s) owner) = u ∙ sym (function_first s c p owner function_number) ∙ ap (word 4 fs) at in
+        let y : l ≡ word 4 fs (function_at (edition s) owner + 4) = v ∙ sym (function_word s c p owner 4 function_number (omega arith)) ∙ ap (λ (n : ℕ). word 4 fs (n + 4)) at in
+        ap (λ (n : ℕ). n + l) x ∙ ap (λ (n : ℕ). word 4 fs (function_at (edition s) owner) + n) y ∙ ap (body_end (bodies_in s)) (sym (is_function owner other))
 
-    pub function-start : (a : ℕ) → a ≡ word 4 s (c .records + c .stride * owner) → a ≡ bodyStart (bodiesIn s) (bodyOf owner)
-    function-start a u =
-        u ∙ sym (function-first s c p owner function-number) ∙ ap (λ (n : ℕ). word 4 (functionsIn s) (n * owner)) (p .stride-is)
-        ∙ ap (bodyStart (bodiesIn s)) (sym (is-function owner other))
+    pub function_start : (a : ℕ) → a ≡ word 4 s (c.records + c.stride * owner) → a ≡ body_start (bodies_in s) (body_of owner)
+    function_start a u =
+        u ∙ sym (function_first s c p owner function_number) ∙ ap (λ (n : ℕ). word 4 (functions_in s) (n * owner)) p.stride_is
+        ∙ ap (body_start (bodies_in s)) (sym (is_function owner other))

@@ -1,76 +1,76 @@
 -- Loops over the bytes of a record: copied, compared, zeroed; and the other records of the room.
-use Prim.Native.Nat.{ℕ, zero, suc, _+_, _*_, _-_, _/_, _≤_, _<_}
-use mathlib.Core.Path.{_≡_, refl, ap, _∙_, sym}
-use mathlib.Core.Bool.{Bool, true, false, _&&_}
-use mathlib.Core.List.{List, _++_, append-assoc, append-nil}
-use mathlib.Core.Logic.{_≢_}
+use Prim.Native.Nat.{ℕ, zero, suc, ◌+◌, ◌*◌, ◌-◌, ◌/◌, ◌≤◌, ◌<◌}
+use mathlib.Core.Path.{◌≡◌, refl, ap, ◌∙◌, sym}
+use mathlib.Core.Bool.{Bool, true, false, ◌&&◌}
+use mathlib.Core.List.{List, ◌++◌, append_assoc, append-nil}
+use mathlib.Core.Logic.{◌≢◌}
 use native.Mathlib.Numerals.{add-one}
 use native.Mathlib.Omega.{arith}
-use lib.ListN.{getD, length, take, drop, set, replicate, length-drop, length-replicate, take-append-drop}
-use lib.Seq.{paste, paste-suc, length-paste, take-take, take-add, ext-getD, length-take-le, take-length, drop-length, getD-take, getD-drop, drop-drop, drop-paste, drop-at, take-at, drop-append-le, take-append-le}
+use lib.ListN.{get_or, length, take, drop, set, replicate, length-drop, length-replicate, take-append-drop}
+use lib.Seq.{paste, paste-suc, length-paste, take-take, take-add, ext_get_or, length-take-le, take-length, drop-length, get_or-take, get_or-drop, drop-drop, drop-paste, drop_at, take_at, drop-append-le, take-append-le}
 use lib.Dec.{eqb, ltb}
-use Rattle·rules.specs.Bytes.{number, word, written}
-use Rattle·memory.proofs.Copies.{paste-word}
-use Rattle·soundness.specs.Tests.{decide, false-true, eqb-is, eqb-isnt, ltb-is, ltb-isnt}
-use Rattle·nodes·specs.specs.Nodes.{recordOf}
+use Rattle.rules.specs.Bytes.{number, word, written}
+use Rattle.memory.proofs.Copies.{paste_word}
+use Rattle.soundness.specs.Tests.{decide, false_true, eqb_is, eqb_isnt, ltb_is, ltb_isnt}
+use Rattle.nodes.specs.Nodes.{record_of}
 
-pub length-part : (room : List ℕ) (at : ℕ) → at + 64 ≤ length room → length (take 64 (drop at room)) ≡ 64
-length-part room at h = let e : length (drop at room) ≡ length room - at = length-drop at room in length-take-le 64 (drop at room) (omega arith)
+pub length_part : (room : List ℕ) (at : ℕ) → at + 64 ≤ length room → length (take 64 (drop at room)) ≡ 64
+length_part room at h = let e : length (drop at room) ≡ length room - at = length-drop at room in length-take-le 64 (drop at room) (omega arith)
 
 -- ---- compared
 
 -- what i turns of the comparison say
 pub record Compared (room st : List ℕ) (at i : ℕ) (same : Bool) : Type 0 where
-  pub alike : same ≡ true → (j : ℕ) → j < i → getD room (at + j) 0 ≡ getD st j 0
-  pub apart : same ≡ false → (j : ℕ) × (j < i) × (getD room (at + j) 0 ≢ getD st j 0)
+  pub alike : same ≡ true → (j : ℕ) → j < i → get_or room (at + j) 0 ≡ get_or st j 0
+  pub apart : same ≡ false → (j : ℕ) × (j < i) × (get_or room (at + j) 0 ≢ get_or st j 0)
 
-pub compare-none : (room st : List ℕ) (at : ℕ) → Compared room st at 0 true
-compare-none room st at = record { alike = λ e j h. absurd (omega arith); apart = λ e. false-true (sym e) }
+pub compare_none : (room st : List ℕ) (at : ℕ) → Compared room st at 0 true
+compare_none room st at = record { alike = λ e j h. absurd (omega arith); apart = λ e. false_true (sym e) }
 
-pub compare-more : (room st : List ℕ) (at i : ℕ) (same : Bool) → Compared room st at i same → Compared room st at (i + 1) (same && eqb (getD room (at + i) 0) (getD st i 0))
-compare-more room st at i false c = record { alike = λ e j h. false-true e; apart = λ e. let x : (j : ℕ) × (j < i) × (getD room (at + j) 0 ≢ getD st j 0) = c .apart refl in (x .0, (let y : x .0 < i = x .1 in omega arith), x .2) }
-compare-more room st at i true c =
+pub compare_more : (room st : List ℕ) (at i : ℕ) (same : Bool) → Compared room st at i same → Compared room st at (i + 1) (same && eqb (get_or room (at + i) 0) (get_or st i 0))
+compare_more room st at i false c = record { alike = λ e j h. false_true e; apart = λ e. let x : (j : ℕ) × (j < i) × (get_or room (at + j) 0 ≢ get_or st j 0) = c.apart refl in (x.0, (let y : x.0 < i = x.1 in omega arith), x.2) }
+compare_more room st at i true c =
     record {
-      alike = λ e j h. decide (ltb j i) (λ y. c .alike refl j (ltb-is j i y)) (λ y. let w : i ≤ j = ltb-isnt j i y in let q : j ≡ i = omega arith in rw q (eqb-is (getD room (at + i) 0) (getD st i 0) e));
-      apart = λ e. (i, omega arith, eqb-isnt (getD room (at + i) 0) (getD st i 0) e);
+      alike = λ e j h. decide (ltb j i) (λ y. c.alike refl j (ltb_is j i y)) (λ y. let w : i ≤ j = ltb_isnt j i y in let q : j ≡ i = omega arith in rw q (eqb_is (get_or room (at + i) 0) (get_or st i 0) e));
+      apart = λ e. (i, omega arith, eqb_isnt (get_or room (at + i) 0) (get_or st i 0) e);
     }
 
-pub same-bytes : (room st : List ℕ) (at i : ℕ) → 64 ≤ i → at + 64 ≤ length room → length st ≡ 64 → Compared room st at i true → take 64 (drop at room) ≡ st
-same-bytes room st at i g h l c =
-    ext-getD 0 (take 64 (drop at room)) st (length-part room at h ∙ sym l)
-    (λ j b. let e : length (take 64 (drop at room)) ≡ 64 = length-part room at h in getD-take 64 (drop at room) j 0 (omega arith) ∙ getD-drop at room j 0 ∙ c .alike refl j (omega arith))
+pub same_bytes : (room st : List ℕ) (at i : ℕ) → 64 ≤ i → at + 64 ≤ length room → length st ≡ 64 → Compared room st at i true → take 64 (drop at room) ≡ st
+same_bytes room st at i g h l c =
+    ext_get_or 0 (take 64 (drop at room)) st (length_part room at h ∙ sym l)
+    (λ j b. let e : length (take 64 (drop at room)) ≡ 64 = length_part room at h in get_or-take 64 (drop at room) j 0 (omega arith) ∙ get_or-drop at room j 0 ∙ c.alike refl j (omega arith))
 
-pub other-bytes : (room st : List ℕ) (at i : ℕ) → i ≤ 64 → Compared room st at i false → take 64 (drop at room) ≡ st → ⊥
-other-bytes room st at i g c e =
-    let x : (j : ℕ) × (j < i) × (getD room (at + j) 0 ≢ getD st j 0) = c .apart refl in
-    let b : x .0 < i = x .1 in
-    x .2 (sym (getD-take 64 (drop at room) (x .0) 0 (omega arith) ∙ getD-drop at room (x .0) 0) ∙ ap (λ (y : List ℕ). getD y (x .0) 0) e)
+pub other_bytes : (room st : List ℕ) (at i : ℕ) → i ≤ 64 → Compared room st at i false → take 64 (drop at room) ≡ st → ⊥
+other_bytes room st at i g c e =
+    let x : (j : ℕ) × (j < i) × (get_or room (at + j) 0 ≢ get_or st j 0) = c.apart refl in
+    let b : x.0 < i = x.1 in
+    x.2 (sym (get_or-take 64 (drop at room) x.0 0 (omega arith) ∙ get_or-drop at room x.0 0) ∙ ap (λ (y : List ℕ). get_or y x.0 0) e)
 
 -- ---- copied by numbers of eight bytes
 
-pub save-more : (room st : List ℕ) (at i : ℕ) → ((j : ℕ) → getD st j 0 < 256) → i < 64 → 8 * (i / 8) ≡ i → at + 64 ≤ length room → length st ≡ 64 → (room′ : List ℕ) (w : ℕ)
-    → w ≡ word 8 st i → room′ ≡ written 8 (paste room at st i) (at + i) w → room′ ≡ paste room at st (i + 8)
-save-more room st at i small h m g l room′ w e r =
-    r ∙ ap (λ (x : ℕ). written 8 (paste room at st i) (at + i) x) e ∙ paste-word room at st small 8 i (omega arith) (omega arith)
+pub save_more : (room st : List ℕ) (at i : ℕ) → ((j : ℕ) → get_or st j 0 < 256) → i < 64 → 8 * (i / 8) ≡ i → at + 64 ≤ length room → length st ≡ 64 → (room' : List ℕ) (w : ℕ)
+    → w ≡ word 8 st i → room' ≡ written 8 (paste room at st i) (at + i) w → room' ≡ paste room at st (i + 8)
+save_more room st at i small h m g l room' w e r =
+    r ∙ ap (λ (x : ℕ). written 8 (paste room at st i) (at + i) x) e ∙ paste_word room at st small 8 i (omega arith) (omega arith)
 
-pub pasted-long : (d s : List ℕ) (at i : ℕ) (d′ : List ℕ) → at + 64 ≤ length d → 64 ≤ length s → i ≤ 64 → d′ ≡ paste d at s i → length d′ ≡ length d
-pasted-long d s at i d′ h l m e = ap length e ∙ length-paste d at s i (omega arith) (omega arith)
+pub pasted_long : (d s : List ℕ) (at i : ℕ) (d' : List ℕ) → at + 64 ≤ length d → 64 ≤ length s → i ≤ 64 → d' ≡ paste d at s i → length d' ≡ length d
+pasted_long d s at i d' h l m e = ap length e ∙ length-paste d at s i (omega arith) (omega arith)
 
 -- a number of the room is one of what lies from a byte on
-part-word : (room : List ℕ) (at i : ℕ) → word 8 room (at + i) ≡ word 8 (drop at room) i
+part_word : (room : List ℕ) (at i : ℕ) → word 8 room (at + i) ≡ word 8 (drop at room) i
 unfolding word
-part-word room at i = ap (λ (x : List ℕ). number (take 8 x)) (sym (drop-drop i at room))
+part_word room at i = ap (λ (x : List ℕ). number (take 8 x)) (sym (drop-drop i at room))
 
-pub load-more : (d room : List ℕ) (at i : ℕ) → ((j : ℕ) → getD room j 0 < 256) → i < 64 → 8 * (i / 8) ≡ i → at + 64 ≤ length room → length d ≡ 64 → (d′ : List ℕ) (w : ℕ)
-    → w ≡ word 8 room (at + i) → d′ ≡ written 8 (paste d 0 (drop at room) i) i w → d′ ≡ paste d 0 (drop at room) (i + 8)
-load-more d room at i small h m g l d′ w e r =
+pub load_more : (d room : List ℕ) (at i : ℕ) → ((j : ℕ) → get_or room j 0 < 256) → i < 64 → 8 * (i / 8) ≡ i → at + 64 ≤ length room → length d ≡ 64 → (d' : List ℕ) (w : ℕ)
+    → w ≡ word 8 room (at + i) → d' ≡ written 8 (paste d 0 (drop at room) i) i w → d' ≡ paste d 0 (drop at room) (i + 8)
+load_more d room at i small h m g l d' w e r =
     let z : 0 + i ≡ i = omega arith in
     let k : length (drop at room) ≡ length room - at = length-drop at room in
-    r ∙ ap (λ (x : ℕ). written 8 (paste d 0 (drop at room) i) x w) (sym z) ∙ ap (λ (x : ℕ). written 8 (paste d 0 (drop at room) i) (0 + i) x) (e ∙ part-word room at i)
-    ∙ paste-word d 0 (drop at room) (λ j. rw (getD-drop at room j 0) (small (at + j))) 8 i (omega arith) (omega arith)
+    r ∙ ap (λ (x : ℕ). written 8 (paste d 0 (drop at room) i) x w) (sym z) ∙ ap (λ (x : ℕ). written 8 (paste d 0 (drop at room) i) (0 + i) x) (e ∙ part_word room at i)
+    ∙ paste_word d 0 (drop at room) (λ j. rw (get_or-drop at room j 0) (small (at + j))) 8 i (omega arith) (omega arith)
 
-pub load-end : (d room : List ℕ) (at i : ℕ) → length d ≡ 64 → i ≡ 64 → paste d 0 (drop at room) i ≡ take 64 (drop at room)
-load-end d room at i h e =
+pub load_end : (d room : List ℕ) (at i : ℕ) → length d ≡ 64 → i ≡ 64 → paste d 0 (drop at room) i ≡ take 64 (drop at room)
+load_end d room at i h e =
     let z : 0 + i ≡ length d = omega arith in
     ap (λ (k : ℕ). take i (drop at room) ++ drop k d) z
     ∙ ap (λ (x : List ℕ). take i (drop at room) ++ x) (drop-length d)
@@ -79,16 +79,16 @@ load-end d room at i h e =
 
 -- ---- zeroed
 
-pub zeros-at : (n j : ℕ) → _≡_ {A = ℕ} (getD (replicate n 0) j 0) 0
-zeros-at zero j = refl
-zeros-at (suc n) zero = refl
-zeros-at (suc n) (suc j) = zeros-at n j
+pub zeros_at : (n j : ℕ) → ◌≡◌ {A = ℕ} (get_or (replicate n 0) j 0) 0
+zeros_at zero j = refl
+zeros_at (suc n) zero = refl
+zeros_at (suc n) (suc j) = zeros_at n j
 
-pub zero-more : (d : List ℕ) (at n i : ℕ) → i < n → at + i < length d → set (paste d at (replicate n 0) i) (at + i) 0 ≡ paste d at (replicate n 0) (i + 1)
-zero-more d at n i h g =
+pub zero_more : (d : List ℕ) (at n i : ℕ) → i < n → at + i < length d → set (paste d at (replicate n 0) i) (at + i) 0 ≡ paste d at (replicate n 0) (i + 1)
+zero_more d at n i h g =
     let z : List ℕ = replicate n 0 in
     let e : length z ≡ n = length-replicate n 0 in
-    rw add-one (ap (λ (x : ℕ). set (paste d at z i) (at + i) x) (sym (zeros-at n i)) ∙ paste-suc d at z i 0 g (omega arith))
+    rw add-one (ap (λ (x : ℕ). set (paste d at z i) (at + i) x) (sym (zeros_at n i)) ∙ paste-suc d at z i 0 g (omega arith))
 
 pub cleared : (d : List ℕ) (n : ℕ) → paste d 0 (replicate n 0) n ≡ replicate n 0 ++ drop n d
 cleared d n =
@@ -101,8 +101,8 @@ cleared d n =
 
 module _ (room st : List ℕ) (at : ℕ) (h : at + 64 ≤ length room) (l : length st ≡ 64) where
   -- behind it
-  pub drop-past : (k : ℕ) → at + 64 ≤ k → drop k (paste room at st 64) ≡ drop k room
-  drop-past k g =
+  pub drop_past : (k : ℕ) → at + 64 ≤ k → drop k (paste room at st 64) ≡ drop k room
+  drop_past k g =
       let e : at + 64 + (k - (at + 64)) ≡ k = omega arith in
       let p : List ℕ = paste room at st 64 in
       ap (λ (j : ℕ). drop j p) (sym e) ∙ sym (drop-drop (k - (at + 64)) (at + 64) p)
@@ -110,47 +110,47 @@ module _ (room st : List ℕ) (at : ℕ) (h : at + 64 ≤ length room) (l : leng
       ∙ drop-drop (k - (at + 64)) (at + 64) room ∙ ap (λ (j : ℕ). drop j room) e
 
   -- its own bytes written there change nothing
-  pub part-kept : st ≡ take 64 (drop at room) → paste room at st 64 ≡ room
-  part-kept e =
+  pub part_kept : st ≡ take 64 (drop at room) → paste room at st 64 ≡ room
+  part_kept e =
       let k : length (drop at room) ≡ length room - at = length-drop at room in
       ap (λ (x : List ℕ). take at room ++ take 64 x ++ drop (at + 64) room) e
       ∙ ap (λ (x : List ℕ). take at room ++ x ++ drop (at + 64) room) (take-take 64 64 (drop at room) (omega arith))
       ∙ ap (λ (x : List ℕ). x ++ drop (at + 64) room) (sym (take-add at 64 room))
       ∙ take-append-drop (at + 64) room
 
-  in-head : (a b : List ℕ) (k m : ℕ) → k + m ≤ length a → take m (drop k (a ++ b)) ≡ take m (drop k a)
-  in-head a b k m g =
+  in_head : (a b : List ℕ) (k m : ℕ) → k + m ≤ length a → take m (drop k (a ++ b)) ≡ take m (drop k a)
+  in_head a b k m g =
       let e : length (drop k a) ≡ length a - k = length-drop k a in
       ap (take m) (drop-append-le k a b (omega arith)) ∙ take-append-le m (drop k a) b (omega arith)
 
   -- before it
-  pub part-before : (k : ℕ) → k + 64 ≤ at → take 64 (drop k (paste room at st 64)) ≡ take 64 (drop k room)
-  part-before k g =
+  pub part_before : (k : ℕ) → k + 64 ≤ at → take 64 (drop k (paste room at st 64)) ≡ take 64 (drop k room)
+  part_before k g =
       let a : List ℕ = take at room in
       let e : length a ≡ at = length-take-le at room (omega arith) in
-      ap (λ (x : List ℕ). take 64 (drop k x)) (append-assoc a (take 64 st) (drop (at + 64) room))
-      ∙ in-head a (take 64 st ++ drop (at + 64) room) k 64 (omega arith)
-      ∙ sym (in-head a (drop at room) k 64 (omega arith))
+      ap (λ (x : List ℕ). take 64 (drop k x)) (append_assoc a (take 64 st) (drop (at + 64) room))
+      ∙ in_head a (take 64 st ++ drop (at + 64) room) k 64 (omega arith)
+      ∙ sym (in_head a (drop at room) k 64 (omega arith))
       ∙ ap (λ (x : List ℕ). take 64 (drop k x)) (take-append-drop at room)
 
-  pub part-same : take 64 (drop at (paste room at st 64)) ≡ st
-  part-same =
+  pub part_same : take 64 (drop at (paste room at st 64)) ≡ st
+  part_same =
       let a : List ℕ = take at room in
       let e : length a ≡ at = length-take-le at room (omega arith) in
       let w : take 64 st ≡ st = ap (λ (k : ℕ). take k st) (sym l) ∙ take-length st in
-      ap (λ (x : List ℕ). take 64 (drop at x)) (append-assoc a (take 64 st) (drop (at + 64) room))
-      ∙ ap (take 64) (drop-at a (take 64 st ++ drop (at + 64) room) at e)
+      ap (λ (x : List ℕ). take 64 (drop at x)) (append_assoc a (take 64 st) (drop (at + 64) room))
+      ∙ ap (take 64) (drop_at a (take 64 st ++ drop (at + 64) room) at e)
       ∙ ap (λ (x : List ℕ). take 64 (x ++ drop (at + 64) room)) w
-      ∙ take-at st (drop (at + 64) room) 64 l
+      ∙ take_at st (drop (at + 64) room) 64 l
 
 -- other records stay
-pub record-other : (room st : List ℕ) (k j : ℕ) → 64 * k + 64 ≤ length room → length st ≡ 64 → j ≢ k → recordOf (paste room (64 * k) st 64) j ≡ recordOf room j
-record-other room st k j h l ne =
-    decide (ltb j k) (λ y. let g : j < k = ltb-is j k y in part-before room st (64 * k) h l (64 * j) (omega arith))
-    (λ y. let g : k ≤ j = ltb-isnt j k y in ap (take 64) (drop-past room st (64 * k) h l (64 * j) (let q : k < j = later g in omega arith)))
+pub record_other : (room st : List ℕ) (k j : ℕ) → 64 * k + 64 ≤ length room → length st ≡ 64 → j ≢ k → record_of (paste room (64 * k) st 64) j ≡ record_of room j
+record_other room st k j h l ne =
+    decide (ltb j k) (λ y. let g : j < k = ltb_is j k y in part_before room st (64 * k) h l (64 * j) (omega arith))
+    (λ y. let g : k ≤ j = ltb_isnt j k y in ap (take 64) (drop_past room st (64 * k) h l (64 * j) (let q : k < j = later g in omega arith)))
   where
     later : k ≤ j → k < j
-    later g = decide (ltb k j) (λ y. ltb-is k j y) (λ y. let w : j ≤ k = ltb-isnt k j y in absurd (ne (omega arith)))
+    later g = decide (ltb k j) (λ y. ltb_is k j y) (λ y. let w : j ≤ k = ltb_isnt k j y in absurd (ne (omega arith)))
 
 pub positive : (n : ℕ) → (n ≡ 0 → ⊥) → 0 < n
 positive zero h = absurd (h refl)

@@ -1,218 +1,218 @@
 -- The record of a body's start.
-use Prim.Native.Nat.{ℕ, zero, suc, _+_, _*_, _≤_, _<_}
-use mathlib.Core.Path.{_≡_, refl, ap, _∙_, sym, subst}
-use mathlib.Core.Logic.{_≢_}
+use Prim.Native.Nat.{ℕ, zero, suc, ◌+◌, ◌*◌, ◌≤◌, ◌<◌}
+use mathlib.Core.Path.{◌≡◌, refl, ap, ◌∙◌, sym, subst}
+use mathlib.Core.Logic.{◌≢◌}
 use native.Mathlib.Omega.{arith}
 use mathlib.Core.Option.{some}
-use mathlib.Core.List.{List, _++_, append-nil}
-use lib.ListN.{length, getD, set, drop, replicate, length-set}
-use lib.Seq.{paste, getD-set-same, getD-set-other, drop-length}
+use mathlib.Core.List.{List, ◌++◌, append-nil}
+use lib.ListN.{length, get_or, set, drop, replicate, length-set}
+use lib.Seq.{paste, get_or-set_same, get_or-set_other, drop-length}
 use lib.Dec.{eqb, ltb}
-use Rattle·rules.specs.Bytes.{byte}
-use Rattle·rules.specs.Instructions.{Ty, tyOf}
-use Rattle·rules.specs.Tables.{functionCount, functionAt, functionOf, Body, fn, bodyOf, bodyStart, paramsFrom, moduleOf}
-use Rattle·rules.specs.ModuleFile.{edition, refusal, functions, read, bodiesIn, functionsIn}
-use Rattle·rules.specs.Typing.{startOf}
-use Rattle·format.specs.declared.Sections.{Sections}
-use Rattle·format.specs.Layout.{Packed}
-use Rattle·soundness.specs.Tests.{decide, eqb-is, eqb-isnt, ltb-is, ltb-isnt, ltb-yes}
-use Rattle·soundness.specs.Readable.{Has, few-parameters, parameter-type, unused-parameter}
-use Rattle·soundness.specs.Cutting.{functions-good}
-use Rattle·reader.proofs.Records.{function-byte}
-use Rattle·records.specs.Record.{listsOf, IsType, Holds}
-use Rattle·nodes·specs.specs.Nodes.{Copied, Seeded}
-use Rattle·nodes·proofs.proofs.Copies.{zeros-at, cleared}
-use Rattle·nodes·proofs.proofs.Bounds.{is-entry, is-function, function-there, function-number}
+use Rattle.rules.specs.Bytes.{byte}
+use Rattle.rules.specs.Instructions.{Ty, ty_of}
+use Rattle.rules.specs.Tables.{function_count, function_at, function_of, Body, fn, body_of, body_start, params_from, module_of}
+use Rattle.rules.specs.ModuleFile.{edition, refusal, functions, read, bodies_in, functions_in}
+use Rattle.rules.specs.Typing.{start_of}
+use Rattle.format.specs.declared.Sections.{Sections}
+use Rattle.format.specs.Layout.{Packed}
+use Rattle.soundness.specs.Tests.{decide, eqb_is, eqb_isnt, ltb_is, ltb_isnt, ltb_yes}
+use Rattle.soundness.specs.Readable.{Has, few_parameters, parameter_type, unused_parameter}
+use Rattle.soundness.specs.Cutting.{functions_good}
+use Rattle.reader.proofs.Records.{function_byte}
+use Rattle.records.specs.Record.{lists_of, IsType, Holds}
+use Rattle.nodes.specs.Nodes.{Copied, Seeded}
+use Rattle.nodes.proofs.Copies.{zeros_at, cleared}
+use Rattle.nodes.proofs.Bounds.{is_entry, is_function, function_there, function_number}
 
 -- ---- the parameters copied
 
-pub copied-none : (s : List ℕ) (at : ℕ) (st : List ℕ) → Copied s at 0 st st
-copied-none s at st = record { long = refl; copied = λ j h. absurd (omega arith); before = λ j h. refl; behind = λ j h. refl }
+pub copied_none : (s : List ℕ) (at : ℕ) (st : List ℕ) → Copied s at 0 st st
+copied_none s at st = record { long = refl; copied = λ j h. absurd (omega arith); before = λ j h. refl; behind = λ j h. refl }
 
-pub copied-more : (s : List ℕ) (at i : ℕ) (st st′ : List ℕ) → i < 8 → length st ≡ 64 → Copied s at i st st′ → Copied s at (i + 1) st (set st′ (16 + i) (getD s (at + i) 0))
-copied-more s at i st st′ h l c =
-    let n : length st′ ≡ length st = c .long in
+pub copied_more : (s : List ℕ) (at i : ℕ) (st st' : List ℕ) → i < 8 → length st ≡ 64 → Copied s at i st st' → Copied s at (i + 1) st (set st' (16 + i) (get_or s (at + i) 0))
+copied_more s at i st st' h l c =
+    let n : length st' ≡ length st = c.long in
     record {
-      long = length-set st′ (16 + i) (getD s (at + i) 0) ∙ c .long;
+      long = length-set st' (16 + i) (get_or s (at + i) 0) ∙ c.long;
       copied = λ j m. decide (eqb j i)
-          (λ y. let e : j ≡ i = eqb-is j i y in rw e (getD-set-same st′ (16 + i) (getD s (at + i) 0) 0 (omega arith)))
-          (λ y. let ne : j ≢ i = eqb-isnt j i y in getD-set-other st′ (16 + i) (16 + j) (getD s (at + i) 0) 0 (λ z. ne (omega arith)) ∙ c .copied j (omega arith));
-      before = λ j m. getD-set-other st′ (16 + i) j (getD s (at + i) 0) 0 (λ z. omega arith) ∙ c .before j m;
-      behind = λ j m. getD-set-other st′ (16 + i) j (getD s (at + i) 0) 0 (λ z. omega arith) ∙ c .behind j (omega arith);
+          (λ y. let e : j ≡ i = eqb_is j i y in rw e (get_or-set_same st' (16 + i) (get_or s (at + i) 0) 0 (omega arith)))
+          (λ y. let ne : j ≢ i = eqb_isnt j i y in get_or-set_other st' (16 + i) (16 + j) (get_or s (at + i) 0) 0 (λ z. ne (omega arith)) ∙ c.copied j (omega arith));
+      before = λ j m. get_or-set_other st' (16 + i) j (get_or s (at + i) 0) 0 (λ z. omega arith) ∙ c.before j m;
+      behind = λ j m. get_or-set_other st' (16 + i) j (get_or s (at + i) 0) 0 (λ z. omega arith) ∙ c.behind j (omega arith);
     }
 
 -- ---- bytes
 
 -- lists that are read from the same bytes
-types-from : (r s : List ℕ) (a b n : ℕ) → ((i : ℕ) → i < n → byte r (a + i) ≡ byte s (b + i)) → paramsFrom r a n ≡ paramsFrom s b n
-types-from r s a b zero h = refl
-types-from r s a b (suc n) h =
-    let e : tyOf (byte r (a + n)) ≡ tyOf (byte s (b + n)) = ap tyOf (h n (omega arith)) in
-    let t : paramsFrom r a n ≡ paramsFrom s b n = types-from r s a b n (λ i l. h i (omega arith)) in cc
+types_from : (r s : List ℕ) (a b n : ℕ) → ((i : ℕ) → i < n → byte r (a + i) ≡ byte s (b + i)) → params_from r a n ≡ params_from s b n
+types_from r s a b zero h = refl
+types_from r s a b (suc n) h =
+    let e : ty_of (byte r (a + n)) ≡ ty_of (byte s (b + n)) = ap ty_of (h n (omega arith)) in
+    let t : params_from r a n ≡ params_from s b n = types_from r s a b n (λ i l. h i (omega arith)) in cc
 
 module _ (st : List ℕ) (l : length st ≡ 64) where
   abbrev blank : List ℕ
   blank = paste st 0 (replicate 64 0) 64
 
-  blank-is : blank ≡ replicate 64 0
-  blank-is = cleared st 64 ∙ ap (λ (x : List ℕ). replicate 64 0 ++ x) (ap (λ (n : ℕ). drop n st) (sym l) ∙ drop-length st) ∙ append-nil (replicate 64 0)
+  blank_is : blank ≡ replicate 64 0
+  blank_is = cleared st 64 ∙ ap (λ (x : List ℕ). replicate 64 0 ++ x) (ap (λ (n : ℕ). drop n st) (sym l) ∙ drop-length st) ∙ append-nil (replicate 64 0)
 
-  blank-at : (j : ℕ) → byte blank j ≡ 0
-  blank-at j = ap (λ (x : List ℕ). byte x j) blank-is ∙ zeros-at 64 j
+  blank_at : (j : ℕ) → byte blank j ≡ 0
+  blank_at j = ap (λ (x : List ℕ). byte x j) blank_is ∙ zeros_at 64 j
 
-  blank-long : length blank ≡ 64
-  blank-long = ap length blank-is
+  blank_long : length blank ≡ 64
+  blank_long = ap length blank_is
 
-  given-at : byte (set blank 0 1) 0 ≡ 1
-  given-at = let z : length blank ≡ 64 = blank-long in getD-set-same blank 0 1 0 (omega arith)
+  given_at_lem : byte (set blank 0 1) 0 ≡ 1
+  given_at_lem = let z : length blank ≡ 64 = blank_long in get_or-set_same blank 0 1 0 (omega arith)
 
-  else-at : (j : ℕ) → 0 < j → byte (set blank 0 1) j ≡ 0
-  else-at j h = getD-set-other blank 0 j 1 0 (λ z. omega arith) ∙ blank-at j
+  else_at : (j : ℕ) → 0 < j → byte (set blank 0 1) j ≡ 0
+  else_at j h = get_or-set_other blank 0 j 1 0 (λ z. omega arith) ∙ blank_at j
 
-  given-long : length (set blank 0 1) ≡ 64
-  given-long = length-set blank 0 1 ∙ blank-long
+  given_long : length (set blank 0 1) ≡ 64
+  given_long = length-set blank 0 1 ∙ blank_long
 
   -- ---- the entry's start
 
   abbrev first : List ℕ
   first = set blank 0 1
 
-  first-holds : Holds first
-  first-holds =
-      let u : byte first 1 ≡ 0 = else-at 1 (omega arith) in
-      let v : byte first 2 ≡ 0 = else-at 2 (omega arith) in
+  first_holds : Holds first
+  first_holds =
+      let u : byte first 1 ≡ 0 = else_at 1 (omega arith) in
+      let v : byte first 2 ≡ 0 = else_at 2 (omega arith) in
       record {
-        long = given-long;
-        given = given-at;
-        few-locals = omega arith;
-        few-operands = omega arith;
-        gap = λ i h k. else-at i (omega arith);
-        local-types = λ i h. absurd (omega arith);
-        local-rest = λ i h k. else-at (16 + i) (omega arith);
-        operand-types = λ i h. absurd (omega arith);
-        operand-rest = λ i h k. else-at (32 + i) (omega arith);
+        long = given_long;
+        given = given_at_lem;
+        few_locals = omega arith;
+        few_operands = omega arith;
+        gap = λ i h k. else_at i (omega arith);
+        local_types = λ i h. absurd (omega arith);
+        local_rest = λ i h k. else_at (16 + i) (omega arith);
+        operand_types = λ i h. absurd (omega arith);
+        operand_rest = λ i h k. else_at (32 + i) (omega arith);
       }
 
-  pub seeded-entry : (s : List ℕ) (owner : ℕ) → owner ≡ 0xffffffff → Seeded s (bodyOf owner) first
-  seeded-entry s owner e =
-      subst (λ (b : Body). Seeded s b first) (sym (is-entry owner e))
+  pub seeded_entry : (s : List ℕ) (owner : ℕ) → owner ≡ 0xffffffff → Seeded s (body_of owner) first
+  seeded_entry s owner e =
+      subst (λ (b : Body). Seeded s b first) (sym (is_entry owner e))
       (record {
-        holds = first-holds;
-        starts = ap (λ (n : ℕ). some (0, paramsFrom first 16 n)) (sym (else-at 1 (omega arith)));
-        bare = ap (λ (n : ℕ). paramsFrom first 32 n) (else-at 2 (omega arith));
+        holds = first_holds;
+        starts = ap (λ (n : ℕ). some (0, params_from first 16 n)) (sym (else_at 1 (omega arith)));
+        bare = ap (λ (n : ℕ). params_from first 32 n) (else_at 2 (omega arith));
       })
 
   -- ---- a function's start
 
-  module _ (s : List ℕ) (c : Sections) (p : Packed s c) (r : refusal s ≡ 0) (owner : ℕ) (has : Has (bodiesIn s) (bodyOf owner)) (other : owner ≡ 0xffffffff → ⊥) where
+  module _ (s : List ℕ) (c : Sections) (p : Packed s c) (r : refusal s ≡ 0) (owner : ℕ) (has : Has (bodies_in s) (body_of owner)) (other : owner ≡ 0xffffffff → ⊥) where
     abbrev at : ℕ
-    at = c .records + c .stride * owner
+    at = c.records + c.stride * owner
 
     abbrev counted : List ℕ
-    counted = set first 1 (getD s (at + 8) 0)
+    counted = set first 1 (get_or s (at + 8) 0)
 
     abbrev fs : List ℕ
-    fs = functionsIn s
+    fs = functions_in s
 
-    numbered : owner < functionCount (edition s) fs
-    numbered = function-there s c p owner has other
+    numbered : owner < function_count (edition s) fs
+    numbered = function_there s c p owner has other
 
-    named : owner < c .functions
-    named = function-number s c p owner has other
+    named : owner < c.functions
+    named = function_number s c p owner has other
 
     abbrev count : ℕ
     count = byte s (at + 8)
 
-    param-count : byte fs (functionAt (edition s) owner + 8) ≡ count
-    param-count = sym (ap (λ (n : ℕ). byte fs (n * owner + 8)) (p .stride-is)) ∙ function-byte s c p owner 8 named (omega arith)
+    param_count : byte fs (function_at (edition s) owner + 8) ≡ count
+    param_count = sym (ap (λ (n : ℕ). byte fs (n * owner + 8)) p.stride_is) ∙ function_byte s c p owner 8 named (omega arith)
 
     few : count ≤ 8
-    few = subst (λ (n : ℕ). n ≤ 8) param-count (few-parameters (bodiesIn s) (functions-good s r) owner numbered)
+    few = subst (λ (n : ℕ). n ≤ 8) param_count (few_parameters (bodies_in s) (functions_good s r) owner numbered)
 
-    count-at : byte counted 1 ≡ count
-    count-at = let z : length first ≡ 64 = given-long in getD-set-same first 1 count 0 (omega arith)
+    count_at : byte counted 1 ≡ count
+    count_at = let z : length first ≡ 64 = given_long in get_or-set_same first 1 count 0 (omega arith)
 
-    counted-else : (j : ℕ) → j ≢ 1 → byte counted j ≡ byte first j
-    counted-else j n = getD-set-other first 1 j count 0 n
+    counted_else : (j : ℕ) → j ≢ 1 → byte counted j ≡ byte first j
+    counted_else j n = get_or-set_other first 1 j count 0 n
 
-    module _ (st′ : List ℕ) (d : Copied s (at + 10) 8 counted st′) where
-      locals-at : (j : ℕ) → j < 8 → byte st′ (16 + j) ≡ byte fs (functionAt (edition s) owner + 10 + j)
-      locals-at j h =
-          let a : functionAt (edition s) owner ≡ c .stride * owner = ap (λ (n : ℕ). n * owner) (sym (p .stride-is)) in
-          let q : functionAt (edition s) owner + 10 + j ≡ c .stride * owner + (10 + j) = omega arith in
+    module _ (st' : List ℕ) (d : Copied s (at + 10) 8 counted st') where
+      locals_at : (j : ℕ) → j < 8 → byte st' (16 + j) ≡ byte fs (function_at (edition s) owner + 10 + j)
+      locals_at j h =
+          let a : function_at (edition s) owner ≡ c.stride * owner = ap (λ (n : ℕ). n * owner) (sym p.stride_is) in
+          let q : function_at (edition s) owner + 10 + j ≡ c.stride * owner + (10 + j) = omega arith in
           let z : at + (10 + j) ≡ at + 10 + j = omega arith in
-          d .copied j h ∙ sym (ap (byte fs) q ∙ function-byte s c p owner (10 + j) named (omega arith) ∙ ap (byte s) z)
+          d.copied j h ∙ sym (ap (byte fs) q ∙ function_byte s c p owner (10 + j) named (omega arith) ∙ ap (byte s) z)
 
-      kept : (j : ℕ) → (j < 16) → j ≢ 1 → byte st′ j ≡ byte first j
-      kept j h n = d .before j h ∙ counted-else j n
+      kept : (j : ℕ) → (j < 16) → j ≢ 1 → byte st' j ≡ byte first j
+      kept j h n = d.before j h ∙ counted_else j n
 
-      behind : (j : ℕ) → 24 ≤ j → byte st′ j ≡ 0
-      behind j h = d .behind j (omega arith) ∙ counted-else j (λ z. omega arith) ∙ else-at j (omega arith)
+      behind : (j : ℕ) → 24 ≤ j → byte st' j ≡ 0
+      behind j h = d.behind j (omega arith) ∙ counted_else j (λ z. omega arith) ∙ else_at j (omega arith)
 
-      locals-count : byte st′ 1 ≡ count
-      locals-count = d .before 1 (omega arith) ∙ count-at
+      locals_count : byte st' 1 ≡ count
+      locals_count = d.before 1 (omega arith) ∙ count_at
 
-      operands-count : byte st′ 2 ≡ 0
-      operands-count = kept 2 (omega arith) (λ z. omega arith) ∙ else-at 2 (omega arith)
+      operands_count : byte st' 2 ≡ 0
+      operands_count = kept 2 (omega arith) (λ z. omega arith) ∙ else_at 2 (omega arith)
 
-      seed-holds : Holds st′
-      seed-holds =
-          let u : byte st′ 1 ≡ count = locals-count in
-          let v : byte st′ 2 ≡ 0 = operands-count in
+      seed_holds : Holds st'
+      seed_holds =
+          let u : byte st' 1 ≡ count = locals_count in
+          let v : byte st' 2 ≡ 0 = operands_count in
           let w : count ≤ 8 = few in
-          let x : byte fs (functionAt (edition s) owner + 8) ≡ count = param-count in
+          let x : byte fs (function_at (edition s) owner + 8) ≡ count = param_count in
           record {
-            long = d .long ∙ length-set first 1 count ∙ given-long;
-            given = kept 0 (omega arith) (λ z. omega arith) ∙ given-at;
-            few-locals = omega arith;
-            few-operands = omega arith;
-            gap = λ i h k. kept i k (λ z. omega arith) ∙ else-at i (omega arith);
-            local-types = λ i h. subst IsType (sym (locals-at i (omega arith))) (parameter-type (bodiesIn s) (functions-good s r) owner i numbered (omega arith));
-            local-rest = λ i h k. decide (ltb i 8)
-                (λ y. let z : i < 8 = ltb-is i 8 y in locals-at i z ∙ unused-parameter (bodiesIn s) (functions-good s r) owner i numbered (omega arith) z)
-                (λ y. let z : 8 ≤ i = ltb-isnt i 8 y in behind (16 + i) (omega arith));
-            operand-types = λ i h. absurd (omega arith);
-            operand-rest = λ i h k. behind (32 + i) (omega arith);
+            long = d.long ∙ length-set first 1 count ∙ given_long;
+            given = kept 0 (omega arith) (λ z. omega arith) ∙ given_at_lem;
+            few_locals = omega arith;
+            few_operands = omega arith;
+            gap = λ i h k. kept i k (λ z. omega arith) ∙ else_at i (omega arith);
+            local_types = λ i h. subst IsType (sym (locals_at i (omega arith))) (parameter_type (bodies_in s) (functions_good s r) owner i numbered (omega arith));
+            local_rest = λ i h k. decide (ltb i 8)
+                (λ y. let z : i < 8 = ltb_is i 8 y in locals_at i z ∙ unused_parameter (bodies_in s) (functions_good s r) owner i numbered (omega arith) z)
+                (λ y. let z : 8 ≤ i = ltb_isnt i 8 y in behind (16 + i) (omega arith));
+            operand_types = λ i h. absurd (omega arith);
+            operand_rest = λ i h k. behind (32 + i) (omega arith);
           }
 
-      function-starts : startOf (read s) (fn owner) ≡ some (bodyStart (bodiesIn s) (fn owner), paramsFrom fs (functionAt (edition s) owner + 10) (byte fs (functionAt (edition s) owner + 8)))
-      unfolding moduleOf functionOf
-      function-starts = rw (ltb-yes owner (functionCount (edition s) fs) numbered) refl
+      function_starts : start_of (read s) (fn owner) ≡ some (body_start (bodies_in s) (fn owner), params_from fs (function_at (edition s) owner + 10) (byte fs (function_at (edition s) owner + 8)))
+      unfolding module_of function_of
+      function_starts = rw (ltb_yes owner (function_count (edition s) fs) numbered) refl
 
-      locals-are : paramsFrom fs (functionAt (edition s) owner + 10) (byte fs (functionAt (edition s) owner + 8)) ≡ listsOf st′ .locals
-      locals-are =
-          let u : byte fs (functionAt (edition s) owner + 8) ≡ byte st′ 1 = param-count ∙ sym locals-count in
+      locals_are : params_from fs (function_at (edition s) owner + 10) (byte fs (function_at (edition s) owner + 8)) ≡ (lists_of st').locals
+      locals_are =
+          let u : byte fs (function_at (edition s) owner + 8) ≡ byte st' 1 = param_count ∙ sym locals_count in
           let w : count ≤ 8 = few in
-          let x : byte fs (functionAt (edition s) owner + 8) ≡ count = param-count in
-          types-from fs st′ (functionAt (edition s) owner + 10) 16 (byte fs (functionAt (edition s) owner + 8)) (λ i h. sym (locals-at i (omega arith)))
-          ∙ ap (λ (n : ℕ). paramsFrom st′ 16 n) u
+          let x : byte fs (function_at (edition s) owner + 8) ≡ count = param_count in
+          types_from fs st' (function_at (edition s) owner + 10) 16 (byte fs (function_at (edition s) owner + 8)) (λ i h. sym (locals_at i (omega arith)))
+          ∙ ap (λ (n : ℕ). params_from st' 16 n) u
 
-      pub seeded-function : Seeded s (bodyOf owner) st′
-      seeded-function =
-          subst (λ (b : Body). Seeded s b st′) (sym (is-function owner other))
+      pub seeded_function : Seeded s (body_of owner) st'
+      seeded_function =
+          subst (λ (b : Body). Seeded s b st') (sym (is_function owner other))
           (record {
-            holds = seed-holds;
-            starts = function-starts ∙ ap (λ (ts : List Ty). some (bodyStart (bodiesIn s) (fn owner), ts)) locals-are;
-            bare = ap (λ (n : ℕ). paramsFrom st′ 32 n) operands-count;
+            holds = seed_holds;
+            starts = function_starts ∙ ap (λ (ts : List Ty). some (body_start (bodies_in s) (fn owner), ts)) locals_are;
+            bare = ap (λ (n : ℕ). params_from st' 32 n) operands_count;
           })
 
 -- ---- as the code leaves them: z is st zeroed
 
 module _ (st z : List ℕ) (l : length st ≡ 64) (zeroed : z ≡ paste st 0 (replicate 64 0) 64) where
-  zeroed-long : length z ≡ 64
-  zeroed-long = ap length zeroed ∙ blank-long st l
+  zeroed_long : length z ≡ 64
+  zeroed_long = ap length zeroed ∙ blank_long st l
 
-  pub started-long : length (set z 0 1) ≡ 64
-  started-long = length-set z 0 1 ∙ zeroed-long
+  pub started_long : length (set z 0 1) ≡ 64
+  started_long = length-set z 0 1 ∙ zeroed_long
 
-  pub counted-long : (n : ℕ) → length (set (set z 0 1) 1 n) ≡ 64
-  counted-long n = length-set (set z 0 1) 1 n ∙ started-long
+  pub counted_long : (n : ℕ) → length (set (set z 0 1) 1 n) ≡ 64
+  counted_long n = length-set (set z 0 1) 1 n ∙ started_long
 
-  pub seed-entry : (s : List ℕ) (owner : ℕ) → owner ≡ 0xffffffff → Seeded s (bodyOf owner) (set z 0 1)
-  seed-entry s owner e = subst (λ (x : List ℕ). Seeded s (bodyOf owner) (set x 0 1)) (sym zeroed) (seeded-entry st l s owner e)
+  pub seed_entry : (s : List ℕ) (owner : ℕ) → owner ≡ 0xffffffff → Seeded s (body_of owner) (set z 0 1)
+  seed_entry s owner e = subst (λ (x : List ℕ). Seeded s (body_of owner) (set x 0 1)) (sym zeroed) (seeded_entry st l s owner e)
 
-  pub seed-function : (s : List ℕ) (c : Sections) → Packed s c → refusal s ≡ 0 → (owner : ℕ) → Has (bodiesIn s) (bodyOf owner) → (owner ≡ 0xffffffff → ⊥) → (st′ : List ℕ)
-      → Copied s (c .records + c .stride * owner + 10) 8 (set (set z 0 1) 1 (getD s (c .records + c .stride * owner + 8) 0)) st′ → Seeded s (bodyOf owner) st′
-  seed-function s c p r owner has other st′ d =
-      seeded-function st l s c p r owner has other st′
-      (subst (λ (x : List ℕ). Copied s (c .records + c .stride * owner + 10) 8 (set (set x 0 1) 1 (getD s (c .records + c .stride * owner + 8) 0)) st′) zeroed d)
+  pub seed_function : (s : List ℕ) (c : Sections) → Packed s c → refusal s ≡ 0 → (owner : ℕ) → Has (bodies_in s) (body_of owner) → (owner ≡ 0xffffffff → ⊥) → (st' : List ℕ)
+      → Copied s (c.records + c.stride * owner + 10) 8 (set (set z 0 1) 1 (get_or s (c.records + c.stride * owner + 8) 0)) st' → Seeded s (body_of owner) st'
+  seed_function s c p r owner has other st' d =
+      seeded_function st l s c p r owner has other st'
+      (subst (λ (x : List ℕ). Copied s (c.records + c.stride * owner + 10) 8 (set (set x 0 1) 1 (get_or s (c.records + c.stride * owner + 8) 0)) st') zeroed d)

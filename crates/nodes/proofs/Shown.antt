@@ -1,95 +1,95 @@
 -- The last pass, label by label.
-use Prim.Native.Nat.{ℕ, suc, _+_, _*_, _-_, _≤_, _<_}
-use mathlib.Core.Path.{_≡_, refl, ap, _∙_, sym}
-use mathlib.Core.Logic.{_≢_}
+use Prim.Native.Nat.{ℕ, suc, ◌+◌, ◌*◌, ◌-◌, ◌≤◌, ◌<◌}
+use mathlib.Core.Path.{◌≡◌, refl, ap, ◌∙◌, sym}
+use mathlib.Core.Logic.{◌≢◌}
 use native.Mathlib.Omega.{arith}
 use mathlib.Core.Bool.{cond}
 use mathlib.Core.List.{List}
-use lib.ListN.{length, getD, drop, replicate, length-replicate}
+use lib.ListN.{length, get_or, drop, replicate, length-replicate}
 use lib.Seq.{paste, length-paste}
 use lib.Dec.{eqb}
-use Rattle·rules.specs.ModuleFile.{labels}
-use Rattle·soundness.specs.Tests.{decide, eqb-is, eqb-isnt, eqb-other}
-use Rattle·nodes·specs.specs.Nodes.{placeOf, Tabled, recordOf, markOf, Fits, shownAt, Finished}
-use Rattle·nodes·proofs.proofs.Copies.{length-part, drop-past, part-kept, part-same, record-other}
+use Rattle.rules.specs.ModuleFile.{labels}
+use Rattle.soundness.specs.Tests.{decide, eqb_is, eqb_isnt, eqb_other}
+use Rattle.nodes.specs.Nodes.{place_of, Tabled, record_of, mark_of, Fits, shown_at, Finished}
+use Rattle.nodes.proofs.Copies.{length_part, drop_past, part_kept, part_same, record_other}
 
 -- ---- one label
 
-pub shows-none : (room marks : List ℕ) (k : ℕ) → markOf marks k ≡ 0 → shownAt room marks k ≡ replicate 64 0
-unfolding shownAt
-shows-none room marks k e = rw e refl
+pub shows_none : (room marks : List ℕ) (k : ℕ) → mark_of marks k ≡ 0 → shown_at room marks k ≡ replicate 64 0
+unfolding shown_at
+shows_none room marks k e = rw e refl
 
-pub shows-record : (room marks : List ℕ) (k : ℕ) → (markOf marks k ≡ 0 → ⊥) → shownAt room marks k ≡ recordOf room k
-unfolding shownAt
-shows-record room marks k n = rw (eqb-other (markOf marks k) 0 n) refl
+pub shows_record : (room marks : List ℕ) (k : ℕ) → (mark_of marks k ≡ 0 → ⊥) → shown_at room marks k ≡ record_of room k
+unfolding shown_at
+shows_record room marks k n = rw (eqb_other (mark_of marks k) 0 n) refl
 
-pub settled-none : (room marks : List ℕ) (i k : ℕ) (room′ : List ℕ) → markOf marks k ≡ 0 → room′ ≡ paste room (64 * i) (replicate 64 0) 64
-    → room′ ≡ paste room (64 * i) (shownAt room marks k) 64
-settled-none room marks i k room′ e h = h ∙ ap (λ (x : List ℕ). paste room (64 * i) x 64) (sym (shows-none room marks k e))
+pub settled_none : (room marks : List ℕ) (i k : ℕ) (room' : List ℕ) → mark_of marks k ≡ 0 → room' ≡ paste room (64 * i) (replicate 64 0) 64
+    → room' ≡ paste room (64 * i) (shown_at room marks k) 64
+settled_none room marks i k room' e h = h ∙ ap (λ (x : List ℕ). paste room (64 * i) x 64) (sym (shows_none room marks k e))
 
-pub settled-record : (room marks : List ℕ) (i k : ℕ) (st room′ : List ℕ) → (markOf marks k ≡ 0 → ⊥) → st ≡ recordOf room k → room′ ≡ paste room (64 * i) st 64
-    → room′ ≡ paste room (64 * i) (shownAt room marks k) 64
-settled-record room marks i k st room′ n e h = h ∙ ap (λ (x : List ℕ). paste room (64 * i) x 64) (e ∙ sym (shows-record room marks k n))
+pub settled_record : (room marks : List ℕ) (i k : ℕ) (st room' : List ℕ) → (mark_of marks k ≡ 0 → ⊥) → st ≡ record_of room k → room' ≡ paste room (64 * i) st 64
+    → room' ≡ paste room (64 * i) (shown_at room marks k) 64
+settled_record room marks i k st room' n e h = h ∙ ap (λ (x : List ℕ). paste room (64 * i) x 64) (e ∙ sym (shows_record room marks k n))
 
 -- a node keeps its own record
-pub settled-own : (room marks : List ℕ) (i k : ℕ) → 64 * i + 64 ≤ length room → (markOf marks k ≡ 0 → ⊥) → k ≡ i → room ≡ paste room (64 * i) (shownAt room marks k) 64
-settled-own room marks i k h n e =
-    let q : shownAt room marks k ≡ recordOf room i = shows-record room marks k n ∙ ap (recordOf room) e in
-    sym (ap (λ (x : List ℕ). paste room (64 * i) x 64) q ∙ part-kept room (recordOf room i) (64 * i) h (length-part room (64 * i) h) refl)
+pub settled_own : (room marks : List ℕ) (i k : ℕ) → 64 * i + 64 ≤ length room → (mark_of marks k ≡ 0 → ⊥) → k ≡ i → room ≡ paste room (64 * i) (shown_at room marks k) 64
+settled_own room marks i k h n e =
+    let q : shown_at room marks k ≡ record_of room i = shows_record room marks k n ∙ ap (record_of room) e in
+    sym (ap (λ (x : List ℕ). paste room (64 * i) x 64) q ∙ part_kept room (record_of room i) (64 * i) h (length_part room (64 * i) h) refl)
 
-shown-long : (room marks : List ℕ) (k : ℕ) → 64 * k + 64 ≤ length room → length (shownAt room marks k) ≡ 64
-shown-long room marks k h =
-    decide (eqb (markOf marks k) 0) (λ y. ap length (shows-none room marks k (eqb-is (markOf marks k) 0 y)) ∙ length-replicate {A = ℕ} 64 0)
-    (λ y. ap length (shows-record room marks k (eqb-isnt (markOf marks k) 0 y)) ∙ length-part room (64 * k) h)
+shown_long : (room marks : List ℕ) (k : ℕ) → 64 * k + 64 ≤ length room → length (shown_at room marks k) ≡ 64
+shown_long room marks k h =
+    decide (eqb (mark_of marks k) 0) (λ y. ap length (shows_none room marks k (eqb_is (mark_of marks k) 0 y)) ∙ length-replicate {A = ℕ} 64 0)
+    (λ y. ap length (shows_record room marks k (eqb_isnt (mark_of marks k) 0 y)) ∙ length_part room (64 * k) h)
 
 -- what is shown depends on the record alone
-shown-kept : (room room′ marks : List ℕ) (k : ℕ) → recordOf room′ k ≡ recordOf room k → shownAt room′ marks k ≡ shownAt room marks k
-unfolding shownAt
-shown-kept room room′ marks k e = ap (λ (x : List ℕ). cond (eqb (markOf marks k) 0) (replicate 64 0) x) e
+shown_kept : (room room' marks : List ℕ) (k : ℕ) → record_of room' k ≡ record_of room k → shown_at room' marks k ≡ shown_at room marks k
+unfolding shown_at
+shown_kept room room' marks k e = ap (λ (x : List ℕ). cond (eqb (mark_of marks k) 0) (replicate 64 0) x) e
 
 -- ---- the loop
 
 module _ (s table : List ℕ) (t : Tabled s table) (marks room₀ : List ℕ) (f : Fits (labels s) room₀ marks) where
-  pub finish-first : (n : ℕ) → n ≡ labels s → Finished s table marks n room₀ room₀
-  finish-first n e = record { shown = λ k h l. absurd (omega arith); below = λ k h. refl; rest = refl; long = refl }
+  pub finish_first : (n : ℕ) → n ≡ labels s → Finished s table marks n room₀ room₀
+  finish_first n e = record { shown = λ k h l. absurd (omega arith); below = λ k h. refl; rest = refl; long = refl }
 
   -- the node of a label has no higher number
-  pub node-below : (k v : ℕ) → k < labels s → v ≡ getD table (placeOf s k) 0 → (0 < v) × (v - 1 ≤ k)
-  node-below k v h e =
-      let x : (j : ℕ) × (getD table (placeOf s k) 0 ≡ suc j) × (j ≤ k) = t .found k h in
-      let y : getD table (placeOf s k) 0 ≡ suc (x .0) = x .1 in
-      let z : x .0 ≤ k = x .2 in (omega arith, omega arith)
+  pub node_below : (k v : ℕ) → k < labels s → v ≡ get_or table (place_of s k) 0 → (0 < v) × (v - 1 ≤ k)
+  node_below k v h e =
+      let x : (j : ℕ) × (get_or table (place_of s k) 0 ≡ suc j) × (j ≤ k) = t.found k h in
+      let y : get_or table (place_of s k) 0 ≡ suc x.0 = x.1 in
+      let z : x.0 ≤ k = x.2 in (omega arith, omega arith)
 
-  module _ (i : ℕ) (room : List ℕ) (positive : 0 < i) (few : i ≤ labels s) (d : Finished s table marks i room₀ room) (v : ℕ) (node-is : v ≡ getD table (placeOf s (i - 1)) 0) where
+  module _ (i : ℕ) (room : List ℕ) (positive : 0 < i) (few : i ≤ labels s) (d : Finished s table marks i room₀ room) (v : ℕ) (node_is : v ≡ get_or table (place_of s (i - 1)) 0) where
     abbrev k : ℕ
     k = v - 1
 
-    below-here : v - 1 ≤ i - 1
-    below-here = node-below (i - 1) v (omega arith) node-is .1
+    below_here : v - 1 ≤ i - 1
+    below_here = (node_below (i - 1) v (omega arith) node_is).1
 
-    here-fits : 64 * (i - 1) + 64 ≤ length room
-    here-fits = let x : length room ≡ length room₀ = d .long in let y : 64 * labels s ≤ length room₀ = f .room-for in omega arith
+    here_fits : 64 * (i - 1) + 64 ≤ length room
+    here_fits = let x : length room ≡ length room₀ = d.long in let y : 64 * labels s ≤ length room₀ = f.room_for in omega arith
 
-    pub settle-fits : (64 * (i - 1) + 64 ≤ length room) × (v - 1 ≤ i - 1) × (v - 1 < 256)
-    settle-fits = let y : labels s ≤ 256 = f .few in let z : v - 1 ≤ i - 1 = below-here in (here-fits, z, omega arith)
+    pub settle_fits : (64 * (i - 1) + 64 ≤ length room) × (v - 1 ≤ i - 1) × (v - 1 < 256)
+    settle_fits = let y : labels s ≤ 256 = f.few in let z : v - 1 ≤ i - 1 = below_here in (here_fits, z, omega arith)
 
-    shown-here : shownAt room marks (v - 1) ≡ shownAt room₀ marks (v - 1)
-    shown-here = let z : v - 1 ≤ i - 1 = below-here in shown-kept room₀ room marks (v - 1) (d .below (v - 1) (omega arith))
+    shown_here : shown_at room marks (v - 1) ≡ shown_at room₀ marks (v - 1)
+    shown_here = let z : v - 1 ≤ i - 1 = below_here in shown_kept room₀ room marks (v - 1) (d.below (v - 1) (omega arith))
 
-    long-here : length (shownAt room marks (v - 1)) ≡ 64
-    long-here = let z : v - 1 ≤ i - 1 = below-here in let h : 64 * (i - 1) + 64 ≤ length room = here-fits in shown-long room marks (v - 1) (omega arith)
+    long_here : length (shown_at room marks (v - 1)) ≡ 64
+    long_here = let z : v - 1 ≤ i - 1 = below_here in let h : 64 * (i - 1) + 64 ≤ length room = here_fits in shown_long room marks (v - 1) (omega arith)
 
-    pub finish-on : (room′ : List ℕ) → room′ ≡ paste room (64 * (i - 1)) (shownAt room marks (v - 1)) 64 → Finished s table marks (i - 1) room₀ room′
-    finish-on room′ e =
+    pub finish_on : (room' : List ℕ) → room' ≡ paste room (64 * (i - 1)) (shown_at room marks (v - 1)) 64 → Finished s table marks (i - 1) room₀ room'
+    finish_on room' e =
         record {
           shown = λ j l h. decide (eqb j (i - 1))
-              (λ y. let q : j ≡ i - 1 = eqb-is j (i - 1) y in
-              ap (recordOf room′) q ∙ ap (λ (x : List ℕ). recordOf x (i - 1)) e ∙ part-same room (shownAt room marks (v - 1)) (64 * (i - 1)) here-fits long-here ∙ shown-here
-              ∙ ap (λ (x : ℕ). shownAt room₀ marks (x - 1)) (node-is ∙ ap (λ (x : ℕ). getD table (placeOf s x) 0) (sym q)))
-              (λ y. let n : j ≢ i - 1 = eqb-isnt j (i - 1) y in
-              ap (λ (x : List ℕ). recordOf x j) e ∙ record-other room (shownAt room marks (v - 1)) (i - 1) j here-fits long-here n ∙ d .shown j (omega arith) h);
-          below = λ j l. ap (λ (x : List ℕ). recordOf x j) e
-              ∙ record-other room (shownAt room marks (v - 1)) (i - 1) j here-fits long-here (λ q. omega arith) ∙ d .below j (omega arith);
-          rest = ap (drop (64 * labels s)) e ∙ drop-past room (shownAt room marks (v - 1)) (64 * (i - 1)) here-fits long-here (64 * labels s) (omega arith) ∙ d .rest;
-          long = ap length e ∙ length-paste room (64 * (i - 1)) (shownAt room marks (v - 1)) 64 here-fits (let z : length (shownAt room marks (v - 1)) ≡ 64 = long-here in omega arith) ∙ d .long;
+              (λ y. let q : j ≡ i - 1 = eqb_is j (i - 1) y in
+              ap (record_of room') q ∙ ap (λ (x : List ℕ). record_of x (i - 1)) e ∙ part_same room (shown_at room marks (v - 1)) (64 * (i - 1)) here_fits long_here ∙ shown_here
+              ∙ ap (λ (x : ℕ). shown_at room₀ marks (x - 1)) (node_is ∙ ap (λ (x : ℕ). get_or table (place_of s x) 0) (sym q)))
+              (λ y. let n : j ≢ i - 1 = eqb_isnt j (i - 1) y in
+              ap (λ (x : List ℕ). record_of x j) e ∙ record_other room (shown_at room marks (v - 1)) (i - 1) j here_fits long_here n ∙ d.shown j (omega arith) h);
+          below = λ j l. ap (λ (x : List ℕ). record_of x j) e
+              ∙ record_other room (shown_at room marks (v - 1)) (i - 1) j here_fits long_here (λ q. omega arith) ∙ d.below j (omega arith);
+          rest = ap (drop (64 * labels s)) e ∙ drop_past room (shown_at room marks (v - 1)) (64 * (i - 1)) here_fits long_here (64 * labels s) (omega arith) ∙ d.rest;
+          long = ap length e ∙ length-paste room (64 * (i - 1)) (shown_at room marks (v - 1)) 64 here_fits (let z : length (shown_at room marks (v - 1)) ≡ 64 = long_here in omega arith) ∙ d.long;
         }

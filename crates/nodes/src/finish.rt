@@ -1,17 +1,16 @@
 // The last pass: every label gets the record of the first label at its place.
-ghost use mathlib.Core.Path.{_≡_};
-ghost use Prim.Native.Nat.{_+_, _*_, _≤_, _<_};
-ghost use lib.ListN.{length, getD};
-ghost use lib.Seq.{paste};
-ghost use Rattle·rules.specs.ModuleFile.{labels, refusal};
-ghost use Rattle·format.specs.Layout.{Packed};
-ghost use Rattle·nodes·specs.specs.Nodes.{Whole, Tabled, Fits, shownAt, Finished};
+ghost use Rattle.std.specs.Prelude.{◌≡◌, ◌+◌, ◌*◌, ◌≤◌, ◌<◌, length, get_or};
+ghost use Rattle.std.proofs.Math.Seq.{paste};
+ghost use Rattle.rules.specs.ModuleFile.{labels, refusal};
+ghost use Rattle.format.specs.Layout.{Packed};
+ghost use Rattle.nodes.specs.Nodes.{Whole, Tabled, Fits, shown_at, Finished};
+
 use format::Sections;
 
 // Label i gets the record of node k, or zeros where nothing has flowed to it.
 fn settle(room: &mut [u8], marks: &[u16], st: &mut [u8], i: usize, k: usize)
-    requires { ⌜ (64 * i + 64 ≤ length (now room)) × (k ≤ i) × (k < 256) × Whole (now marks) × (length (now st) ≡ 64) ⌝ }
-    ensures { λ r. ⌜ now (room .exit) ≡ paste (now (room .entry)) (64 * i) (shownAt (now (room .entry)) (now (marks .entry)) k) 64 ⌝ }
+    requires { (64 * i + 64 ≤ length room.old) × (k ≤ i) × (k < 256) × Whole marks.now × (length st.old ≡ 64) }
+    ensures { room.new ≡ paste room.old (64 * i) (shown_at room.old marks.now k) 64 }
 {
     let mark = marks[k];
     if mark == 0 {
@@ -34,9 +33,9 @@ pub fn finish(
     marks: &[u16],
     st: &mut [u8],
 )
-    requires { ⌜ Packed (now file) c × (refusal (now file) ≡ 0) × Tabled (now file) (now table) ⌝ }
-    requires { ⌜ Fits (labels (now file)) (now room) (now marks) × (length (now st) ≡ 64) ⌝ }
-    ensures { λ r. ⌜ Finished (now (file .entry)) (now (table .entry)) (now (marks .entry)) 0 (now (room .entry)) (now (room .exit)) ⌝ }
+    requires packed { Packed file.now c × (refusal file.now ≡ 0) × Tabled file.now table.now }
+    requires fits { Fits (labels file.now) room.old marks.now × (length st.old ≡ 64) }
+    ensures { Finished file.now table.now marks.now 0 room.old room.new }
 {
     let mut i = c.labels;
     while 0 < i {

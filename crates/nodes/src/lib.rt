@@ -1,27 +1,27 @@
 // Where walks start: the labelled places and the starts of bodies, with their records.
+#![tactic(auto)]
+
 pub mod finish;
 pub mod list;
 pub mod room;
 pub mod starts;
 pub mod table;
 
-ghost use Prim.Native.Nat.{_+_, _*_, _<_, _≤_};
-ghost use mathlib.Core.Path.{_≡_};
-ghost use lib.ListN.{length};
-ghost use Rattle·nodes·specs.specs.Nodes.{Whole, markOf, countOf, Merged};
+ghost use Rattle.std.specs.Prelude.{◌+◌, ◌*◌, ◌<◌, ◌≤◌, ◌≡◌, length};
+ghost use Rattle.nodes.specs.Nodes.{Whole, mark_of, count_of, Merged};
 
 // A word as an index.
 pub(crate) fn wide(x: u16) -> usize
-    ensures { λ r. ⌜ r ≡ x ⌝ }
+    ensures { result ≡ x }
 {
     x as usize
 }
 
 // A record flows to node k. The first one is kept, and the node waits for a walk; a later one must be the same.
 pub fn merge(k: usize, room: &mut [u8], marks: &mut [u16], st: &[u8]) -> bool
-    requires { ⌜ (64 * k + 64 ≤ length (now room)) × (k < 256) × (length (now st) ≡ 64) ⌝ }
-    requires { ⌜ Whole (now marks) × (markOf (now marks) k ≡ 0 → countOf (now marks) < 256) ⌝ }
-    ensures { λ r. ⌜ Merged k (now (st .entry)) (now (room .entry)) (now (marks .entry)) (now (room .exit)) (now (marks .exit)) r ⌝ }
+    requires k_in_bounds { (64 * k + 64 ≤ length room.old) × (k < 256) × (length st.now ≡ 64) }
+    requires whole { Whole marks.old × (mark_of marks.old k ≡ 0 → count_of marks.old < 256) }
+    ensures { Merged k st.now room.old marks.old room.new marks.new result }
 {
     let mark = marks[k];
     if mark == 0 {

@@ -1,19 +1,19 @@
 // The nodes that something has flowed to, in the order in which it did, and how many of them were walked from.
 // Word k of the marks is 1 where node k is one of them. They are listed from word 256 on, counted in word 512, and those that were
 // walked from in word 513.
-ghost use mathlib.Core.Path.{_≡_};
-ghost use Prim.Native.Nat.{_<_, _≤_};
-ghost use Rattle·nodes·specs.specs.Nodes.{Whole, countOf, doneOf, appended, advanced, waitingIn};
+ghost use Rattle.std.specs.Prelude.{◌≡◌, ◌<◌, ◌≤◌};
+ghost use Rattle.nodes.specs.Nodes.{Whole, count_of, done_of, appended, advanced, waiting_in};
 
 // The first node that waits for a walk, or none does.
+#[derive(Clone, Copy)]
 pub enum Waiting {
     Node(usize),
     Nothing,
 }
 
 pub(crate) fn append(marks: &mut [u16], k: usize)
-    requires { ⌜ Whole (now marks) × (k < 256) × (countOf (now marks) < 256) ⌝ }
-    ensures { λ r. ⌜ now (marks .exit) ≡ appended (now (marks .entry)) k ⌝ }
+    requires { Whole marks.old × (k < 256) × (count_of marks.old < 256) }
+    ensures { marks.new ≡ appended marks.old k }
 {
     let n = crate::wide(marks[512]);
     marks[k] = 1;
@@ -22,8 +22,8 @@ pub(crate) fn append(marks: &mut [u16], k: usize)
 }
 
 pub fn first(marks: &[u16]) -> Waiting
-    requires { ⌜ Whole (now marks) × (doneOf (now marks) ≤ countOf (now marks)) × (countOf (now marks) ≤ 256) ⌝ }
-    ensures { λ r. ⌜ r ≡ waitingIn (now (marks .entry)) ⌝ }
+    requires { Whole marks.now × (done_of marks.now ≤ count_of marks.now) × (count_of marks.now ≤ 256) }
+    ensures { result ≡ waiting_in marks.now }
 {
     let i = crate::wide(marks[513]);
     let n = crate::wide(marks[512]);
@@ -35,8 +35,8 @@ pub fn first(marks: &[u16]) -> Waiting
 
 // That node was walked from.
 pub fn advance(marks: &mut [u16])
-    requires { ⌜ Whole (now marks) × (doneOf (now marks) < 256) ⌝ }
-    ensures { λ r. ⌜ now (marks .exit) ≡ advanced (now (marks .entry)) ⌝ }
+    requires { Whole marks.old × (done_of marks.old < 256) }
+    ensures { marks.new ≡ advanced marks.old }
 {
     let i = crate::wide(marks[513]);
     marks[513] = (i + 1) as u16;

@@ -1,14 +1,11 @@
 // Records in the lent room: written, read, compared, zeroed.
-ghost use mathlib.Core.Path.{_≡_};
-ghost use mathlib.Core.Bool.{true, false};
-ghost use Prim.Native.Nat.{_+_, _≤_};
-ghost use lib.ListN.{length, take, drop, replicate};
-ghost use lib.Seq.{paste};
+ghost use Rattle.std.specs.Prelude.{◌≡◌, true, false, ◌+◌, ◌≤◌, length, take, drop, replicate};
+ghost use Rattle.std.proofs.Math.Seq.{paste};
 
 // Writes a record at a byte of the room.
 pub(crate) fn save(room: &mut [u8], at: usize, st: &[u8])
-    requires { ⌜ (at + 64 ≤ length (now room)) × (length (now st) ≡ 64) ⌝ }
-    ensures { λ r. ⌜ now (room .exit) ≡ paste (now (room .entry)) at (now (st .entry)) 64 ⌝ }
+    requires { (at + 64 ≤ length room.old) × (length st.now ≡ 64) }
+    ensures { room.new ≡ paste room.old at st.now 64 }
 {
     let mut i = 0;
     while i < 64 {
@@ -20,8 +17,8 @@ pub(crate) fn save(room: &mut [u8], at: usize, st: &[u8])
 
 // Reads the record at a byte of the room.
 pub fn load(room: &[u8], at: usize, st: &mut [u8])
-    requires { ⌜ (at + 64 ≤ length (now room)) × (length (now st) ≡ 64) ⌝ }
-    ensures { λ r. ⌜ now (st .exit) ≡ take 64 (drop at (now (room .entry))) ⌝ }
+    requires { (at + 64 ≤ length room.now) × (length st.old ≡ 64) }
+    ensures { st.new ≡ take 64 (drop at room.now) }
 {
     let mut i = 0;
     while i < 64 {
@@ -33,9 +30,9 @@ pub fn load(room: &[u8], at: usize, st: &mut [u8])
 
 // Whether the record at a byte of the room is this one.
 pub(crate) fn is_same(room: &[u8], at: usize, st: &[u8]) -> bool
-    requires { ⌜ (at + 64 ≤ length (now room)) × (length (now st) ≡ 64) ⌝ }
-    ensures { λ r. ⌜ (r ≡ true → take 64 (drop at (now (room .entry))) ≡ now (st .entry)) ⌝ }
-    ensures { λ r. ⌜ (r ≡ false → take 64 (drop at (now (room .entry))) ≡ now (st .entry) → ⊥) ⌝ }
+    requires { (at + 64 ≤ length room.now) × (length st.now ≡ 64) }
+    ensures room_value { result ≡ true → take 64 (drop at room.now) ≡ st.now }
+    ensures fact { result ≡ false → take 64 (drop at room.now) ≡ st.now → ⊥ }
 {
     let mut same = true;
     let mut i = 0;
@@ -48,8 +45,8 @@ pub(crate) fn is_same(room: &[u8], at: usize, st: &[u8]) -> bool
 
 // Zeroes n bytes.
 pub fn zero(room: &mut [u8], at: usize, n: usize)
-    requires { ⌜ at + n ≤ length (now room) ⌝ }
-    ensures { λ r. ⌜ now (room .exit) ≡ paste (now (room .entry)) at (replicate n 0) n ⌝ }
+    requires { at + n ≤ length room.old }
+    ensures { room.new ≡ paste room.old at (replicate n 0) n }
 {
     let mut i = 0;
     while i < n {

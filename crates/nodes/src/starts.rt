@@ -1,18 +1,17 @@
 // The starts of bodies: their places, their ends, and the record of a start.
-ghost use mathlib.Core.Path.{_≡_};
-ghost use Prim.Native.Nat.{_+_, _≤_};
-ghost use lib.ListN.{length};
-ghost use Rattle·rules.specs.Tables.{bodyOf, bodyStart, bodyEnd};
-ghost use Rattle·rules.specs.ModuleFile.{refusal, bodiesIn};
-ghost use Rattle·format.specs.Layout.{Packed};
-ghost use Rattle·soundness.specs.Readable.{Has};
-ghost use Rattle·nodes·specs.specs.Nodes.{Copied, Seeded};
+ghost use Rattle.std.specs.Prelude.{◌≡◌, ◌+◌, ◌≤◌, length};
+ghost use Rattle.rules.specs.Tables.{body_of, body_start, body_end};
+ghost use Rattle.rules.specs.ModuleFile.{refusal, bodies_in};
+ghost use Rattle.format.specs.Layout.{Packed};
+ghost use Rattle.soundness.specs.Readable.{Has};
+ghost use Rattle.nodes.specs.Nodes.{Copied, Seeded};
+
 use format::Sections;
 
 // Eight parameter types, from a byte of the file on, become the types of the locals.
 fn copy_params(file: &[u8], at: usize, st: &mut [u8])
-    requires { ⌜ (at + 8 ≤ length (now file)) × (length (now st) ≡ 64) ⌝ }
-    ensures { λ r. ⌜ Copied (now (file .entry)) at 8 (now (st .entry)) (now (st .exit)) ⌝ }
+    requires { (at + 8 ≤ length file.now) × (length st.old ≡ 64) }
+    ensures { Copied file.now at 8 st.old st.new }
 {
     let mut i = 0;
     while i < 8 {
@@ -23,9 +22,9 @@ fn copy_params(file: &[u8], at: usize, st: &mut [u8])
 
 // The record of a body's start: its parameters and no operands.
 pub fn seed(file: &[u8], c: Sections, owner: usize, st: &mut [u8])
-    requires { ⌜ Packed (now file) c × (refusal (now file) ≡ 0) × Has (bodiesIn (now file)) (bodyOf owner) ⌝ }
-    requires { ⌜ length (now st) ≡ 64 ⌝ }
-    ensures { λ r. ⌜ Seeded (now (file .entry)) (bodyOf owner) (now (st .exit)) ⌝ }
+    requires packed { Packed file.now c × (refusal file.now ≡ 0) × Has (bodies_in file.now) (body_of owner) }
+    requires st_len { length st.old ≡ 64 }
+    ensures { Seeded file.now (body_of owner) st.new }
 {
     crate::room::zero(st, 0, 64);
     st[0] = 1;
@@ -39,8 +38,8 @@ pub fn seed(file: &[u8], c: Sections, owner: usize, st: &mut [u8])
 
 // Where a body starts.
 pub fn start(file: &[u8], c: Sections, owner: usize) -> usize
-    requires { ⌜ Packed (now file) c × Has (bodiesIn (now file)) (bodyOf owner) ⌝ }
-    ensures { λ r. ⌜ r ≡ bodyStart (bodiesIn (now (file .entry))) (bodyOf owner) ⌝ }
+    requires { Packed file.now c × Has (bodies_in file.now) (body_of owner) }
+    ensures { result ≡ body_start (bodies_in file.now) (body_of owner) }
 {
     if owner == 0xffff_ffff {
         return 0;
@@ -51,8 +50,8 @@ pub fn start(file: &[u8], c: Sections, owner: usize) -> usize
 
 // Where a body ends.
 pub fn end(file: &[u8], c: Sections, owner: usize) -> usize
-    requires { ⌜ Packed (now file) c × Has (bodiesIn (now file)) (bodyOf owner) ⌝ }
-    ensures { λ r. ⌜ r ≡ bodyEnd (bodiesIn (now (file .entry))) (bodyOf owner) ⌝ }
+    requires { Packed file.now c × Has (bodies_in file.now) (body_of owner) }
+    ensures { result ≡ body_end (bodies_in file.now) (body_of owner) }
 {
     if owner == 0xffff_ffff {
         return c.entry;

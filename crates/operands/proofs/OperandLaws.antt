@@ -1,89 +1,88 @@
 -- What instructions on the top one or two operands do, a law for each way out. Assumes nothing.
-use Prim.Native.Nat.{ℕ, suc, _+_, _-_, _^_, _≤_, _<_}
+use Prim.Native.Nat.{ℕ, suc, ◌+◌, ◌-◌, ◌^◌, ◌≤◌, ◌<◌}
 use native.Mathlib.Omega.{arith}
-use mathlib.Core.Path.{_≡_, refl, sym, ap, _∙_, subst}
-use mathlib.Core.Bool.{Bool, true, false, cond, _||_}
+use mathlib.Core.Path.{◌≡◌, refl, sym, ap, ◌∙◌, subst}
+use mathlib.Core.Bool.{Bool, true, false, cond, ◌||◌}
 use mathlib.Core.Option.{Option, none, some}
-use mathlib.Core.List.{List, [], _∷_}
-use lib.Dec.{eqb}
-use borrow.Author.Tests.{le-leb, ne-eqb}
-use Rattle·rules.specs.Bytes.{maybe}
-use Rattle·rules.specs.Instructions.{numKind, isPointer}
-use Rattle·rules.specs.Tables.{Module}
-use Rattle·rules.specs.Machine.{State, Next, goto, resulting, execIn}
-use Rattle·rules.specs.Operations.{Result, yields, raises, refuse, number, whole, wholeOnly, class1, class2, classOf, zeroDivide, converted, unfit, apply1, apply2}
-use Rattle·rules.specs.Stack.{slot, slotAt, slotsOf, under, put}
-use Rattle·rules.specs.declared.Binary.{Binary}
-use Rattle·rules.specs.declared.Binary.the-variants.{Arith}
-use Rattle·rules.specs.declared.Instruction.the-variants.{One, Two}
-use Rattle·rules.specs.declared.Num.{Num}
-use Rattle·rules.specs.declared.Num.the-variants.{Int as int, Long as long, Double as double}
-use Rattle·rules.specs.declared.Operator.{Operator}
-use Rattle·rules.specs.declared.Slot.{Slot}
-use Rattle·rules.specs.declared.Unary.{Unary}
-use Rattle·rules.specs.declared.Unary.the-variants.{Neg, Not, Convert, Count}
-use Rattle·soundness.specs.Kinds.{Kind, Kinded}
-use Rattle·values.specs.Values.{valueOf, kindOfValue, slotOf, resultOf, Computes, Turns, Converts}
-use Rattle·values.specs.declared.Value.{Value}
-use Rattle·values.specs.declared.Computed.{Computed}
-use Rattle·values.specs.declared.Computed.the-variants.{Yields, Raises}
-use Rattle·state.specs.Slots.{payloadsWith, typesWith}
-use Rattle·state.specs.State.{stateOf, movedTo, Ready, Does}
-use Rattle·state.specs.declared.Registers.{Registers}
-use Rattle·state.specs.declared.Progress.{Progress}
-use Rattle·state.specs.declared.Progress.the-variants.{Goes, Stops}
-use Rattle·state.proofs.Stack.{length-slots, slots-top, under-slots, take1-has, take2-has}
-use Rattle·state.proofs.Outcomes.{stopping, dropping, topping}
-use Rattle·state.proofs.Families.{kind-at, types-same}
-use Rattle·operands·specs.specs.Operands.{Computable, Executes, Puts, Types, Both, Paired}
-use Rattle·operands·specs.specs.declared.operators.Operands.{Operands}
-use Rattle·operands·specs.specs.declared.operators.Operands.the-variants.{Alike, Refused}
+use mathlib.Core.List.{List, [], ◌∷◌}
+use borrow.Author.Tests.{le-leb, ne_eqb}
+use Rattle.rules.specs.Bytes.{maybe}
+use Rattle.rules.specs.Instructions.{num_kind, is_pointer}
+use Rattle.rules.specs.Tables.{Module}
+use Rattle.rules.specs.Machine.{State, Next, goto, resulting, exec_in}
+use Rattle.rules.specs.Operations.{Result, yields, raises, refuse, number, whole, whole_only, class1, class2, class_of, zero_divide, converted, unfit, apply1, apply2}
+use Rattle.rules.specs.Stack.{slot, slot_at, slots_of, under, put}
+use Rattle.rules.specs.declared.Binary.{Binary}
+use Rattle.rules.specs.declared.Binary.TheVariants.{Arith}
+use Rattle.rules.specs.declared.Instruction.TheVariants.{One, Two}
+use Rattle.rules.specs.declared.Num.{Num}
+use Rattle.rules.specs.declared.Num.TheVariants.{Int as int, Long as long, Double as double}
+use Rattle.rules.specs.declared.Operator.{Operator}
+use Rattle.rules.specs.declared.Slot.{Slot}
+use Rattle.rules.specs.declared.Unary.{Unary}
+use Rattle.rules.specs.declared.Unary.TheVariants.{Neg, Not, Convert, Count}
+use Rattle.soundness.specs.Kinds.{Kind, Kinded}
+use Rattle.values.specs.Values.{value_of, kind_of_value, slot_of, result_of, Computes, Turns, Converts}
+use Rattle.values.specs.declared.Value.{Value}
+use Rattle.values.specs.declared.Computed.{Computed}
+use Rattle.values.specs.declared.Computed.TheVariants.{Yields, Raises}
+use Rattle.state.specs.Slots.{payloads_with, types_with}
+use Rattle.state.specs.State.{state_of, moved_to, Ready, Does}
+use Rattle.state.specs.declared.Registers.{Registers}
+use Rattle.state.specs.declared.Progress.{Progress}
+use Rattle.state.specs.declared.Progress.TheVariants.{Goes, Stops}
+use Rattle.state.proofs.Stack.{length_slots, slots_top, under_slots, take1_has, take2_has}
+use Rattle.state.proofs.Outcomes.{stopping, dropping, topping}
+use Rattle.state.proofs.Families.{kind_at, types_same}
+use Rattle.operands.specs.Operands.{Computable, Executes, Puts, Types, Both, Paired}
+use Rattle.operands.specs.declared.operators.Operands.{Operands}
+use Rattle.operands.specs.declared.operators.Operands.TheVariants.{Alike, Refused}
 
 -- ---- what is asked
 
-pub computable : {cap : ℕ} {r : Registers} {p t f : List ℕ} → Ready cap r p t f → r .place < r .stop → Kinded (slotsOf p t (r .height)) → Computable r p t
+pub computable : {cap : ℕ} {r : Registers} {p t f : List ℕ} → Ready cap r p t f → r.place < r.stop → Kinded (slots_of p t r.height) → Computable r p t
 computable k l kinds =
     record {
-      small = omega (arith, k .small, k .high);
-      payloads = omega (arith, k .payloads, k .high);
-      types = omega (arith, k .types, k .high);
-      over = k .over;
+      small = omega (arith, k.small, k.high);
+      payloads = omega (arith, k.payloads, k.high);
+      types = omega (arith, k.types, k.high);
+      over = k.over;
       inside = l;
       kinds = kinds;
     }
 
 -- ---- two types
 
-pub unlike-is : (o : Operator) (a b n : ℕ) → (a ≡ b → ⊥) → cond (isPointer a || isPointer b) (some 32) (some 22) ≡ some n → refuse (classOf o) a b ≡ some n
-unlike-is o a b n ne e = go (wholeOnly o) ∙ e
+pub unlike_is : (o : Operator) (a b n : ℕ) → (a ≡ b → ⊥) → cond (is_pointer a || is_pointer b) (some 32) (some 22) ≡ some n → refuse (class_of o) a b ≡ some n
+unlike_is o a b n ne e = go (whole_only o) ∙ e
   where
-    go : (w : Bool) → refuse (cond w whole number) a b ≡ cond (isPointer a || isPointer b) (some 32) (some 22)
-    go true = rw (ne-eqb a b ne) refl
-    go false = rw (ne-eqb a b ne) refl
+    go : (w : Bool) → refuse (cond w whole number) a b ≡ cond (is_pointer a || is_pointer b) (some 32) (some 22)
+    go true = rw (ne_eqb a b ne) refl
+    go false = rw (ne_eqb a b ne) refl
 
 -- ---- a slot that an operation yields has the operand's type
 
-abbrev firstKind : Result → ℕ
-firstKind (yields []) = 0
-firstKind (yields (v ∷ vs)) = v .kind
-firstKind (raises e) = 0
+abbrev first_kind : Result → ℕ
+first_kind (yields []) = 0
+first_kind (yields (v ∷ vs)) = v.kind
+first_kind (raises e) = 0
 
-clash {ℓ} : {X : Type ℓ} → _≡_ {A = ℕ} 0 1 → X
+clash {ℓ} : {X : Type ℓ} → ◌≡◌ {A = ℕ} 0 1 → X
 clash e = absurd (omega arith)
 
 pub only : (q : Option ℕ) (z : Bool) (e k n : ℕ) (v : Value)
-    → yields (slotOf v ∷ []) ≡ maybe q (cond z (raises e) (yields (slot k n ∷ []))) (λ d. raises d) → kindOfValue v ≡ k
-only none false e k n v h = ap firstKind h
+    → yields (slot_of v ∷ []) ≡ maybe q (cond z (raises e) (yields (slot k n ∷ []))) (λ d. raises d) → kind_of_value v ≡ k
+only none false e k n v h = ap first_kind h
 only none true e k n v h = clash (cc)
 only (some d) z e k n v h = clash (cc)
 
 -- x gives nothing or a value of type number k
 abbrev pub Typed : ℕ → Computed → Type 0
-Typed k x = (v : Value) → x ≡ Yields v → kindOfValue v ≡ k
+Typed k x = (v : Value) → x ≡ Yields v → kind_of_value v ≡ k
 
-arith-typed : (o : Operator) (s u : Slot) (x : Computed) → resultOf x ≡ apply2 (Arith o) s u → Typed (s .kind) x
-arith-typed o s u x e v y =
-    only (refuse (classOf o) (s .kind) (u .kind)) (zeroDivide o (s .kind) (u .payload)) 24 (s .kind) _ v (sym (ap resultOf y) ∙ e)
+arith_typed : (o : Operator) (s u : Slot) (x : Computed) → result_of x ≡ apply2 (Arith o) s u → Typed s.kind x
+arith_typed o s u x e v y =
+    only (refuse (class_of o) s.kind u.kind) (zero_divide o s.kind u.payload) 24 s.kind _ v (sym (ap result_of y) ∙ e)
 
 -- instructions that keep the type
 pub data Keeping : Unary → Type 0 where
@@ -91,124 +90,124 @@ pub data Keeping : Unary → Type 0 where
   nots : Keeping Not
   counts : (u : Bool) → Keeping (Count u)
 
-pub one-typed : {o : Unary} → Keeping o → (s : Slot) (x : Computed) → resultOf x ≡ apply1 o s → Typed (s .kind) x
-one-typed negs s x e v y = only (refuse (class1 Neg) (s .kind) (s .kind)) false 0 (s .kind) _ v (sym (ap resultOf y) ∙ e)
-one-typed nots s x e v y = only (refuse (class1 Not) (s .kind) (s .kind)) false 0 (s .kind) _ v (sym (ap resultOf y) ∙ e)
-one-typed (counts u) s x e v y = only (refuse (class1 (Count u)) (s .kind) (s .kind)) false 0 (s .kind) _ v (sym (ap resultOf y) ∙ e)
+pub one_typed : {o : Unary} → Keeping o → (s : Slot) (x : Computed) → result_of x ≡ apply1 o s → Typed s.kind x
+one_typed negs s x e v y = only (refuse (class1 Neg) s.kind s.kind) false 0 s.kind _ v (sym (ap result_of y) ∙ e)
+one_typed nots s x e v y = only (refuse (class1 Not) s.kind s.kind) false 0 s.kind _ v (sym (ap result_of y) ∙ e)
+one_typed (counts u) s x e v y = only (refuse (class1 (Count u)) s.kind s.kind) false 0 s.kind _ v (sym (ap result_of y) ∙ e)
 
-same-types : (p t : List ℕ) (i : ℕ) (x : Computed) → Typed (slotAt p t i .kind) x → Types i x t t
-same-types p t i (Yields v) h = types-same p t i (slotOf v) (h v refl)
-same-types p t i (Raises e) h = refl
+same_types : (p t : List ℕ) (i : ℕ) (x : Computed) → Typed (slot_at p t i).kind x → Types i x t t
+same_types p t i (Yields v) h = types_same p t i (slot_of v) (h v refl)
+same_types p t i (Raises e) h = refl
 
 -- ---- operands from slot i on replaced by their result
 
-unfoldable replacedFrom : ℕ → ℕ → Result → State → Next
-replacedFrom cap i x s = resulting (s .memory) cap x (under i (s .memory .stack)) (goto (s .top .place + 1) (s .top)) (s .callers)
+unfoldable replaced_from : ℕ → ℕ → Result → State → Next
+replaced_from cap i x s = resulting s.memory cap x (under i s.memory.stack) (goto (s.top.place + 1) s.top) s.callers
 
 module _ (cap : ℕ) (r : Registers) (p t f : List ℕ) (k : Ready cap r p t f) where
-  replaced-yields : (i : ℕ) (v : Slot) (p′ t′ : List ℕ) → r .floor ≤ i → i < r .height → p′ ≡ payloadsWith p i v → t′ ≡ typesWith t i v
-      → v .payload < 2 ^ 64
-      → Does cap r (Goes (movedTo r (r .place + 1) (i + 1))) p t f p′ t′ f (replacedFrom cap i (yields (v ∷ [])) (stateOf r p t f))
-  unfolding replacedFrom
-  replaced-yields i v p′ t′ fl lt ep et fits =
-      topping cap r p t f k v i p′ t′ ep et fits (omega (arith, k .high)) _ _ (omega arith)
-      (rw (under-slots p t (r .height) i (omega arith), length-slots p t i, le-leb (suc i) cap (omega (arith, k .high))) refl)
+  replaced_yields : (i : ℕ) (v : Slot) (p' t' : List ℕ) → r.floor ≤ i → i < r.height → p' ≡ payloads_with p i v → t' ≡ types_with t i v
+      → v.payload < 2 ^ 64
+      → Does cap r (Goes (moved_to r (r.place + 1) (i + 1))) p t f p' t' f (replaced_from cap i (yields (v ∷ [])) (state_of r p t f))
+  unfolding replaced_from
+  replaced_yields i v p' t' fl lt ep et fits =
+      topping cap r p t f k v i p' t' ep et fits (omega (arith, k.high)) _ _ (omega arith)
+      (rw (under_slots p t r.height i (omega arith), length_slots p t i, le-leb (suc i) cap (omega (arith, k.high))) refl)
 
-  replaced-raises : (i e : ℕ) → Does cap r (Stops e) p t f p t f (replacedFrom cap i (raises e) (stateOf r p t f))
-  unfolding replacedFrom
-  replaced-raises i e = stopping cap r p t f k e _ refl
+  replaced_raises : (i e : ℕ) → Does cap r (Stops e) p t f p t f (replaced_from cap i (raises e) (state_of r p t f))
+  unfolding replaced_from
+  replaced_raises i e = stopping cap r p t f k e _ refl
 
-  replaced-is : (i : ℕ) (x : Computed) (q : Progress) (p′ t′ : List ℕ) → r .floor ≤ i → i < r .height → Puts r i (i + 1) x q p p′ → Types i x t t′
-      → Does cap r q p t f p′ t′ f (replacedFrom cap i (resultOf x) (stateOf r p t f))
-  replaced-is i (Yields v) q p′ t′ fl lt e d = rw (e .0) (replaced-yields i (slotOf v) p′ t′ fl lt (e .1 .0) d (e .1 .1))
-  replaced-is i (Raises n) q p′ t′ fl lt e d = rw (e .0, e .1, d) (replaced-raises i n)
+  replaced_is : (i : ℕ) (x : Computed) (q : Progress) (p' t' : List ℕ) → r.floor ≤ i → i < r.height → Puts r i (i + 1) x q p p' → Types i x t t'
+      → Does cap r q p t f p' t' f (replaced_from cap i (result_of x) (state_of r p t f))
+  replaced_is i (Yields v) q p' t' fl lt e d = rw e.0 (replaced_yields i (slot_of v) p' t' fl lt e.1.0 d e.1.1)
+  replaced_is i (Raises n) q p' t' fl lt e d = rw (e.0, e.1, d) (replaced_raises i n)
 
-  one-is : (m : Module) (o : Unary) (q : Progress) (p′ t′ : List ℕ) (x : Result) → r .floor + 1 ≤ r .height
-      → x ≡ apply1 o (slotAt p t (r .height - 1)) → Does cap r q p t f p′ t′ f (replacedFrom cap (r .height - 1) x (stateOf r p t f))
-      → Does cap r q p t f p′ t′ f (execIn m cap (One o) (stateOf r p t f))
-  unfolding execIn replacedFrom
-  one-is m o q p′ t′ x has e d =
-      rw (take1-has p t (r .floor) (r .height) _ has) (rw (← e) (rw (under-slots p t (r .height) (r .height - 1) (omega arith)) at d))
+  one_is : (m : Module) (o : Unary) (q : Progress) (p' t' : List ℕ) (x : Result) → r.floor + 1 ≤ r.height
+      → x ≡ apply1 o (slot_at p t (r.height - 1)) → Does cap r q p t f p' t' f (replaced_from cap (r.height - 1) x (state_of r p t f))
+      → Does cap r q p t f p' t' f (exec_in m cap (One o) (state_of r p t f))
+  unfolding exec_in replaced_from
+  one_is m o q p' t' x has e d =
+      rw (take1_has p t r.floor r.height _ has) (rw (← e) (rw (under_slots p t r.height (r.height - 1) (omega arith)) at d))
 
-  two-is : (m : Module) (o : Binary) (q : Progress) (p′ t′ : List ℕ) (x : Result) → r .floor + 2 ≤ r .height
-      → x ≡ apply2 o (slotAt p t (r .height - 2)) (slotAt p t (r .height - 1))
-      → Does cap r q p t f p′ t′ f (replacedFrom cap (r .height - 2) x (stateOf r p t f)) → Does cap r q p t f p′ t′ f (execIn m cap (Two o) (stateOf r p t f))
-  unfolding execIn replacedFrom
-  two-is m o q p′ t′ x has e d =
-      rw (take2-has p t (r .floor) (r .height) _ has) (rw (← e) (rw (under-slots p t (r .height) (r .height - 2) (omega arith)) at d))
+  two_is : (m : Module) (o : Binary) (q : Progress) (p' t' : List ℕ) (x : Result) → r.floor + 2 ≤ r.height
+      → x ≡ apply2 o (slot_at p t (r.height - 2)) (slot_at p t (r.height - 1))
+      → Does cap r q p t f p' t' f (replaced_from cap (r.height - 2) x (state_of r p t f)) → Does cap r q p t f p' t' f (exec_in m cap (Two o) (state_of r p t f))
+  unfolding exec_in replaced_from
+  two_is m o q p' t' x has e d =
+      rw (take2_has p t r.floor r.height _ has) (rw (← e) (rw (under_slots p t r.height (r.height - 2) (omega arith)) at d))
 
 -- ---- one and two operands
 
-own-is : (b : Bool) (n : Num) (s : Slot) → s .kind ≡ numKind n → apply1 (Convert b n) s ≡ yields (s ∷ [])
+own_is : (b : Bool) (n : Num) (s : Slot) → s.kind ≡ num_kind n → apply1 (Convert b n) s ≡ yields (s ∷ [])
 unfolding converted unfit
-own-is false int s e = rw e
-own-is false long s e = rw e
-own-is false double s e = rw e
-own-is true int s e = rw e
-own-is true long s e = rw e
-own-is true double s e = rw e
+own_is false int s e = rw e
+own_is false long s e = rw e
+own_is false double s e = rw e
+own_is true int s e = rw e
+own_is true long s e = rw e
+own_is true double s e = rw e
 
 module _ {r : Registers} {p t : List ℕ} (c : Computable r p t) where
   -- ---- one
 
-  module _ (has : r .floor + 1 ≤ r .height) where
-    pub top-kind : Kind (slotAt p t (r .height - 1) .kind)
-    top-kind = kind-at p t (r .height) (r .height - 1) (c .kinds) (omega arith) refl
+  module _ (has : r.floor + 1 ≤ r.height) where
+    pub top_kind : Kind (slot_at p t (r.height - 1)).kind
+    top_kind = kind_at p t r.height (r.height - 1) c.kinds (omega arith) refl
 
-    pub one-put : (o : Unary) (x : Computed) {q : Progress} {p′ t′ : List ℕ} → resultOf x ≡ apply1 o (slotAt p t (r .height - 1))
-        → Puts r (r .height - 1) (r .height - 1 + 1) x q p p′ → Types (r .height - 1) x t t′ → Executes (One o) r q p t p′ t′
-    one-put o x {q} {p′} {t′} e put ty m cap f k =
-        one-is cap r p t f k m o q p′ t′ (resultOf x) has e (replaced-is cap r p t f k (r .height - 1) x q p′ t′ (omega arith) (omega arith) put ty)
+    pub one_put : (o : Unary) (x : Computed) {q : Progress} {p' t' : List ℕ} → result_of x ≡ apply1 o (slot_at p t (r.height - 1))
+        → Puts r (r.height - 1) (r.height - 1 + 1) x q p p' → Types (r.height - 1) x t t' → Executes (One o) r q p t p' t'
+    one_put o x {q} {p'} {t'} e put ty m cap f k =
+        one_is cap r p t f k m o q p' t' (result_of x) has e (replaced_is cap r p t f k (r.height - 1) x q p' t' (omega arith) (omega arith) put ty)
 
-    pub one-turns : (o : Unary) {a : Value} (x : Computed) {q : Progress} {p′ t′ : List ℕ} → a ≡ valueOf (slotAt p t (r .height - 1)) → Turns o a x
-        → Puts r (r .height - 1) (r .height - 1 + 1) x q p p′ → Types (r .height - 1) x t t′ → Executes (One o) r q p t p′ t′
-    one-turns o x v e put ty = one-put o x (e (slotAt p t (r .height - 1)) top-kind v) put ty
+    pub one_turns : (o : Unary) {a : Value} (x : Computed) {q : Progress} {p' t' : List ℕ} → a ≡ value_of (slot_at p t (r.height - 1)) → Turns o a x
+        → Puts r (r.height - 1) (r.height - 1 + 1) x q p p' → Types (r.height - 1) x t t' → Executes (One o) r q p t p' t'
+    one_turns o x v e put ty = one_put o x (e (slot_at p t (r.height - 1)) top_kind v) put ty
 
-    pub one-converts : (b : Bool) (n : Num) {a : Value} (x : Computed) {q : Progress} {p′ t′ : List ℕ} → (slotAt p t (r .height - 1) .kind ≡ numKind n → ⊥)
-        → a ≡ valueOf (slotAt p t (r .height - 1)) → Converts b n a x
-        → Puts r (r .height - 1) (r .height - 1 + 1) x q p p′ → Types (r .height - 1) x t t′ → Executes (One (Convert b n)) r q p t p′ t′
-    one-converts b n x ne v e put ty = one-put (Convert b n) x (e (slotAt p t (r .height - 1)) top-kind ne v) put ty
+    pub one_converts : (b : Bool) (n : Num) {a : Value} (x : Computed) {q : Progress} {p' t' : List ℕ} → ((slot_at p t (r.height - 1)).kind ≡ num_kind n → ⊥)
+        → a ≡ value_of (slot_at p t (r.height - 1)) → Converts b n a x
+        → Puts r (r.height - 1) (r.height - 1 + 1) x q p p' → Types (r.height - 1) x t t' → Executes (One (Convert b n)) r q p t p' t'
+    one_converts b n x ne v e put ty = one_put (Convert b n) x (e (slot_at p t (r.height - 1)) top_kind ne v) put ty
 
-    pub one-like : {o : Unary} → Keeping o → {a : Value} (x : Computed) {q : Progress} {p′ : List ℕ} → a ≡ valueOf (slotAt p t (r .height - 1)) → Turns o a x
-        → Puts r (r .height - 1) (r .height - 1 + 1) x q p p′ → Executes (One o) r q p t p′ t
-    one-like {o} d x v e put =
-        let i = e (slotAt p t (r .height - 1)) top-kind v in
-        one-put o x i put (same-types p t (r .height - 1) x (one-typed d (slotAt p t (r .height - 1)) x i))
+    pub one_like : {o : Unary} → Keeping o → {a : Value} (x : Computed) {q : Progress} {p' : List ℕ} → a ≡ value_of (slot_at p t (r.height - 1)) → Turns o a x
+        → Puts r (r.height - 1) (r.height - 1 + 1) x q p p' → Executes (One o) r q p t p' t
+    one_like {o} d x v e put =
+        let i = e (slot_at p t (r.height - 1)) top_kind v in
+        one_put o x i put (same_types p t (r.height - 1) x (one_typed d (slot_at p t (r.height - 1)) x i))
 
     -- a conversion to the own type
-    pub own-type : (b : Bool) (n : Num) → slotAt p t (r .height - 1) .kind ≡ numKind n → Executes (One (Convert b n)) r (Goes (movedTo r (r .place + 1) (r .height))) p t p t
-    unfolding execIn
-    own-type b n e m cap f k =
-        dropping cap r p t f k (r .place + 1) (r .height) _ (omega arith) (c .over)
-        (take1-has p t (r .floor) (r .height) _ has
-        ∙ rw (own-is b n (slotAt p t (r .height - 1)) e, length-slots p t (r .height - 1), le-leb (suc (r .height - 1)) cap (omega (arith, k .high)), slots-top p t (r .height) (omega arith)) refl)
+    pub own_type : (b : Bool) (n : Num) → (slot_at p t (r.height - 1)).kind ≡ num_kind n → Executes (One (Convert b n)) r (Goes (moved_to r (r.place + 1) r.height)) p t p t
+    unfolding exec_in
+    own_type b n e m cap f k =
+        dropping cap r p t f k (r.place + 1) r.height _ (omega arith) c.over
+        (take1_has p t r.floor r.height _ has
+        ∙ rw (own_is b n (slot_at p t (r.height - 1)) e, length_slots p t (r.height - 1), le-leb (suc (r.height - 1)) cap (omega (arith, k.high)), slots_top p t r.height (omega arith)) refl)
 
   -- ---- two
 
-  module _ (has : r .floor + 2 ≤ r .height) where
-    pub deep-kind : Kind (slotAt p t (r .height - 2) .kind)
-    deep-kind = kind-at p t (r .height) (r .height - 2) (c .kinds) (omega arith) refl
+  module _ (has : r.floor + 2 ≤ r.height) where
+    pub deep_kind : Kind (slot_at p t (r.height - 2)).kind
+    deep_kind = kind_at p t r.height (r.height - 2) c.kinds (omega arith) refl
 
-    pub two-put : (o : Binary) (x : Computed) {q : Progress} {p′ t′ : List ℕ}
-        → resultOf x ≡ apply2 o (slotAt p t (r .height - 2)) (slotAt p t (r .height - 1))
-        → Puts r (r .height - 2) (r .height - 2 + 1) x q p p′ → Types (r .height - 2) x t t′ → Executes (Two o) r q p t p′ t′
-    two-put o x {q} {p′} {t′} e put ty m cap f k =
-        two-is cap r p t f k m o q p′ t′ (resultOf x) has e (replaced-is cap r p t f k (r .height - 2) x q p′ t′ (omega arith) (omega arith) put ty)
+    pub two_put : (o : Binary) (x : Computed) {q : Progress} {p' t' : List ℕ}
+        → result_of x ≡ apply2 o (slot_at p t (r.height - 2)) (slot_at p t (r.height - 1))
+        → Puts r (r.height - 2) (r.height - 2 + 1) x q p p' → Types (r.height - 2) x t t' → Executes (Two o) r q p t p' t'
+    two_put o x {q} {p'} {t'} e put ty m cap f k =
+        two_is cap r p t f k m o q p' t' (result_of x) has e (replaced_is cap r p t f k (r.height - 2) x q p' t' (omega arith) (omega arith) put ty)
 
-    pub two-raises : (o : Binary) (n : ℕ) → refuse (class2 o) (slotAt p t (r .height - 2) .kind) (slotAt p t (r .height - 1) .kind) ≡ some n
+    pub two_raises : (o : Binary) (n : ℕ) → refuse (class2 o) (slot_at p t (r.height - 2)).kind (slot_at p t (r.height - 1)).kind ≡ some n
         → Executes (Two o) r (Stops n) p t p t
-    two-raises o n e = two-put o (Raises n) (rw e refl) (refl, refl) refl
+    two_raises o n e = two_put o (Raises n) (rw e refl) (refl, refl) refl
 
-  pub two-gives : (o : Binary) {a b : Value} (x : Computed) → Both r p t a b → Computes o a b x
-      → resultOf x ≡ apply2 o (slotAt p t (r .height - 2)) (slotAt p t (r .height - 1))
-  two-gives o x b e =
-      e (slotAt p t (r .height - 2)) (slotAt p t (r .height - 1)) (deep-kind (b .has)) (top-kind (let h = b .has in omega arith)) (b .deep) (b .top)
+  pub two_gives : (o : Binary) {a b : Value} (x : Computed) → Both r p t a b → Computes o a b x
+      → result_of x ≡ apply2 o (slot_at p t (r.height - 2)) (slot_at p t (r.height - 1))
+  two_gives o x b e =
+      e (slot_at p t (r.height - 2)) (slot_at p t (r.height - 1)) (deep_kind b.has) (top_kind (let h = b.has in omega arith)) b.deep b.top
 
-  pub two-like : (o : Operator) {a b : Value} (x : Computed) {q : Progress} {p′ : List ℕ} → Both r p t a b → Computes (Arith o) a b x
-      → Puts r (r .height - 2) (r .height - 2 + 1) x q p p′ → Executes (Two (Arith o)) r q p t p′ t
-  two-like o x b e put =
-      let i = two-gives (Arith o) x b e in
-      two-put (b .has) (Arith o) x i put (same-types p t (r .height - 2) x (arith-typed o (slotAt p t (r .height - 2)) (slotAt p t (r .height - 1)) x i))
+  pub two_like : (o : Operator) {a b : Value} (x : Computed) {q : Progress} {p' : List ℕ} → Both r p t a b → Computes (Arith o) a b x
+      → Puts r (r.height - 2) (r.height - 2 + 1) x q p p' → Executes (Two (Arith o)) r q p t p' t
+  two_like o x b e put =
+      let i = two_gives (Arith o) x b e in
+      two_put b.has (Arith o) x i put (same_types p t (r.height - 2) x (arith_typed o (slot_at p t (r.height - 2)) (slot_at p t (r.height - 1)) x i))
 
 -- what `pair` found
 pub alike : {r : Registers} {p t : List ℕ} {x : Operands} {a b : Value} → x ≡ Alike a b → Paired r p t x → Both r p t a b

@@ -1,18 +1,17 @@
 // `cmp` and `icmp`.
-ghost use mathlib.Core.Bool.{true, false};
-ghost use Rattle·rules.specs.declared.Binary.the-variants.{Cmp};
-ghost use Rattle·rules.specs.declared.Instruction.the-variants.{Two};
-ghost use Rattle·operands·specs.specs.Operands.{Computable, Executes};
-use crate::exceptions::STACK_DIFFERENTTYPE;
-use crate::exceptions::STACK_EMPTY;
+ghost use Rattle.std.specs.Prelude.{true, false};
+ghost use Rattle.rules.specs.declared.Binary.TheVariants.{Cmp};
+ghost use Rattle.rules.specs.declared.Instruction.TheVariants.{Two};
+ghost use Rattle.operands.specs.Operands.{Computable, Executes};
+
+use crate::exceptions::{STACK_DIFFERENTTYPE, STACK_EMPTY};
 use crate::results::replaced;
-use state::Progress;
-use state::Registers;
+use state::{Progress, Registers};
 
 // `cmp`.
 pub fn cmp(r: Registers, p: &mut [u8], t: &mut [u8]) -> Progress
-    requires { ⌜ Computable r (now p) (now t) ⌝ }
-    ensures { λ a. ⌜ Executes (Two (Cmp false)) r a (now (p .entry)) (now (t .entry)) (now (p .exit)) (now (t .exit)) ⌝ }
+    requires { Computable r p.old t.old }
+    ensures { Executes (Two (Cmp false)) r result p.old t.old p.new t.new }
 {
     let h = r.height;
     if h < r.floor + 2 {
@@ -30,8 +29,8 @@ pub fn cmp(r: Registers, p: &mut [u8], t: &mut [u8]) -> Progress
 
 // `icmp`.
 pub fn icmp(r: Registers, p: &mut [u8], t: &mut [u8]) -> Progress
-    requires { ⌜ Computable r (now p) (now t) ⌝ }
-    ensures { λ a. ⌜ Executes (Two (Cmp true)) r a (now (p .entry)) (now (t .entry)) (now (p .exit)) (now (t .exit)) ⌝ }
+    requires { Computable r p.old t.old }
+    ensures { Executes (Two (Cmp true)) r result p.old t.old p.new t.new }
 {
     let h = r.height;
     if h < r.floor + 2 {

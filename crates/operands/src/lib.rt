@@ -1,4 +1,6 @@
 // Instructions that compute with the top one or two operands, as values.
+#![tactic(auto)]
+
 pub mod comparison;
 mod exceptions;
 pub mod operators;

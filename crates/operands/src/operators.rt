@@ -1,21 +1,20 @@
 // `add` to `sar`. Slots of two types are refused first; after that the two values are of one case.
-ghost use mathlib.Core.Path.{_≡_};
-ghost use mathlib.Core.Option.{some};
-ghost use Rattle·rules.specs.Operations.{refuse, classOf};
-ghost use Rattle·rules.specs.declared.Binary.the-variants.{Arith};
-ghost use Rattle·rules.specs.declared.Instruction.the-variants.{Two};
-ghost use Rattle·rules.specs.declared.Operator.{Operator};
-ghost use Rattle·rules.specs.declared.Operator.the-variants.{Add, Sub, Mul, Imul, Div, Idiv, Mod, Imod, And, Or, Xor, Shl, Sal, Shr, Sar};
-ghost use Rattle·operands·specs.specs.Operands.{Computable, Executes, Paired};
-use crate::exceptions::POINTER_INVALIDFORPOINTER;
-use crate::exceptions::STACK_DIFFERENTTYPE;
-use crate::exceptions::STACK_EMPTY;
+ghost use Rattle.std.specs.Prelude.{◌≡◌};
+ghost use Rattle.std.proofs.Math.Option.{some};
+ghost use Rattle.rules.specs.Operations.{refuse, class_of};
+ghost use Rattle.rules.specs.declared.Binary.TheVariants.{Arith};
+ghost use Rattle.rules.specs.declared.Instruction.TheVariants.{Two};
+ghost use Rattle.rules.specs.declared.Operator.{Operator};
+ghost use Rattle.rules.specs.declared.Operator.TheVariants.{Add, Sub, Mul, Imul, Div, Idiv, Mod, Imod, And, Or, Xor, Shl, Sal, Shr, Sar};
+ghost use Rattle.operands.specs.Operands.{Computable, Executes, Paired};
+
+use crate::exceptions::{POINTER_INVALIDFORPOINTER, STACK_DIFFERENTTYPE, STACK_EMPTY};
 use crate::results::replaced_like;
-use state::Progress;
-use state::Registers;
+use state::{Progress, Registers};
 use values::Value;
 
 // The two top operands as values of one type, or the exception that they raise.
+#[derive(Clone, Copy)]
 enum Operands {
     Alike(Value, Value),
     Refused(u32),
@@ -23,7 +22,7 @@ enum Operands {
 
 // Operands of two types, by their type numbers.
 fn unlike(a: u8, b: u8) -> u32
-    ensures { λ r. ⌜ ((o : Operator) → (a ≡ b → ⊥) → refuse (classOf o) a b ≡ some r) ⌝ }
+    ensures { (o : Operator) → (a ≡ b → ⊥) → refuse (class_of o) a b ≡ some result }
 {
     if (a == 7) | (a == 8) {
         return POINTER_INVALIDFORPOINTER;
@@ -35,8 +34,8 @@ fn unlike(a: u8, b: u8) -> u32
 }
 
 fn pair(r: Registers, p: &[u8], t: &[u8]) -> Operands
-    requires { ⌜ Computable r (now p) (now t) ⌝ }
-    ensures { λ x. ⌜ Paired r (now (p .entry)) (now (t .entry)) x ⌝ }
+    requires { Computable r p.now t.now }
+    ensures { Paired r p.now t.now result }
 {
     let h = r.height;
     if h < r.floor + 2 {
@@ -54,8 +53,8 @@ fn pair(r: Registers, p: &[u8], t: &[u8]) -> Operands
 
 // `add`.
 pub fn add(r: Registers, p: &mut [u8], t: &[u8]) -> Progress
-    requires { ⌜ Computable r (now p) (now t) ⌝ }
-    ensures { λ a. ⌜ Executes (Two (Arith Add)) r a (now (p .entry)) (now (t .entry)) (now (p .exit)) (now (t .entry)) ⌝ }
+    requires { Computable r p.old t.now }
+    ensures { Executes (Two (Arith Add)) r result p.old t.now p.new t.now }
 {
     let found = pair(r, p, t);
     match found {
@@ -66,8 +65,8 @@ pub fn add(r: Registers, p: &mut [u8], t: &[u8]) -> Progress
 
 // `sub`.
 pub fn sub(r: Registers, p: &mut [u8], t: &[u8]) -> Progress
-    requires { ⌜ Computable r (now p) (now t) ⌝ }
-    ensures { λ a. ⌜ Executes (Two (Arith Sub)) r a (now (p .entry)) (now (t .entry)) (now (p .exit)) (now (t .entry)) ⌝ }
+    requires { Computable r p.old t.now }
+    ensures { Executes (Two (Arith Sub)) r result p.old t.now p.new t.now }
 {
     let found = pair(r, p, t);
     match found {
@@ -78,8 +77,8 @@ pub fn sub(r: Registers, p: &mut [u8], t: &[u8]) -> Progress
 
 // `mul`.
 pub fn mul(r: Registers, p: &mut [u8], t: &[u8]) -> Progress
-    requires { ⌜ Computable r (now p) (now t) ⌝ }
-    ensures { λ a. ⌜ Executes (Two (Arith Mul)) r a (now (p .entry)) (now (t .entry)) (now (p .exit)) (now (t .entry)) ⌝ }
+    requires { Computable r p.old t.now }
+    ensures { Executes (Two (Arith Mul)) r result p.old t.now p.new t.now }
 {
     let found = pair(r, p, t);
     match found {
@@ -90,8 +89,8 @@ pub fn mul(r: Registers, p: &mut [u8], t: &[u8]) -> Progress
 
 // `imul`.
 pub fn imul(r: Registers, p: &mut [u8], t: &[u8]) -> Progress
-    requires { ⌜ Computable r (now p) (now t) ⌝ }
-    ensures { λ a. ⌜ Executes (Two (Arith Imul)) r a (now (p .entry)) (now (t .entry)) (now (p .exit)) (now (t .entry)) ⌝ }
+    requires { Computable r p.old t.now }
+    ensures { Executes (Two (Arith Imul)) r result p.old t.now p.new t.now }
 {
     let found = pair(r, p, t);
     match found {
@@ -102,8 +101,8 @@ pub fn imul(r: Registers, p: &mut [u8], t: &[u8]) -> Progress
 
 // `div`.
 pub fn div(r: Registers, p: &mut [u8], t: &[u8]) -> Progress
-    requires { ⌜ Computable r (now p) (now t) ⌝ }
-    ensures { λ a. ⌜ Executes (Two (Arith Div)) r a (now (p .entry)) (now (t .entry)) (now (p .exit)) (now (t .entry)) ⌝ }
+    requires { Computable r p.old t.now }
+    ensures { Executes (Two (Arith Div)) r result p.old t.now p.new t.now }
 {
     let found = pair(r, p, t);
     match found {
@@ -114,8 +113,8 @@ pub fn div(r: Registers, p: &mut [u8], t: &[u8]) -> Progress
 
 // `idiv`.
 pub fn idiv(r: Registers, p: &mut [u8], t: &[u8]) -> Progress
-    requires { ⌜ Computable r (now p) (now t) ⌝ }
-    ensures { λ a. ⌜ Executes (Two (Arith Idiv)) r a (now (p .entry)) (now (t .entry)) (now (p .exit)) (now (t .entry)) ⌝ }
+    requires { Computable r p.old t.now }
+    ensures { Executes (Two (Arith Idiv)) r result p.old t.now p.new t.now }
 {
     let found = pair(r, p, t);
     match found {
@@ -126,8 +125,8 @@ pub fn idiv(r: Registers, p: &mut [u8], t: &[u8]) -> Progress
 
 // `mod`.
 pub fn mod_(r: Registers, p: &mut [u8], t: &[u8]) -> Progress
-    requires { ⌜ Computable r (now p) (now t) ⌝ }
-    ensures { λ a. ⌜ Executes (Two (Arith Mod)) r a (now (p .entry)) (now (t .entry)) (now (p .exit)) (now (t .entry)) ⌝ }
+    requires { Computable r p.old t.now }
+    ensures { Executes (Two (Arith Mod)) r result p.old t.now p.new t.now }
 {
     let found = pair(r, p, t);
     match found {
@@ -138,8 +137,8 @@ pub fn mod_(r: Registers, p: &mut [u8], t: &[u8]) -> Progress
 
 // `imod`.
 pub fn imod(r: Registers, p: &mut [u8], t: &[u8]) -> Progress
-    requires { ⌜ Computable r (now p) (now t) ⌝ }
-    ensures { λ a. ⌜ Executes (Two (Arith Imod)) r a (now (p .entry)) (now (t .entry)) (now (p .exit)) (now (t .entry)) ⌝ }
+    requires { Computable r p.old t.now }
+    ensures { Executes (Two (Arith Imod)) r result p.old t.now p.new t.now }
 {
     let found = pair(r, p, t);
     match found {
@@ -150,8 +149,8 @@ pub fn imod(r: Registers, p: &mut [u8], t: &[u8]) -> Progress
 
 // `and`.
 pub fn and(r: Registers, p: &mut [u8], t: &[u8]) -> Progress
-    requires { ⌜ Computable r (now p) (now t) ⌝ }
-    ensures { λ a. ⌜ Executes (Two (Arith And)) r a (now (p .entry)) (now (t .entry)) (now (p .exit)) (now (t .entry)) ⌝ }
+    requires { Computable r p.old t.now }
+    ensures { Executes (Two (Arith And)) r result p.old t.now p.new t.now }
 {
     let found = pair(r, p, t);
     match found {
@@ -162,8 +161,8 @@ pub fn and(r: Registers, p: &mut [u8], t: &[u8]) -> Progress
 
 // `or`.
 pub fn or(r: Registers, p: &mut [u8], t: &[u8]) -> Progress
-    requires { ⌜ Computable r (now p) (now t) ⌝ }
-    ensures { λ a. ⌜ Executes (Two (Arith Or)) r a (now (p .entry)) (now (t .entry)) (now (p .exit)) (now (t .entry)) ⌝ }
+    requires { Computable r p.old t.now }
+    ensures { Executes (Two (Arith Or)) r result p.old t.now p.new t.now }
 {
     let found = pair(r, p, t);
     match found {
@@ -174,8 +173,8 @@ pub fn or(r: Registers, p: &mut [u8], t: &[u8]) -> Progress
 
 // `xor`.
 pub fn xor(r: Registers, p: &mut [u8], t: &[u8]) -> Progress
-    requires { ⌜ Computable r (now p) (now t) ⌝ }
-    ensures { λ a. ⌜ Executes (Two (Arith Xor)) r a (now (p .entry)) (now (t .entry)) (now (p .exit)) (now (t .entry)) ⌝ }
+    requires { Computable r p.old t.now }
+    ensures { Executes (Two (Arith Xor)) r result p.old t.now p.new t.now }
 {
     let found = pair(r, p, t);
     match found {
@@ -186,8 +185,8 @@ pub fn xor(r: Registers, p: &mut [u8], t: &[u8]) -> Progress
 
 // `shl`.
 pub fn shl(r: Registers, p: &mut [u8], t: &[u8]) -> Progress
-    requires { ⌜ Computable r (now p) (now t) ⌝ }
-    ensures { λ a. ⌜ Executes (Two (Arith Shl)) r a (now (p .entry)) (now (t .entry)) (now (p .exit)) (now (t .entry)) ⌝ }
+    requires { Computable r p.old t.now }
+    ensures { Executes (Two (Arith Shl)) r result p.old t.now p.new t.now }
 {
     let found = pair(r, p, t);
     match found {
@@ -198,8 +197,8 @@ pub fn shl(r: Registers, p: &mut [u8], t: &[u8]) -> Progress
 
 // `sal`.
 pub fn sal(r: Registers, p: &mut [u8], t: &[u8]) -> Progress
-    requires { ⌜ Computable r (now p) (now t) ⌝ }
-    ensures { λ a. ⌜ Executes (Two (Arith Sal)) r a (now (p .entry)) (now (t .entry)) (now (p .exit)) (now (t .entry)) ⌝ }
+    requires { Computable r p.old t.now }
+    ensures { Executes (Two (Arith Sal)) r result p.old t.now p.new t.now }
 {
     let found = pair(r, p, t);
     match found {
@@ -210,8 +209,8 @@ pub fn sal(r: Registers, p: &mut [u8], t: &[u8]) -> Progress
 
 // `shr`.
 pub fn shr(r: Registers, p: &mut [u8], t: &[u8]) -> Progress
-    requires { ⌜ Computable r (now p) (now t) ⌝ }
-    ensures { λ a. ⌜ Executes (Two (Arith Shr)) r a (now (p .entry)) (now (t .entry)) (now (p .exit)) (now (t .entry)) ⌝ }
+    requires { Computable r p.old t.now }
+    ensures { Executes (Two (Arith Shr)) r result p.old t.now p.new t.now }
 {
     let found = pair(r, p, t);
     match found {
@@ -222,8 +221,8 @@ pub fn shr(r: Registers, p: &mut [u8], t: &[u8]) -> Progress
 
 // `sar`.
 pub fn sar(r: Registers, p: &mut [u8], t: &[u8]) -> Progress
-    requires { ⌜ Computable r (now p) (now t) ⌝ }
-    ensures { λ a. ⌜ Executes (Two (Arith Sar)) r a (now (p .entry)) (now (t .entry)) (now (p .exit)) (now (t .entry)) ⌝ }
+    requires { Computable r p.old t.now }
+    ensures { Executes (Two (Arith Sar)) r result p.old t.now p.new t.now }
 {
     let found = pair(r, p, t);
     match found {

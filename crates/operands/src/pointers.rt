@@ -1,26 +1,22 @@
 // `inc` and `dec`: of the number that the pointer on top names, where that is a slot.
-ghost use mathlib.Core.Bool.{true, false};
-ghost use Prim.Native.Nat.{_+_, _-_, _*_, _<_, _≤_};
-ghost use lib.ListN.{length};
-ghost use Rattle·rules.specs.declared.Instruction.the-variants.{Bump};
-ghost use Rattle·operands·specs.specs.Operands.{Computable, ExecutesOrDefers, Puts, Finds};
-use crate::exceptions::POINTER_NOTPOINTER;
-use crate::exceptions::POINTER_UNKNOWNADDRESS;
-use crate::exceptions::STACK_EMPTY;
-use state::Progress;
-use state::Registers;
-use values::Computed;
-use values::Value;
+ghost use Rattle.std.specs.Prelude.{true, false, ◌+◌, ◌-◌, ◌*◌, ◌<◌, ◌≤◌, length};
+ghost use Rattle.rules.specs.declared.Instruction.TheVariants.{Bump};
+ghost use Rattle.operands.specs.Operands.{Computable, ExecutesOrDefers, Puts, Finds};
+
+use crate::exceptions::{POINTER_NOTPOINTER, POINTER_UNKNOWNADDRESS, STACK_EMPTY};
+use state::{Progress, Registers};
+use values::{Computed, Value};
 
 // The slot that the pointer on top names and the value in it, or the exception that it raises.
+#[derive(Clone, Copy)]
 enum Pointee {
     At(usize, Value),
     Nowhere(u32),
 }
 
 fn find(r: Registers, p: &[u8], t: &[u8]) -> Pointee
-    requires { ⌜ Computable r (now p) (now t) ⌝ }
-    ensures { λ x. ⌜ Finds r (now (p .entry)) (now (t .entry)) x ⌝ }
+    requires { Computable r p.now t.now }
+    ensures { Finds r p.now t.now result }
 {
     let h = r.height;
     if h < r.floor + 1 {
@@ -40,8 +36,8 @@ fn find(r: Registers, p: &[u8], t: &[u8]) -> Pointee
 
 // The number back in slot i, of its own type, and the pointer gone.
 fn put_back(r: Registers, i: usize, x: Computed, p: &mut [u8]) -> Progress
-    requires { ⌜ (r .place < r .stop) × (0 < r .height) × (i * 8 + 8 ≤ length (now p)) ⌝ }
-    ensures { λ a. ⌜ Puts r i (r .height - 1) x a (now (p .entry)) (now (p .exit)) ⌝ }
+    requires { (r.place < r.stop) × (0 < r.height) × (i * 8 + 8 ≤ length p.old) }
+    ensures { Puts r i (r.height - 1) x result p.old p.new }
 {
     match x {
         Computed::Yields(v) => {
@@ -54,8 +50,8 @@ fn put_back(r: Registers, i: usize, x: Computed, p: &mut [u8]) -> Progress
 
 // `inc`.
 pub fn inc(r: Registers, p: &mut [u8], t: &[u8]) -> Progress
-    requires { ⌜ Computable r (now p) (now t) ⌝ }
-    ensures { λ a. ⌜ ExecutesOrDefers (Bump true) r a (now (p .entry)) (now (t .entry)) (now (p .exit)) (now (t .entry)) ⌝ }
+    requires { Computable r p.old t.now }
+    ensures { ExecutesOrDefers (Bump true) r result p.old t.now p.new t.now }
 {
     let found = find(r, p, t);
     match found {
@@ -66,8 +62,8 @@ pub fn inc(r: Registers, p: &mut [u8], t: &[u8]) -> Progress
 
 // `dec`.
 pub fn dec(r: Registers, p: &mut [u8], t: &[u8]) -> Progress
-    requires { ⌜ Computable r (now p) (now t) ⌝ }
-    ensures { λ a. ⌜ ExecutesOrDefers (Bump false) r a (now (p .entry)) (now (t .entry)) (now (p .exit)) (now (t .entry)) ⌝ }
+    requires { Computable r p.old t.now }
+    ensures { ExecutesOrDefers (Bump false) r result p.old t.now p.new t.now }
 {
     let found = find(r, p, t);
     match found {

@@ -1,15 +1,14 @@
 // What was computed, put where the operands were.
-ghost use Prim.Native.Nat.{_+_, _*_, _<_, _≤_};
-ghost use lib.ListN.{length};
-ghost use Rattle·operands·specs.specs.Operands.{Puts, Types};
-use state::Progress;
-use state::Registers;
+ghost use Rattle.std.specs.Prelude.{◌+◌, ◌*◌, ◌<◌, ◌≤◌, length};
+ghost use Rattle.operands.specs.Operands.{Puts, Types};
+
+use state::{Progress, Registers};
 use values::Computed;
 
 // The value in slot i, the new top.
 pub(crate) fn replaced(r: Registers, i: usize, x: Computed, p: &mut [u8], t: &mut [u8]) -> Progress
-    requires { ⌜ (r .place < r .stop) × (i * 8 + 8 ≤ length (now p)) × (i < length (now t)) ⌝ }
-    ensures { λ a. ⌜ Puts r i (i + 1) x a (now (p .entry)) (now (p .exit)) × Types i x (now (t .entry)) (now (t .exit)) ⌝ }
+    requires { (r.place < r.stop) × (i * 8 + 8 ≤ length p.old) × (i < length t.old) }
+    ensures { Puts r i (i + 1) x result p.old p.new × Types i x t.old t.new }
 {
     match x {
         Computed::Yields(v) => {
@@ -22,8 +21,8 @@ pub(crate) fn replaced(r: Registers, i: usize, x: Computed, p: &mut [u8], t: &mu
 
 // The same where slot i has the value's type: its type byte stays.
 pub(crate) fn replaced_like(r: Registers, i: usize, x: Computed, p: &mut [u8]) -> Progress
-    requires { ⌜ (r .place < r .stop) × (i * 8 + 8 ≤ length (now p)) ⌝ }
-    ensures { λ a. ⌜ Puts r i (i + 1) x a (now (p .entry)) (now (p .exit)) ⌝ }
+    requires { (r.place < r.stop) × (i * 8 + 8 ≤ length p.old) }
+    ensures { Puts r i (i + 1) x result p.old p.new }
 {
     match x {
         Computed::Yields(v) => {

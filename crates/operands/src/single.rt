@@ -1,19 +1,18 @@
 // Instructions on the top operand. A conversion to its own type keeps the payload as it is, a NaN's bits too.
-ghost use mathlib.Core.Bool.{true, false};
-ghost use Rattle·rules.specs.declared.Instruction.the-variants.{One};
-ghost use Rattle·rules.specs.declared.Num.the-variants.{Int as int, Long as long, Double as double};
-ghost use Rattle·rules.specs.declared.Unary.the-variants.{Neg, Not, Convert, Count};
-ghost use Rattle·operands·specs.specs.Operands.{Computable, Executes};
+ghost use Rattle.std.specs.Prelude.{true, false};
+ghost use Rattle.rules.specs.declared.Instruction.TheVariants.{One};
+ghost use Rattle.rules.specs.declared.Num.TheVariants.{Int as int, Long as long, Double as double};
+ghost use Rattle.rules.specs.declared.Unary.TheVariants.{Neg, Not, Convert, Count};
+ghost use Rattle.operands.specs.Operands.{Computable, Executes};
+
 use crate::exceptions::STACK_EMPTY;
-use crate::results::replaced;
-use crate::results::replaced_like;
-use state::Progress;
-use state::Registers;
+use crate::results::{replaced, replaced_like};
+use state::{Progress, Registers};
 
 // `neg`.
 pub fn neg(r: Registers, p: &mut [u8], t: &[u8]) -> Progress
-    requires { ⌜ Computable r (now p) (now t) ⌝ }
-    ensures { λ a. ⌜ Executes (One Neg) r a (now (p .entry)) (now (t .entry)) (now (p .exit)) (now (t .entry)) ⌝ }
+    requires { Computable r p.old t.now }
+    ensures { Executes (One Neg) r result p.old t.now p.new t.now }
 {
     let h = r.height;
     if h < r.floor + 1 {
@@ -25,8 +24,8 @@ pub fn neg(r: Registers, p: &mut [u8], t: &[u8]) -> Progress
 
 // `not`.
 pub fn not(r: Registers, p: &mut [u8], t: &[u8]) -> Progress
-    requires { ⌜ Computable r (now p) (now t) ⌝ }
-    ensures { λ a. ⌜ Executes (One Not) r a (now (p .entry)) (now (t .entry)) (now (p .exit)) (now (t .entry)) ⌝ }
+    requires { Computable r p.old t.now }
+    ensures { Executes (One Not) r result p.old t.now p.new t.now }
 {
     let h = r.height;
     if h < r.floor + 1 {
@@ -38,8 +37,8 @@ pub fn not(r: Registers, p: &mut [u8], t: &[u8]) -> Progress
 
 // `inc` of edition 1.
 pub fn inc(r: Registers, p: &mut [u8], t: &[u8]) -> Progress
-    requires { ⌜ Computable r (now p) (now t) ⌝ }
-    ensures { λ a. ⌜ Executes (One (Count true)) r a (now (p .entry)) (now (t .entry)) (now (p .exit)) (now (t .entry)) ⌝ }
+    requires { Computable r p.old t.now }
+    ensures { Executes (One (Count true)) r result p.old t.now p.new t.now }
 {
     let h = r.height;
     if h < r.floor + 1 {
@@ -51,8 +50,8 @@ pub fn inc(r: Registers, p: &mut [u8], t: &[u8]) -> Progress
 
 // `dec` of edition 1.
 pub fn dec(r: Registers, p: &mut [u8], t: &[u8]) -> Progress
-    requires { ⌜ Computable r (now p) (now t) ⌝ }
-    ensures { λ a. ⌜ Executes (One (Count false)) r a (now (p .entry)) (now (t .entry)) (now (p .exit)) (now (t .entry)) ⌝ }
+    requires { Computable r p.old t.now }
+    ensures { Executes (One (Count false)) r result p.old t.now p.new t.now }
 {
     let h = r.height;
     if h < r.floor + 1 {
@@ -64,8 +63,8 @@ pub fn dec(r: Registers, p: &mut [u8], t: &[u8]) -> Progress
 
 // `toi`. Where it does not raise 44, it is edition 1's.
 pub fn toi(raises: bool, r: Registers, p: &mut [u8], t: &mut [u8]) -> Progress
-    requires { ⌜ Computable r (now p) (now t) ⌝ }
-    ensures { λ a. ⌜ Executes (One (Convert raises int)) r a (now (p .entry)) (now (t .entry)) (now (p .exit)) (now (t .exit)) ⌝ }
+    requires { Computable r p.old t.old }
+    ensures { Executes (One (Convert raises int)) r result p.old t.old p.new t.new }
 {
     let h = r.height;
     if h < r.floor + 1 {
@@ -81,8 +80,8 @@ pub fn toi(raises: bool, r: Registers, p: &mut [u8], t: &mut [u8]) -> Progress
 
 // `tol`, in the same way.
 pub fn tol(raises: bool, r: Registers, p: &mut [u8], t: &mut [u8]) -> Progress
-    requires { ⌜ Computable r (now p) (now t) ⌝ }
-    ensures { λ a. ⌜ Executes (One (Convert raises long)) r a (now (p .entry)) (now (t .entry)) (now (p .exit)) (now (t .exit)) ⌝ }
+    requires { Computable r p.old t.old }
+    ensures { Executes (One (Convert raises long)) r result p.old t.old p.new t.new }
 {
     let h = r.height;
     if h < r.floor + 1 {
@@ -95,8 +94,8 @@ pub fn tol(raises: bool, r: Registers, p: &mut [u8], t: &mut [u8]) -> Progress
 
 // `tod`.
 pub fn tod(r: Registers, p: &mut [u8], t: &mut [u8]) -> Progress
-    requires { ⌜ Computable r (now p) (now t) ⌝ }
-    ensures { λ a. ⌜ Executes (One (Convert false double)) r a (now (p .entry)) (now (t .entry)) (now (p .exit)) (now (t .exit)) ⌝ }
+    requires { Computable r p.old t.old }
+    ensures { Executes (One (Convert false double)) r result p.old t.old p.new t.new }
 {
     let h = r.height;
     if h < r.floor + 1 {

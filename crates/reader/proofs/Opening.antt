@@ -1,173 +1,173 @@
 -- The answer of opening a file, from the rows; and what an opened module is known to have.
-use Prim.Native.Nat.{ℕ, zero, suc, _+_, _-_, _≤_, _<_}
+use Prim.Native.Nat.{ℕ, zero, suc, ◌+◌, ◌-◌, ◌≤◌, ◌<◌}
 use native.Mathlib.Omega.{arith}
-use mathlib.Core.Path.{_≡_, refl, sym, ap, _∙_, subst}
+use mathlib.Core.Path.{◌≡◌, refl, sym, ap, ◌∙◌, subst}
 use mathlib.Core.Bool.{Bool, true, false, cond}
-use mathlib.Core.List.{List, [], _∷_}
+use mathlib.Core.List.{List, [], ◌∷◌}
 use lib.Dec.{eqb, ltb}
 use lib.ListN.{length, take, drop}
-use borrow.Author.Tests.{lt-ltb, ne-eqb, ltb-false}
-use Rattle·rules.specs.Bytes.{some-below}
-use Rattle·rules.specs.Tables.{functionSize, Bodies, bodies, Tables, headerSize, labelCount, structureCount, firstOf, contentTests, badConstants, badStructures, badFunctions, badCode, badLabels}
-use Rattle·rules.specs.ModuleFile.{edition, constantsAt, structures, structuresIn, refusal, tablesIn}
-use Rattle·format.specs.declared.Sections.{Sections}
-use Rattle·format.specs.Layout.{sectionsOf, headerTests, Packed, badTable}
-use Rattle·format.proofs.Editions.{functions-third}
-use Rattle·format.proofs.Rows.{Header, header-of, packed-of, first-hit, first-none}
-use Rattle·reader·specs.specs.declared.Opened.the-variants.{Refused, Module}
-use Rattle·reader·specs.specs.Answers.{codeTests, functionsTests, bodiesTests, answer, openedOf}
-use Rattle·reader·proofs.proofs.Bodies.{same-code, same-labels}
-use Rattle·reader·proofs.proofs.Records.{none-declared, old-pool, lent-tables}
+use borrow.Author.Tests.{lt-ltb, ne_eqb, ltb-false}
+use Rattle.rules.specs.Bytes.{some_below}
+use Rattle.rules.specs.Tables.{function_size, Bodies, bodies, Tables, header_size, label_count, structure_count, first_of, content_tests, bad_constants, bad_structures, bad_functions, bad_code, bad_labels}
+use Rattle.rules.specs.ModuleFile.{edition, constants_at, structures, structures_in, refusal, tables_in}
+use Rattle.format.specs.declared.Sections.{Sections}
+use Rattle.format.specs.Layout.{sections_of, header_tests, Packed, bad_table}
+use Rattle.format.proofs.Editions.{functions_third}
+use Rattle.format.proofs.Rows.{Header, header_of_lem, packed_of, first_hit, first_none}
+use Rattle.reader.specs.declared.Opened.TheVariants.{Refused, Module}
+use Rattle.reader.specs.Answers.{code_tests, functions_tests, bodies_tests, answer, opened_of}
+use Rattle.reader.proofs.Bodies.{same_code, same_labels}
+use Rattle.reader.proofs.Records.{none_declared, old_pool, lent_tables}
 
 refused : (n : ℕ) (c : Sections) → (n ≡ 0 → ⊥) → Refused n ≡ answer n c
 refused zero c h = absurd (h refl)
 refused (suc n) c h = refl
 
 -- rows 6 to 9 decide where rows 1 to 5 don't hold
-later : (s : List ℕ) → Header s → firstOf 6 (contentTests (tablesIn s)) ≡ refusal s
-unfolding refusal firstOf
-later s h = simp (h .long, h .known, h .total, h .limits, h .packed)
+later : (s : List ℕ) → Header s → first_of 6 (content_tests (tables_in s)) ≡ refusal s
+unfolding refusal first_of
+later s h = simp (h.long, h.known, h.total, h.limits, h.packed)
 
 module _ (s : List ℕ) (n : ℕ) where
-  pub refused-first : n ≡ firstOf 1 (headerTests s) → (n ≡ 0 → ⊥) → Refused n ≡ openedOf s
+  pub refused_first : n ≡ first_of 1 (header_tests s) → (n ≡ 0 → ⊥) → Refused n ≡ opened_of s
   unfolding refusal
-  refused-first e h =
-      refused n (sectionsOf s) h
-      ∙ ap (λ (k : ℕ). answer k (sectionsOf s)) (e ∙ sym (first-hit 0 (headerTests s) (contentTests (tablesIn s)) (λ z. h (e ∙ z))))
+  refused_first e h =
+      refused n (sections_of s) h
+      ∙ ap (λ (k : ℕ). answer k (sections_of s)) (e ∙ sym (first_hit 0 (header_tests s) (content_tests (tables_in s)) (λ z. h (e ∙ z))))
 
-  pub refused-later : Header s → n ≡ firstOf 6 (contentTests (tablesIn s)) → (n ≡ 0 → ⊥) → Refused n ≡ openedOf s
-  refused-later k e h = refused n (sectionsOf s) h ∙ ap (λ (k : ℕ). answer k (sectionsOf s)) (e ∙ later s k)
+  pub refused_later : Header s → n ≡ first_of 6 (content_tests (tables_in s)) → (n ≡ 0 → ⊥) → Refused n ≡ opened_of s
+  refused_later k e h = refused n (sections_of s) h ∙ ap (λ (k : ℕ). answer k (sections_of s)) (e ∙ later s k)
 
-  pub not-refused : Header s → n ≡ firstOf 6 (contentTests (tablesIn s)) → n ≡ 0 → (c : Sections) → c ≡ sectionsOf s → Module c ≡ openedOf s
-  not-refused k e h c g =
+  pub not_refused : Header s → n ≡ first_of 6 (content_tests (tables_in s)) → n ≡ 0 → (c : Sections) → c ≡ sections_of s → Module c ≡ opened_of s
+  not_refused k e h c g =
       let z : refusal s ≡ 0 = sym (later s k) ∙ sym e ∙ h in
-      ap Module g ∙ ap (λ (k : ℕ). answer k (sectionsOf s)) (sym z)
+      ap Module g ∙ ap (λ (k : ℕ). answer k (sections_of s)) (sym z)
 
 -- ---- the header by edition
 
-pub too-short : (s : List ℕ) → length s < 48 → Refused 1 ≡ openedOf s
-unfolding firstOf
-too-short s l = refused-first s 1 (simp (lt-ltb (length s) (headerSize (edition s)) (below (eqb (edition s) 4)))) (λ z. absurd (omega arith))
+pub too_short : (s : List ℕ) → length s < 48 → Refused 1 ≡ opened_of s
+unfolding first_of
+too_short s l = refused_first s 1 (simp (lt-ltb (length s) (header_size (edition s)) (below (eqb (edition s) 4)))) (λ z. absurd (omega arith))
   where
     below : (b : Bool) → length s < cond b 56 48
     below true = omega arith
     below false = l
 
-pub old-header : (s : List ℕ) → (edition s ≡ 4 → ⊥) → (48 ≡ constantsAt s) × (0 ≡ structures s) × (20 ≡ functionSize (edition s))
-old-header s other = let q = ne-eqb (edition s) 4 other in (simp q, simp q, simp q)
+pub old_header : (s : List ℕ) → (edition s ≡ 4 → ⊥) → (48 ≡ constants_at s) × (0 ≡ structures s) × (20 ≡ function_size (edition s))
+old_header s other = let q = ne_eqb (edition s) 4 other in (simp q, simp q, simp q)
 
-pub fourth-header : (s : List ℕ) → edition s ≡ 4 → Header s → 56 ≤ length s
-fourth-header s e h = let l : ltb (length s) 56 ≡ false = rw e at (h .long) in ltb-false (length s) 56 l
+pub fourth_header : (s : List ℕ) → edition s ≡ 4 → Header s → 56 ≤ length s
+fourth_header s e h = let l : ltb (length s) 56 ≡ false = rw e at h.long in ltb-false (length s) 56 l
 
 -- ---- an answer, taken apart
 
-pub opened-refused : (s : List ℕ) (n : ℕ) → Refused n ≡ openedOf s → n ≡ refusal s
-opened-refused s n opened = go (refusal s) refl
+pub opened_refused : (s : List ℕ) (n : ℕ) → Refused n ≡ opened_of s → n ≡ refusal s
+opened_refused s n opened = go (refusal s) refl
   where
     go : (k : ℕ) → refusal s ≡ k → n ≡ refusal s
     go zero e =
-        let g : Refused n ≡ answer zero (sectionsOf s) = opened ∙ ap (λ (k : ℕ). answer k (sectionsOf s)) e in
-        let z : _≡_ {A = ℕ} 0 1 = cc in
+        let g : Refused n ≡ answer zero (sections_of s) = opened ∙ ap (λ (k : ℕ). answer k (sections_of s)) e in
+        let z : ◌≡◌ {A = ℕ} 0 1 = cc in
         absurd (omega arith)
-    go (suc k) e = let g : Refused n ≡ answer (suc k) (sectionsOf s) = opened ∙ ap (λ (k : ℕ). answer k (sectionsOf s)) e in cc
+    go (suc k) e = let g : Refused n ≡ answer (suc k) (sections_of s) = opened ∙ ap (λ (k : ℕ). answer k (sections_of s)) e in cc
 
-module _ (s : List ℕ) (c : Sections) (opened : Module c ≡ openedOf s) where
-  pub opened-sections : (refusal s ≡ 0) × (c ≡ sectionsOf s)
-  opened-sections = go (refusal s) refl
+module _ (s : List ℕ) (c : Sections) (opened : Module c ≡ opened_of s) where
+  pub opened_sections : (refusal s ≡ 0) × (c ≡ sections_of s)
+  opened_sections = go (refusal s) refl
     where
-      go : (n : ℕ) → refusal s ≡ n → (refusal s ≡ 0) × (c ≡ sectionsOf s)
-      go zero e = (e, let g : Module c ≡ answer zero (sectionsOf s) = opened ∙ ap (λ (k : ℕ). answer k (sectionsOf s)) e in cc)
+      go : (n : ℕ) → refusal s ≡ n → (refusal s ≡ 0) × (c ≡ sections_of s)
+      go zero e = (e, let g : Module c ≡ answer zero (sections_of s) = opened ∙ ap (λ (k : ℕ). answer k (sections_of s)) e in cc)
       go (suc n) e =
-          let g : Module c ≡ answer (suc n) (sectionsOf s) = opened ∙ ap (λ (k : ℕ). answer k (sectionsOf s)) e in
-          let z : _≡_ {A = ℕ} 0 1 = cc in
+          let g : Module c ≡ answer (suc n) (sections_of s) = opened ∙ ap (λ (k : ℕ). answer k (sections_of s)) e in
+          let z : ◌≡◌ {A = ℕ} 0 1 = cc in
           absurd (omega arith)
 
-  pub opened-packed : Packed s c
+  pub opened_packed : Packed s c
   unfolding refusal
-  opened-packed =
-      subst (λ (x : Sections). Packed s x) (sym (opened-sections .1)) (packed-of s (header-of s (first-none 0 (headerTests s) (contentTests (tablesIn s)) (opened-sections .0))))
+  opened_packed =
+      subst (λ (x : Sections). Packed s x) (sym opened_sections.1) (packed_of s (header_of_lem s (first_none 0 (header_tests s) (content_tests (tables_in s)) opened_sections.0)))
 
 -- ---- rows 6 to 9, one after the other
 
 -- no label, no row 9
-no-labels : (B : Bodies) (ls : List ℕ) → labelCount ls ≡ 0 → badLabels B ls ≡ false
-unfolding badLabels some-below
-no-labels B ls h = rw h refl
+no_labels : (B : Bodies) (ls : List ℕ) → label_count ls ≡ 0 → bad_labels B ls ≡ false
+unfolding bad_labels some_below
+no_labels B ls h = rw h refl
 
-no-ninth : (B : Bodies) (ls : List ℕ) → labelCount ls ≡ 0 → firstOf 8 (badCode B ∷ []) ≡ firstOf 8 (codeTests B ls)
-unfolding firstOf
-no-ninth B ls h = rw (no-labels B ls h) (go (badCode B))
+no_ninth : (B : Bodies) (ls : List ℕ) → label_count ls ≡ 0 → first_of 8 (bad_code B ∷ []) ≡ first_of 8 (code_tests B ls)
+unfolding first_of
+no_ninth B ls h = rw (no_labels B ls h) (go (bad_code B))
   where
-    go : (b : Bool) → firstOf 8 (b ∷ []) ≡ firstOf 8 (b ∷ false ∷ [])
+    go : (b : Bool) → first_of 8 (b ∷ []) ≡ first_of 8 (b ∷ false ∷ [])
     go true = refl
     go false = refl
 
 -- rows 7 to 9; no structure is looked at in rows 8 and 9
-module _ (e : ℕ) (fs zs code : List ℕ) (m : ℕ) (ls : List ℕ) (b₇ : Bool) (e₇ : b₇ ≡ badFunctions (bodies e fs zs code m)) where
-  same-rows : firstOf 8 (codeTests (bodies e fs [] code m) ls) ≡ firstOf 8 (codeTests (bodies e fs zs code m) ls)
-  same-rows =
-      ap (λ (b : Bool). firstOf 8 (b ∷ badLabels (bodies e fs [] code m) ls ∷ [])) (sym (same-code fs code m e zs))
-      ∙ ap (λ (b : Bool). firstOf 8 (badCode (bodies e fs zs code m) ∷ b ∷ [])) (sym (same-labels fs code m e zs ls))
+module _ (e : ℕ) (fs zs code : List ℕ) (m : ℕ) (ls : List ℕ) (b₇ : Bool) (e₇ : b₇ ≡ bad_functions (bodies e fs zs code m)) where
+  same_rows : first_of 8 (code_tests (bodies e fs [] code m) ls) ≡ first_of 8 (code_tests (bodies e fs zs code m) ls)
+  same_rows =
+      ap (λ (b : Bool). first_of 8 (b ∷ bad_labels (bodies e fs [] code m) ls ∷ [])) (sym (same_code fs code m e zs))
+      ∙ ap (λ (b : Bool). first_of 8 (bad_code (bodies e fs zs code m) ∷ b ∷ [])) (sym (same_labels fs code m e zs ls))
 
-  pub seventh : b₇ ≡ true → 7 ≡ firstOf 7 (functionsTests (bodies e fs zs code m) ls)
-  unfolding firstOf
+  pub seventh : b₇ ≡ true → 7 ≡ first_of 7 (functions_tests (bodies e fs zs code m) ls)
+  unfolding first_of
   seventh h = simp (← e₇, h)
 
   module _ (good₇ : b₇ ≡ false) (n : ℕ) where
-    pub from-code : n ≡ firstOf 8 (codeTests (bodies e fs [] code m) ls) → n ≡ firstOf 7 (functionsTests (bodies e fs zs code m) ls)
-    unfolding firstOf
-    from-code h = simp (← e₇, good₇) (h ∙ same-rows)
+    pub from_code : n ≡ first_of 8 (code_tests (bodies e fs [] code m) ls) → n ≡ first_of 7 (functions_tests (bodies e fs zs code m) ls)
+    unfolding first_of
+    from_code h = simp (← e₇, good₇) (h ∙ same_rows)
 
-    pub from-code-alone : labelCount ls ≡ 0 → n ≡ firstOf 8 (badCode (bodies e fs [] code m) ∷ []) → n ≡ firstOf 7 (functionsTests (bodies e fs zs code m) ls)
-    from-code-alone l h = from-code (h ∙ no-ninth (bodies e fs [] code m) ls l)
+    pub from_code_alone : label_count ls ≡ 0 → n ≡ first_of 8 (bad_code (bodies e fs [] code m) ∷ []) → n ≡ first_of 7 (functions_tests (bodies e fs zs code m) ls)
+    from_code_alone l h = from_code (h ∙ no_ninth (bodies e fs [] code m) ls l)
 
 -- row 6 of structures
-module _ (B : Bodies) (ls : List ℕ) (b₆ : Bool) (e₆ : b₆ ≡ badStructures (B .structures)) where
-  pub sixth-structures : b₆ ≡ true → 6 ≡ firstOf 6 (bodiesTests B ls)
-  unfolding firstOf
-  sixth-structures h = simp (← e₆, h)
+module _ (B : Bodies) (ls : List ℕ) (b₆ : Bool) (e₆ : b₆ ≡ bad_structures B.structures) where
+  pub sixth_structures : b₆ ≡ true → 6 ≡ first_of 6 (bodies_tests B ls)
+  unfolding first_of
+  sixth_structures h = simp (← e₆, h)
 
-  pub from-functions : b₆ ≡ false → (n : ℕ) → n ≡ firstOf 7 (functionsTests B ls) → n ≡ firstOf 6 (bodiesTests B ls)
-  unfolding firstOf
-  from-functions good₆ n h = simp (← e₆, good₆) h
+  pub from_functions : b₆ ≡ false → (n : ℕ) → n ≡ first_of 7 (functions_tests B ls) → n ≡ first_of 6 (bodies_tests B ls)
+  unfolding first_of
+  from_functions good₆ n h = simp (← e₆, good₆) h
 
-pub none-bad : (zs : List ℕ) → structureCount zs ≡ 0 → false ≡ badStructures zs
-unfolding badStructures some-below
-none-bad zs none = rw none refl
+pub none_bad : (zs : List ℕ) → structure_count zs ≡ 0 → false ≡ bad_structures zs
+unfolding bad_structures some_below
+none_bad zs none = rw none refl
 
 -- rows 6 to 9, of tables t that are u
-pub tables-same : (t u : Tables) → t ≡ u → (n : ℕ) → n ≡ firstOf 6 (contentTests t) → n ≡ firstOf 6 (contentTests u)
-tables-same t u same n h = h ∙ ap (λ (x : Tables). firstOf 6 (contentTests x)) same
+pub tables_same : (t u : Tables) → t ≡ u → (n : ℕ) → n ≡ first_of 6 (content_tests t) → n ≡ first_of 6 (content_tests u)
+tables_same t u same n h = h ∙ ap (λ (x : Tables). first_of 6 (content_tests x)) same
 
-module _ (t u : Tables) (same : t ≡ u) (b₆ : Bool) (e₆ : b₆ ≡ badConstants (t .constants)) where
-  pub sixth : b₆ ≡ true → 6 ≡ firstOf 6 (contentTests u)
-  unfolding firstOf
-  sixth h = tables-same t u same 6 (simp (← e₆, h))
+module _ (t u : Tables) (same : t ≡ u) (b₆ : Bool) (e₆ : b₆ ≡ bad_constants t.constants) where
+  pub sixth : b₆ ≡ true → 6 ≡ first_of 6 (content_tests u)
+  unfolding first_of
+  sixth h = tables_same t u same 6 (simp (← e₆, h))
 
-  pub from-bodies : b₆ ≡ false → (n : ℕ) → n ≡ firstOf 6 (bodiesTests (t .bodies) (t .labels)) → n ≡ firstOf 6 (contentTests u)
-  unfolding firstOf
-  from-bodies good₆ n h = tables-same t u same n (simp (← e₆, good₆) h)
+  pub from_bodies : b₆ ≡ false → (n : ℕ) → n ≡ first_of 6 (bodies_tests t.bodies t.labels) → n ≡ first_of 6 (content_tests u)
+  unfolding first_of
+  from_bodies good₆ n h = tables_same t u same n (simp (← e₆, good₆) h)
 
 -- rows 7 to 9 of a file of edition 3, which has no structures
 module _ (s : List ℕ) (c : Sections) (k : Packed s c) (third : edition s ≡ 3) where
-  abbrev functionsLent : List ℕ
-  functionsLent = take (c .targets - c .records) (drop (c .records) s)
+  abbrev functions_lent : List ℕ
+  functions_lent = take (c.targets - c.records) (drop c.records s)
 
-  abbrev labelsLent : List ℕ
-  labelsLent = take (c .code - c .targets) (drop (c .targets) s)
+  abbrev labels_lent : List ℕ
+  labels_lent = take (c.code - c.targets) (drop c.targets s)
 
-  abbrev codeLent : List ℕ
-  codeLent = take (c .code + c .extent - c .code) (drop (c .code) s)
+  abbrev code_lent : List ℕ
+  code_lent = take (c.code + c.extent - c.code) (drop c.code s)
 
   other : edition s ≡ 4 → ⊥
-  other q = let z : _≡_ {A = ℕ} 3 4 = sym third ∙ q in absurd (omega arith)
+  other q = let z : ◌≡◌ {A = ℕ} 3 4 = sym third ∙ q in absurd (omega arith)
 
-  pub functions-lent : (b : Bool) → b ≡ badTable 3 0 functionsLent codeLent (c .entry) → b ≡ badFunctions (bodies 3 functionsLent (structuresIn s) codeLent (c .entry))
-  functions-lent b p =
-      functions-third functionsLent codeLent (c .entry) 3 (structuresIn s) 0 (λ z. absurd (omega arith)) (sym (none-declared s c k other)) b p
+  pub functions_lent_lem : (b : Bool) → b ≡ bad_table 3 0 functions_lent code_lent c.entry → b ≡ bad_functions (bodies 3 functions_lent (structures_in s) code_lent c.entry)
+  functions_lent_lem b p =
+      functions_third functions_lent code_lent c.entry 3 (structures_in s) 0 (λ z. absurd (omega arith)) (sym (none_declared s c k other)) b p
 
-  pub third-rows : (b₆ : Bool) → b₆ ≡ badConstants (take (c .records - 48) (drop 48 s)) → b₆ ≡ false → (n : ℕ)
-      → n ≡ firstOf 7 (functionsTests (bodies 3 functionsLent (structuresIn s) codeLent (c .entry)) labelsLent) → n ≡ firstOf 6 (contentTests (tablesIn s))
-  third-rows b₆ e₆ good₆ n h =
-      from-bodies _ _ (lent-tables s c k 3 48 (structuresIn s) (sym third) (old-pool s c k other) refl) b₆ e₆ good₆ n
-      (from-functions (bodies 3 functionsLent (structuresIn s) codeLent (c .entry)) labelsLent false (none-bad (structuresIn s) (none-declared s c k other)) refl n h)
+  pub third_rows : (b₆ : Bool) → b₆ ≡ bad_constants (take (c.records - 48) (drop 48 s)) → b₆ ≡ false → (n : ℕ)
+      → n ≡ first_of 7 (functions_tests (bodies 3 functions_lent (structures_in s) code_lent c.entry) labels_lent) → n ≡ first_of 6 (content_tests (tables_in s))
+  third_rows b₆ e₆ good₆ n h =
+      from_bodies _ _ (lent_tables s c k 3 48 (structures_in s) (sym third) (old_pool s c k other) refl) b₆ e₆ good₆ n
+      (from_functions (bodies 3 functions_lent (structures_in s) code_lent c.entry) labels_lent false (none_bad (structures_in s) (none_declared s c k other)) refl n h)

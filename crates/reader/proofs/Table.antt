@@ -1,73 +1,73 @@
 -- The opcode tables against what the code tests, by computing all 256 bytes.
-use Prim.Native.Nat.{ℕ, zero, suc, _/_, _%_, _^_, _<_}
-use native.Mathlib.Nat.{eq-or-lt-of-le, le-of-suc-le-suc}
+use Prim.Native.Nat.{ℕ, zero, suc, ◌/◌, ◌%◌, ◌^◌, ◌<◌}
+use native.Mathlib.Nat.{eq-or-lt_of_le, le_of_suc-le-suc}
 use native.Mathlib.Omega.{arith}
-use mathlib.Core.Path.{_≡_, refl, sym, ap, _∙_}
-use mathlib.Core.Logic.{inl, inr, ⊎-elim}
-use mathlib.Core.Bool.{Bool, true, false, not, xor, _&&_, _||_, cond, true≢false}
+use mathlib.Core.Path.{◌≡◌, refl, sym, ap, ◌∙◌}
+use mathlib.Core.Logic.{inl, inr, ⊎_elim}
+use mathlib.Core.Bool.{Bool, true, false, not, xor, ◌&&◌, ◌||◌, cond, true≢false}
 use lib.Dec.{ltb, leb, eqb}
 use borrow.Author.Tests.{eqb-true}
-use Rattle·rules.specs.Instructions.{opcodes, opcodeOf}
-use Rattle·rules.specs.Tables.{unknownEdition}
-use Rattle·soundness.specs.Readable.{KnownEdition, known-edition}
-use Rattle·format.proofs.Tests.{and-left, and-right}
-use Rattle·reader·specs.specs.Cut.{sizeIn, isBare, isWide, bitsOf, earlier}
+use Rattle.rules.specs.Instructions.{opcodes, opcode_of}
+use Rattle.rules.specs.Tables.{unknown_edition}
+use Rattle.soundness.specs.Readable.{KnownEdition, known_edition}
+use Rattle.format.proofs.Tests.{and_left, and_right}
+use Rattle.reader.specs.Cut.{size_in, is_bare, is_wide, bits_of, earlier}
 
-allBelow : ℕ → (ℕ → Bool) → Bool
-allBelow zero f = true
-allBelow (suc n) f = allBelow n f && f n
+all_below : ℕ → (ℕ → Bool) → Bool
+all_below zero f = true
+all_below (suc n) f = all_below n f && f n
 
-all-at : (n : ℕ) (f : ℕ → Bool) → allBelow n f ≡ true → (i : ℕ) → i < n → f i ≡ true
-unfolding allBelow
-all-at zero f e i h = absurd (omega arith)
-all-at (suc n) f e i h =
-    ⊎-elim (λ q. ap f q ∙ and-right (allBelow n f) (f n) e) (λ l. all-at n f (and-left (allBelow n f) (f n) e) i l)
-    (eq-or-lt-of-le (le-of-suc-le-suc h))
+all_at : (n : ℕ) (f : ℕ → Bool) → all_below n f ≡ true → (i : ℕ) → i < n → f i ≡ true
+unfolding all_below
+all_at zero f e i h = absurd (omega arith)
+all_at (suc n) f e i h =
+    ⊎_elim (λ q. ap f q ∙ and_right (all_below n f) (f n) e) (λ l. all_at n f (and_left (all_below n f) (f n) e) i l)
+    (eq-or-lt_of_le (le_of_suc-le-suc h))
 
 -- ---- sizes, by a bit for each opcode
 
 -- where no bit is set, what edition 4 adds
-abbrev pub sizeByBits : ℕ → ℕ → ℕ
-sizeByBits e b =
+abbrev pub size_by_bits : ℕ → ℕ → ℕ
+size_by_bits e b =
     cond (ltb 63 b) 0
-    (cond (eqb (bitsOf isWide (earlier e) / 2 ^ b % 2) 1) 5
-    (cond (eqb (bitsOf isBare (earlier e) / 2 ^ b % 2) 1) 1
+    (cond (eqb (bits_of is_wide (earlier e) / 2 ^ b % 2) 1) 5
+    (cond (eqb (bits_of is_bare (earlier e) / 2 ^ b % 2) 1) 1
     (cond (eqb e 4 && (eqb b 6 || eqb b 49 || eqb b 52)) 5
     (cond (eqb e 4 && (eqb b 48 || eqb b 50 || eqb b 51)) 1 0))))
 
-abbrev sizedIn : ℕ → ℕ → Bool
-sizedIn e b = eqb (sizeByBits e b) (sizeIn (opcodeOf (opcodes e) b))
+abbrev sized_in : ℕ → ℕ → Bool
+sized_in e b = eqb (size_by_bits e b) (size_in (opcode_of (opcodes e) b))
 
-first-sizes : allBelow 256 (sizedIn 1) ≡ true
-unfolding allBelow
-first-sizes = refl
+first_sizes : all_below 256 (sized_in 1) ≡ true
+unfolding all_below
+first_sizes = refl
 
-third-sizes : allBelow 256 (sizedIn 3) ≡ true
-unfolding allBelow
-third-sizes = refl
+third_sizes : all_below 256 (sized_in 3) ≡ true
+unfolding all_below
+third_sizes = refl
 
-fourth-sizes : allBelow 256 (sizedIn 4) ≡ true
-unfolding allBelow
-fourth-sizes = refl
+fourth_sizes : all_below 256 (sized_in 4) ≡ true
+unfolding all_below
+fourth_sizes = refl
 
-sizes : (e : ℕ) → KnownEdition e → allBelow 256 (sizedIn e) ≡ true
-sizes e (inl q) = rw q first-sizes
-sizes e (inr (inl q)) = rw q third-sizes
-sizes e (inr (inr q)) = rw q fourth-sizes
+sizes : (e : ℕ) → KnownEdition e → all_below 256 (sized_in e) ≡ true
+sizes e (inl q) = rw q first_sizes
+sizes e (inr (inl q)) = rw q third_sizes
+sizes e (inr (inr q)) = rw q fourth_sizes
 
-pub size-by-bits : (e b : ℕ) → unknownEdition e ≡ false → b < 256 → sizeByBits e b ≡ sizeIn (opcodeOf (opcodes e) b)
-size-by-bits e b known h = eqb-true _ _ (all-at 256 (sizedIn e) (sizes e (known-edition e known)) b h)
+pub size_by_bits_lem : (e b : ℕ) → unknown_edition e ≡ false → b < 256 → size_by_bits e b ≡ size_in (opcode_of (opcodes e) b)
+size_by_bits_lem e b known h = eqb-true _ _ (all_at 256 (sized_in e) (sizes e (known_edition e known)) b h)
 
 -- ---- opcodes that stand alone, by comparisons
 
-abbrev firstBare : ℕ → Bool
-firstBare b = eqb b 2 || (leb 5 b && leb b 25) || (leb 34 b && leb b 37)
+abbrev first_bare : ℕ → Bool
+first_bare b = eqb b 2 || (leb 5 b && leb b 25) || (leb 34 b && leb b 37)
 
-abbrev thirdBare : ℕ → Bool
-thirdBare b = eqb b 2 || (leb 7 b && leb b 31) || eqb b 40 || eqb b 43 || eqb b 44 || eqb b 46
+abbrev third_bare : ℕ → Bool
+third_bare b = eqb b 2 || (leb 7 b && leb b 31) || eqb b 40 || eqb b 43 || eqb b 44 || eqb b 46
 
-abbrev fourthBare : ℕ → Bool
-fourthBare b = thirdBare b || eqb b 48 || eqb b 50 || eqb b 51
+abbrev fourth_bare : ℕ → Bool
+fourth_bare b = third_bare b || eqb b 48 || eqb b 50 || eqb b 51
 
 like : (x y : Bool) → not (xor x y) ≡ true → x ≡ y
 unfolding xor
@@ -76,14 +76,14 @@ like true false h = absurd (true≢false (sym h))
 like false true h = absurd (true≢false (sym h))
 like false false h = refl
 
-pub first-bare : (b : ℕ) → b < 256 → firstBare b ≡ isBare (opcodeOf (opcodes 1) b)
-unfolding allBelow xor
-first-bare b h = like _ _ (all-at 256 (λ b. not (xor (firstBare b) (isBare (opcodeOf (opcodes 1) b)))) refl b h)
+pub first_bare_lem : (b : ℕ) → b < 256 → first_bare b ≡ is_bare (opcode_of (opcodes 1) b)
+unfolding all_below xor
+first_bare_lem b h = like _ _ (all_at 256 (λ b. not (xor (first_bare b) (is_bare (opcode_of (opcodes 1) b)))) refl b h)
 
-pub third-bare : (b : ℕ) → b < 256 → thirdBare b ≡ isBare (opcodeOf (opcodes 3) b)
-unfolding allBelow xor
-third-bare b h = like _ _ (all-at 256 (λ b. not (xor (thirdBare b) (isBare (opcodeOf (opcodes 3) b)))) refl b h)
+pub third_bare_lem : (b : ℕ) → b < 256 → third_bare b ≡ is_bare (opcode_of (opcodes 3) b)
+unfolding all_below xor
+third_bare_lem b h = like _ _ (all_at 256 (λ b. not (xor (third_bare b) (is_bare (opcode_of (opcodes 3) b)))) refl b h)
 
-pub fourth-bare : (b : ℕ) → b < 256 → fourthBare b ≡ isBare (opcodeOf (opcodes 4) b)
-unfolding allBelow xor
-fourth-bare b h = like _ _ (all-at 256 (λ b. not (xor (fourthBare b) (isBare (opcodeOf (opcodes 4) b)))) refl b h)
+pub fourth_bare_lem : (b : ℕ) → b < 256 → fourth_bare b ≡ is_bare (opcode_of (opcodes 4) b)
+unfolding all_below xor
+fourth_bare_lem b h = like _ _ (all_at 256 (λ b. not (xor (fourth_bare b) (is_bare (opcode_of (opcodes 4) b)))) refl b h)

@@ -1,17 +1,14 @@
 // One-byte instructions in blocks of sixteen.
-ghost use mathlib.Core.Path.{_≡_};
-ghost use mathlib.Core.Bool.{true, false};
-ghost use Prim.Native.Nat.{_+_, _≤_};
-ghost use lib.ListN.{length};
-ghost use Rattle·rules.specs.Instructions.{opcodes, opcodeOf};
-ghost use Rattle·rules.specs.Tables.{unknownEdition};
-ghost use Rattle·reader·specs.specs.Cut.{Cut, isBare, allBare, marks};
+ghost use Rattle.std.specs.Prelude.{◌≡◌, true, false, ◌+◌, ◌≤◌, length};
+ghost use Rattle.rules.specs.Instructions.{opcodes, opcode_of};
+ghost use Rattle.rules.specs.Tables.{unknown_edition};
+ghost use Rattle.reader.specs.Cut.{Cut, is_bare, all_bare, marks};
 
 // Whether an opcode stands alone: 02, 05 to 19, 22 to 25 hex in edition 1; 02, 07 to 1F, 28, 2B, 2C, 2E hex in edition 3; 30,
 // 32 and 33 hex too in edition 4.
 fn bare(edition: usize, b: u8) -> bool
-    requires { ⌜ unknownEdition edition ≡ false ⌝ }
-    ensures { λ r. ⌜ r ≡ isBare (opcodeOf (opcodes edition) b) ⌝ }
+    requires { unknown_edition edition ≡ false }
+    ensures { result ≡ is_bare (opcode_of (opcodes edition) b) }
 {
     if edition == 1 {
         return (b == 2) | ((5 <= b) & (b <= 25)) | ((34 <= b) & (b <= 37));
@@ -25,8 +22,8 @@ fn bare(edition: usize, b: u8) -> bool
 
 // Whether sixteen bytes are opcodes that stand alone.
 fn all_bare(edition: usize, code: &[u8], p: usize) -> bool
-    requires { ⌜ (p + 16 ≤ length (now code)) × (unknownEdition edition ≡ false) ⌝ }
-    ensures { λ r. ⌜ r ≡ allBare edition (now (code .entry)) p 16 ⌝ }
+    requires { (p + 16 ≤ length code.now) × (unknown_edition edition ≡ false) }
+    ensures { result ≡ all_bare edition code.now p 16 }
 {
     let mut good = true;
     let mut i = 0;
@@ -40,9 +37,9 @@ fn all_bare(edition: usize, code: &[u8], p: usize) -> bool
 
 // Marks a block's places in a table that has them all, and none in one that has none. A table that has some stays: false.
 fn mark_block(starts: &mut [u8], p: usize) -> bool
-    requires { ⌜ p ≤ 16384 ⌝ }
-    ensures { λ r. ⌜ (r ≡ true → now (starts .exit) ≡ marks (now (starts .entry)) p 16) ⌝ }
-    ensures { λ r. ⌜ (r ≡ false → now (starts .exit) ≡ now (starts .entry)) ⌝ }
+    requires { p ≤ 16384 }
+    ensures starts_after { result ≡ true → starts.new ≡ marks starts.old p 16 }
+    ensures starts_unchanged { result ≡ false → starts.new ≡ starts.old }
 {
     if starts.len() <= p {
         return true;
@@ -60,11 +57,11 @@ fn mark_block(starts: &mut [u8], p: usize) -> bool
 
 // Passes blocks of one-byte instructions and marks them, as many as follow one another; the place where it stops.
 pub(crate) fn skip(edition: usize, code: &[u8], from: usize, to: usize, starts: &mut [u8]) -> usize
-    requires { ⌜ (from ≤ to) × (to ≤ length (now code)) × (length (now code) ≤ 16384) × (unknownEdition edition ≡ false) ⌝ }
-    requires { ⌜ Cut edition (now code) from (now starts) ⌝ }
-    ensures { λ r. ⌜ (from ≤ r) × (r ≤ to) ⌝ }
-    ensures { λ r. ⌜ length (now (starts .exit)) ≡ length (now (starts .entry)) ⌝ }
-    ensures { λ r. ⌜ Cut edition (now (code .entry)) r (now (starts .exit)) ⌝ }
+    requires from_le_to { (from ≤ to) × (to ≤ length code.now) × (length code.now ≤ 16384) × (unknown_edition edition ≡ false) }
+    requires cut { Cut edition code.now from starts.old }
+    ensures lower_bound { (from ≤ result) × (result ≤ to) }
+    ensures starts_len_unchanged { length starts.new ≡ length starts.old }
+    ensures cut_2 { Cut edition code.now result starts.new }
 {
     let mut p = from;
     while p + 16 <= to {

@@ -1,12 +1,9 @@
 // Row 8: one pass over the code, by instruction and body by body.
-ghost use mathlib.Core.Path.{_≡_};
-ghost use mathlib.Core.Bool.{false};
-ghost use mathlib.Core.List.{[]};
-ghost use Prim.Native.Nat.{_≤_};
-ghost use lib.ListN.{length, set};
-ghost use Rattle·rules.specs.Instructions.{opcodes, opcodeOf};
-ghost use Rattle·rules.specs.Tables.{bodies, unknownEdition, badCode};
-ghost use Rattle·reader·specs.specs.Cut.{sizeIn, isBare, isWide, bitsOf, earlier, Filled, Blank, Cut, Walked, StartsExactly};
+ghost use Rattle.std.specs.Prelude.{◌≡◌, false, [], ◌≤◌, length, set};
+ghost use Rattle.rules.specs.Instructions.{opcodes, opcode_of};
+ghost use Rattle.rules.specs.Tables.{bodies, unknown_edition, bad_code};
+ghost use Rattle.reader.specs.Cut.{size_in, is_bare, is_wide, bits_of, earlier, Filled, Blank, Cut, Walked, StartsExactly};
+
 use crate::blocks;
 
 // A bit for each opcode of edition 3 that a word follows: 01, 03 to 05, 20 to 27 hex.
@@ -22,7 +19,7 @@ const OLD_WIDE: u64 = 0x0003_fc00_001a;
 const OLD_BARE: u64 = 0x003c_03ff_ffe4;
 
 fn wide_opcodes(edition: usize) -> u64
-    ensures { λ r. ⌜ r ≡ bitsOf isWide (earlier edition) ⌝ }
+    ensures { result ≡ bits_of is_wide (earlier edition) }
 {
     if edition == 1 {
         return OLD_WIDE;
@@ -31,7 +28,7 @@ fn wide_opcodes(edition: usize) -> u64
 }
 
 fn bare_opcodes(edition: usize) -> u64
-    ensures { λ r. ⌜ r ≡ bitsOf isBare (earlier edition) ⌝ }
+    ensures { result ≡ bits_of is_bare (earlier edition) }
 {
     if edition == 1 {
         return OLD_BARE;
@@ -42,8 +39,8 @@ fn bare_opcodes(edition: usize) -> u64
 // The bytes of an opcode's instruction; 0 for no opcode. What edition 4 adds to edition 3, 06, 31 and 34, 30, 32 and 33 hex, is looked
 // for last: edition 3 pays no test for it.
 fn opcode_size(edition: usize, b: u8) -> usize
-    requires { ⌜ unknownEdition edition ≡ false ⌝ }
-    ensures { λ r. ⌜ (r ≡ sizeIn (opcodeOf (opcodes edition) b)) × (r ≤ 5) ⌝ }
+    requires { unknown_edition edition ≡ false }
+    ensures { (result ≡ size_in (opcode_of (opcodes edition) b)) × (result ≤ 5) }
 {
     let wide = wide_opcodes(edition);
     let bare = bare_opcodes(edition);
@@ -68,7 +65,7 @@ fn opcode_size(edition: usize, b: u8) -> usize
 
 // Marks a place, where the table has it.
 fn mark(starts: &mut [u8], p: usize)
-    ensures { λ r. ⌜ now (starts .exit) ≡ set (now (starts .entry)) p 1 ⌝ }
+    ensures { starts.new ≡ set starts.old p 1 }
 {
     if p < starts.len() {
         starts[p] = 1;
@@ -79,10 +76,10 @@ fn mark(starts: &mut [u8], p: usize)
 // Walks a body; false where an instruction is unknown or crosses the body's end. A place is marked before its byte is
 // looked at: no one reads a table of code that fails. After eight one-byte instructions in a row it goes on by blocks.
 fn walk_body(edition: usize, code: &[u8], from: usize, to: usize, starts: &mut [u8]) -> bool
-    requires { ⌜ (from ≤ to) × (to ≤ length (now code)) × (length (now code) ≤ 16384) × (unknownEdition edition ≡ false) ⌝ }
-    requires { ⌜ Cut edition (now code) from (now starts) ⌝ }
-    ensures { λ r. ⌜ length (now (starts .exit)) ≡ length (now (starts .entry)) ⌝ }
-    ensures { λ r. ⌜ Walked r edition (now (code .entry)) to (now (starts .exit)) ⌝ }
+    requires from_le_to { (from ≤ to) × (to ≤ length code.now) × (length code.now ≤ 16384) × (unknown_edition edition ≡ false) }
+    requires cut { Cut edition code.now from starts.old }
+    ensures starts_len_unchanged { length starts.new ≡ length starts.old }
+    ensures walked { Walked result edition code.now to starts.new }
 {
     let mut p = from;
     let mut wait: u32 = 8;
@@ -115,11 +112,11 @@ pub(crate) fn bad_code(
     entry: usize,
     starts: &mut [u8],
 ) -> bool
-    requires { ⌜ Filled edition n (now functions) (now code) entry × (unknownEdition edition ≡ false) ⌝ }
-    requires { ⌜ Blank (now starts) ⌝ }
-    ensures { λ r. ⌜ length (now (starts .exit)) ≡ length (now (starts .entry)) ⌝ }
-    ensures { λ r. ⌜ r ≡ badCode (bodies edition (now (functions .entry)) [] (now (code .entry)) entry) ⌝ }
-    ensures { λ r. ⌜ (r ≡ false → StartsExactly edition (now (code .entry)) (now (starts .exit))) ⌝ }
+    requires filled { Filled edition n functions.now code.now entry × (unknown_edition edition ≡ false) }
+    requires blank { Blank starts.old }
+    ensures starts_len_unchanged { length starts.new ≡ length starts.old }
+    ensures value { result ≡ bad_code (bodies edition functions.now [] code.now entry) }
+    ensures starts_exactly { result ≡ false → StartsExactly edition code.now starts.new }
 {
     let size = format::function_size(edition);
     let mut from = 0;

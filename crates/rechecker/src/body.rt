@@ -1,12 +1,11 @@
 // One body. The checker's functions of these names have one caller each and are compiled into it: with another caller they would be
 // called, at a cost to every check.
-ghost use mathlib.Core.Path.{_≡_};
-ghost use Prim.Native.Nat.{_+_};
-ghost use lib.ListN.{length};
-ghost use Rattle·rules.specs.Tables.{bodyOf};
-ghost use Rattle·keys.specs.Keys.{Keyed};
-ghost use Rattle·nodes.specs.Nodes.{doneOf, Seeded};
-ghost use Rattle·checker.specs.Work.{Working, Quiet, Next, Started, Settled, Left};
+ghost use Rattle.std.specs.Prelude.{◌≡◌, ◌+◌, length};
+ghost use Rattle.rules.specs.Tables.{body_of};
+ghost use Rattle.keys.specs.Keys.{Keyed};
+ghost use Rattle.nodes.specs.Nodes.{done_of, Seeded};
+ghost use Rattle.checker.specs.Work.{Working, Quiet, Next, Started, Settled, Left};
+
 use checker::walk::Turn;
 use format::Sections;
 use nodes::list::Waiting;
@@ -23,10 +22,10 @@ fn visit(
     marks: &mut [u16],
     st: &mut [u8],
 ) -> bool
-    requires { ⌜ Working (now file) c (now table) owner (now room) (now marks) ⌝ }
-    requires { ⌜ Next (now marks) k × (length (now st) ≡ 64) ⌝ }
-    requires { ⌜ Keyed (now file) (now code) 0 ⌝ }
-    ensures { λ r. ⌜ Left (now (file .entry)) (now (table .entry)) (bodyOf owner) (now (room .entry)) (now (marks .entry)) (now (room .exit)) (now (marks .exit)) r (doneOf (now (marks .exit)) ≡ doneOf (now (marks .entry)) + 1) ⌝ }
+    requires working { Working file.now c table.now owner room.old marks.old }
+    requires next { Next marks.old k × (length st.old ≡ 64) }
+    requires keyed { Keyed file.now code.now 0 }
+    ensures { Left file.now table.now (body_of owner) room.old marks.old room.new marks.new result (done_of marks.new ≡ done_of marks.old + 1) }
 {
     nodes::room::load(room, 64 * k, st);
     let p = nodes::table::place_of(file, c, k);
@@ -49,10 +48,10 @@ fn drain(
     marks: &mut [u16],
     st: &mut [u8],
 ) -> bool
-    requires { ⌜ Working (now file) c (now table) owner (now room) (now marks) ⌝ }
-    requires { ⌜ length (now st) ≡ 64 ⌝ }
-    requires { ⌜ Keyed (now file) (now code) 0 ⌝ }
-    ensures { λ r. ⌜ Left (now (file .entry)) (now (table .entry)) (bodyOf owner) (now (room .entry)) (now (marks .entry)) (now (room .exit)) (now (marks .exit)) r (Quiet (now (marks .exit))) ⌝ }
+    requires working { Working file.now c table.now owner room.old marks.old }
+    requires st_len { length st.old ≡ 64 }
+    requires keyed { Keyed file.now code.now 0 }
+    ensures { Left file.now table.now (body_of owner) room.old marks.old room.new marks.new result (Quiet marks.new) }
 {
     loop {
         let found = nodes::list::first(marks);
@@ -77,10 +76,10 @@ fn begin(
     marks: &mut [u16],
     st: &mut [u8],
 ) -> bool
-    requires { ⌜ Working (now file) c (now table) owner (now room) (now marks) ⌝ }
-    requires { ⌜ Seeded (now file) (bodyOf owner) (now st) ⌝ }
-    requires { ⌜ Keyed (now file) (now code) 0 ⌝ }
-    ensures { λ r. ⌜ Left (now (file .entry)) (now (table .entry)) (bodyOf owner) (now (room .entry)) (now (marks .entry)) (now (room .exit)) (now (marks .exit)) r (Started (now (file .entry)) (now (table .entry)) (now (room .exit)) (now (marks .exit)) (bodyOf owner)) ⌝ }
+    requires working { Working file.now c table.now owner room.old marks.old }
+    requires seeded { Seeded file.now (body_of owner) st.old }
+    requires keyed { Keyed file.now code.now 0 }
+    ensures { Left file.now table.now (body_of owner) room.old marks.old room.new marks.new result (Started file.now table.now room.new marks.new (body_of owner)) }
 {
     let e = nodes::starts::end(file, c, owner);
     let p = nodes::starts::start(file, c, owner);
@@ -103,10 +102,10 @@ pub(crate) fn check_body(
     marks: &mut [u16],
     st: &mut [u8],
 ) -> bool
-    requires { ⌜ Working (now file) c (now table) owner (now room) (now marks) ⌝ }
-    requires { ⌜ length (now st) ≡ 64 ⌝ }
-    requires { ⌜ Keyed (now file) (now code) 0 ⌝ }
-    ensures { λ r. ⌜ Left (now (file .entry)) (now (table .entry)) (bodyOf owner) (now (room .entry)) (now (marks .entry)) (now (room .exit)) (now (marks .exit)) r (Settled (now (file .entry)) (now (table .entry)) (now (room .exit)) (now (marks .exit)) (bodyOf owner)) ⌝ }
+    requires working { Working file.now c table.now owner room.old marks.old }
+    requires st_len { length st.old ≡ 64 }
+    requires keyed { Keyed file.now code.now 0 }
+    ensures { Left file.now table.now (body_of owner) room.old marks.old room.new marks.new result (Settled file.now table.now room.new marks.new (body_of owner)) }
 {
     nodes::starts::seed(file, c, owner, st);
     let started = begin(file, c, code, table, owner, room, marks, st);

@@ -1,19 +1,18 @@
 // The bytes of bodies in a record, each judged with marks of its own, and with tables and rooms no larger than the module asks.
-ghost use mathlib.Core.Path.{_≡_};
-ghost use Prim.Native.Nat.{_≤_, _<_};
-ghost use lib.ListN.{length};
-ghost use Rattle·rules.specs.ModuleFile.{edition};
-ghost use Rattle·reader.specs.Cut.{Blank};
-ghost use Rattle·keys.specs.Keys.{Keyed};
-ghost use Rattle·nodes.specs.Nodes.{Tabled};
-ghost use Rattle·rechecker·specs.specs.Flags.{Ready, Lends, Judges, Flags};
+ghost use Rattle.std.specs.Prelude.{◌≡◌, ◌≤◌, ◌<◌, length};
+ghost use Rattle.rules.specs.ModuleFile.{edition};
+ghost use Rattle.reader.specs.Cut.{Blank};
+ghost use Rattle.keys.specs.Keys.{Keyed};
+ghost use Rattle.nodes.specs.Nodes.{Tabled};
+ghost use Rattle.rechecker.specs.Flags.{Ready, Lends, Judges, Flags};
+
 use format::Sections;
 
 // Whether the i-th body has a typing.
 fn judge(file: &[u8], c: Sections, code: &[u8], table: &[u16], i: usize, room: &mut [u8]) -> bool
-    requires { ⌜ Ready (now file) c (now table) (now room) × (i ≤ c .functions) ⌝ }
-    requires { ⌜ Keyed (now file) (now code) 0 ⌝ }
-    ensures { λ r. ⌜ Judges (now (file .entry)) i r ⌝ }
+    requires ready { Ready file.now c table.now room.old × (i ≤ c.functions) }
+    requires keyed { Keyed file.now code.now 0 }
+    ensures { Judges file.now i result }
 {
     let mut marks = [0u16; 514];
     let mut st = [0u8; 64];
@@ -32,10 +31,10 @@ fn flags(
     to: usize,
     beside: &mut [u8],
 )
-    requires { ⌜ Ready (now file) c (now table) (now room) ⌝ }
-    requires { ⌜ Lends (now file) c from to (now beside) ⌝ }
-    requires { ⌜ Keyed (now file) (now code) 0 ⌝ }
-    ensures { λ r. ⌜ Flags (now (file .entry)) from to (now (beside .entry)) (now (beside .exit)) ⌝ }
+    requires ready { Ready file.now c table.now room.old }
+    requires lends { Lends file.now c from to beside.old }
+    requires keyed { Keyed file.now code.now 0 }
+    ensures { Flags file.now from to beside.old beside.new }
 {
     let mut i = from;
     while i < to {
@@ -54,10 +53,10 @@ fn with_small_room(
     to: usize,
     beside: &mut [u8],
 )
-    requires { ⌜ Lends (now file) c from to (now beside) ⌝ }
-    requires { ⌜ Tabled (now file) (now table) × (c .labels < 9) ⌝ }
-    requires { ⌜ Keyed (now file) (now code) 0 ⌝ }
-    ensures { λ r. ⌜ Flags (now (file .entry)) from to (now (beside .entry)) (now (beside .exit)) ⌝ }
+    requires lends { Lends file.now c from to beside.old }
+    requires tabled { Tabled file.now table.now × (c.labels < 9) }
+    requires keyed { Keyed file.now code.now 0 }
+    ensures { Flags file.now from to beside.old beside.new }
 {
     let mut room = [0u8; 512];
     flags(file, c, code, table, &mut room, from, to, beside);
@@ -72,10 +71,10 @@ fn with_large_room(
     to: usize,
     beside: &mut [u8],
 )
-    requires { ⌜ Lends (now file) c from to (now beside) ⌝ }
-    requires { ⌜ Tabled (now file) (now table) ⌝ }
-    requires { ⌜ Keyed (now file) (now code) 0 ⌝ }
-    ensures { λ r. ⌜ Flags (now (file .entry)) from to (now (beside .entry)) (now (beside .exit)) ⌝ }
+    requires lends { Lends file.now c from to beside.old }
+    requires tabled { Tabled file.now table.now }
+    requires keyed { Keyed file.now code.now 0 }
+    ensures { Flags file.now from to beside.old beside.new }
 {
     let mut room = [0u8; 16384];
     flags(file, c, code, table, &mut room, from, to, beside);
@@ -90,10 +89,10 @@ fn with_table(
     to: usize,
     beside: &mut [u8],
 )
-    requires { ⌜ Lends (now file) c from to (now beside) ⌝ }
-    requires { ⌜ (c .extent < length (now table)) × Blank (now table) ⌝ }
-    requires { ⌜ Keyed (now file) (now code) 0 ⌝ }
-    ensures { λ r. ⌜ Flags (now (file .entry)) from to (now (beside .entry)) (now (beside .exit)) ⌝ }
+    requires lends { Lends file.now c from to beside.old }
+    requires extent_in_bounds { (c.extent < length table.old) × Blank table.old }
+    requires keyed { Keyed file.now code.now 0 }
+    ensures { Flags file.now from to beside.old beside.new }
 {
     nodes::table::fill(file, c, table);
     if c.labels < 9 {
@@ -111,10 +110,10 @@ fn with_small_table(
     to: usize,
     beside: &mut [u8],
 )
-    requires { ⌜ Lends (now file) c from to (now beside) ⌝ }
-    requires { ⌜ c .extent < 512 ⌝ }
-    requires { ⌜ Keyed (now file) (now code) 0 ⌝ }
-    ensures { λ r. ⌜ Flags (now (file .entry)) from to (now (beside .entry)) (now (beside .exit)) ⌝ }
+    requires lends { Lends file.now c from to beside.old }
+    requires extent_bound { c.extent < 512 }
+    requires keyed { Keyed file.now code.now 0 }
+    ensures { Flags file.now from to beside.old beside.new }
 {
     let mut table = [0u16; 512];
     with_table(file, c, code, &mut table, from, to, beside);
@@ -128,10 +127,10 @@ fn with_middle_table(
     to: usize,
     beside: &mut [u8],
 )
-    requires { ⌜ Lends (now file) c from to (now beside) ⌝ }
-    requires { ⌜ c .extent < 4096 ⌝ }
-    requires { ⌜ Keyed (now file) (now code) 0 ⌝ }
-    ensures { λ r. ⌜ Flags (now (file .entry)) from to (now (beside .entry)) (now (beside .exit)) ⌝ }
+    requires lends { Lends file.now c from to beside.old }
+    requires extent_bound { c.extent < 4096 }
+    requires keyed { Keyed file.now code.now 0 }
+    ensures { Flags file.now from to beside.old beside.new }
 {
     let mut table = [0u16; 4096];
     with_table(file, c, code, &mut table, from, to, beside);
@@ -145,9 +144,9 @@ fn with_large_table(
     to: usize,
     beside: &mut [u8],
 )
-    requires { ⌜ Lends (now file) c from to (now beside) ⌝ }
-    requires { ⌜ Keyed (now file) (now code) 0 ⌝ }
-    ensures { λ r. ⌜ Flags (now (file .entry)) from to (now (beside .entry)) (now (beside .exit)) ⌝ }
+    requires lends { Lends file.now c from to beside.old }
+    requires keyed { Keyed file.now code.now 0 }
+    ensures { Flags file.now from to beside.old beside.new }
 {
     let mut table = [0u16; 16385];
     with_table(file, c, code, &mut table, from, to, beside);
@@ -155,9 +154,9 @@ fn with_large_table(
 
 // The same where the code is edition 1's: it is put in keys first.
 fn old_with_small_table(file: &[u8], c: Sections, from: usize, to: usize, beside: &mut [u8])
-    requires { ⌜ Lends (now file) c from to (now beside) ⌝ }
-    requires { ⌜ (edition (now file) ≡ 1) × (c .extent < 512) ⌝ }
-    ensures { λ r. ⌜ Flags (now (file .entry)) from to (now (beside .entry)) (now (beside .exit)) ⌝ }
+    requires lends { Lends file.now c from to beside.old }
+    requires file_value { (edition file.now ≡ 1) × (c.extent < 512) }
+    ensures { Flags file.now from to beside.old beside.new }
 {
     let start = c.code;
     let mut own = [0u8; 512];
@@ -166,9 +165,9 @@ fn old_with_small_table(file: &[u8], c: Sections, from: usize, to: usize, beside
 }
 
 fn old_with_large_table(file: &[u8], c: Sections, from: usize, to: usize, beside: &mut [u8])
-    requires { ⌜ Lends (now file) c from to (now beside) ⌝ }
-    requires { ⌜ edition (now file) ≡ 1 ⌝ }
-    ensures { λ r. ⌜ Flags (now (file .entry)) from to (now (beside .entry)) (now (beside .exit)) ⌝ }
+    requires lends { Lends file.now c from to beside.old }
+    requires file_value { edition file.now ≡ 1 }
+    ensures { Flags file.now from to beside.old beside.new }
 {
     let start = c.code;
     let mut own = [0u8; 16384];
@@ -178,8 +177,8 @@ fn old_with_large_table(file: &[u8], c: Sections, from: usize, to: usize, beside
 
 // Sets the bytes of the bodies from one up to another.
 pub(crate) fn set_flags(file: &[u8], c: Sections, from: usize, to: usize, beside: &mut [u8])
-    requires { ⌜ Lends (now file) c from to (now beside) ⌝ }
-    ensures { λ r. ⌜ Flags (now (file .entry)) from to (now (beside .entry)) (now (beside .exit)) ⌝ }
+    requires { Lends file.now c from to beside.old }
+    ensures { Flags file.now from to beside.old beside.new }
 {
     let edition = format::word(file, 0);
     if edition == 1 {

@@ -1,16 +1,18 @@
 // The check that leaves a record beside the module, one byte a body, and the check of one body beside such a record.
+#![tactic(auto)]
+
 mod body;
 mod flags;
 mod recording;
 
-ghost use mathlib.Core.Path.{_≡_};
-ghost use Rattle·rules.specs.ModuleFile.{refusal};
-ghost use Rattle·format.specs.Layout.{Packed};
-ghost use Rattle·rechecker·specs.specs.Flags.{RecordingIs, RecheckIs};
+ghost use Rattle.std.specs.Prelude.{◌≡◌};
+ghost use Rattle.rules.specs.ModuleFile.{refusal};
+ghost use Rattle.format.specs.Layout.{Packed};
+ghost use Rattle.rechecker.specs.Flags.{RecordingIs, RecheckIs};
+
 use format::Sections;
 use reader::Opened;
-use rules::CheckAnswer;
-use rules::RecordingAnswer;
+use rules::{CheckAnswer, RecordingAnswer};
 
 const ROOM_TOO_SHORT: u32 = 10;
 
@@ -22,8 +24,8 @@ const RECORD_DIFFERS: u32 = 45;
 
 // The check of a module that can be read: 10, 16, then 11 or 0 with the record.
 fn recording_opened(file: &[u8], c: Sections, room: &mut [u8], beside: &mut [u8]) -> RecordingAnswer
-    requires { ⌜ Packed (now file) c × (refusal (now file) ≡ 0) ⌝ }
-    ensures { λ r. ⌜ RecordingIs (now (file .entry)) (now (room .entry)) (now (beside .entry)) r (now (room .exit)) (now (beside .exit)) ⌝ }
+    requires { Packed file.now c × (refusal file.now ≡ 0) }
+    ensures { RecordingIs file.now room.old beside.old result room.new beside.new }
 {
     if room.len() < 64 * c.labels {
         return RecordingAnswer::Unrecorded(ROOM_TOO_SHORT);
@@ -38,7 +40,7 @@ fn recording_opened(file: &[u8], c: Sections, room: &mut [u8], beside: &mut [u8]
 // The check of any bytes in any room, which writes a record too: 1 to 9, 10, 16, 11 with the first body without typing, or 0 with the
 // record's length.
 pub fn check_recording(file: &[u8], room: &mut [u8], beside: &mut [u8]) -> RecordingAnswer
-    ensures { λ r. ⌜ RecordingIs (now (file .entry)) (now (room .entry)) (now (beside .entry)) r (now (room .exit)) (now (beside .exit)) ⌝ }
+    ensures { RecordingIs file.now room.old beside.old result room.new beside.new }
 {
     let opened = reader::open(file);
     match opened {
@@ -49,8 +51,8 @@ pub fn check_recording(file: &[u8], room: &mut [u8], beside: &mut [u8]) -> Recor
 
 // The check of one body of a module that can be read: 12, 45, then 11 or 0 by the record.
 fn recheck_opened(file: &[u8], c: Sections, body: u32, beside: &mut [u8]) -> CheckAnswer
-    requires { ⌜ Packed (now file) c × (refusal (now file) ≡ 0) ⌝ }
-    ensures { λ r. ⌜ RecheckIs (now (file .entry)) body (now (beside .entry)) r (now (beside .exit)) ⌝ }
+    requires { Packed file.now c × (refusal file.now ≡ 0) }
+    ensures { RecheckIs file.now body beside.old result beside.new }
 {
     let owner = body as usize;
     let index = beside::index_of(owner);
@@ -68,7 +70,7 @@ fn recheck_opened(file: &[u8], c: Sections, body: u32, beside: &mut [u8]) -> Che
 
 // The check of one body of any bytes, beside a record: 1 to 9, 12, 45, 11 with the first body whose byte is 0 then, or 0.
 pub fn check_body(file: &[u8], body: u32, beside: &mut [u8]) -> CheckAnswer
-    ensures { λ r. ⌜ RecheckIs (now (file .entry)) body (now (beside .entry)) r (now (beside .exit)) ⌝ }
+    ensures { RecheckIs file.now body beside.old result beside.new }
 {
     let opened = reader::open(file);
     match opened {

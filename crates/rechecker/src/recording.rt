@@ -1,14 +1,12 @@
 // The full check with a record, with tables no larger than the module asks.
-ghost use mathlib.Core.Path.{_≡_};
-ghost use Prim.Native.Nat.{_<_};
-ghost use lib.ListN.{length};
-ghost use Rattle·rules.specs.ModuleFile.{edition};
-ghost use Rattle·reader.specs.Cut.{Blank};
-ghost use Rattle·keys.specs.Keys.{Keyed};
-ghost use Rattle·rechecker·specs.specs.Flags.{Recordable, RecordingIs};
+ghost use Rattle.std.specs.Prelude.{◌≡◌, ◌<◌, length};
+ghost use Rattle.rules.specs.ModuleFile.{edition};
+ghost use Rattle.reader.specs.Cut.{Blank};
+ghost use Rattle.keys.specs.Keys.{Keyed};
+ghost use Rattle.rechecker.specs.Flags.{Recordable, RecordingIs};
+
 use format::Sections;
-use rules::CheckAnswer;
-use rules::RecordingAnswer;
+use rules::{CheckAnswer, RecordingAnswer};
 
 // With a blank table for the places, and the code in keys.
 fn record_with(
@@ -19,10 +17,10 @@ fn record_with(
     room: &mut [u8],
     beside: &mut [u8],
 ) -> RecordingAnswer
-    requires { ⌜ Recordable (now file) c (now room) (now beside) ⌝ }
-    requires { ⌜ (c .extent < length (now table)) × Blank (now table) ⌝ }
-    requires { ⌜ Keyed (now file) (now code) 0 ⌝ }
-    ensures { λ r. ⌜ RecordingIs (now (file .entry)) (now (room .entry)) (now (beside .entry)) r (now (room .exit)) (now (beside .exit)) ⌝ }
+    requires recordable { Recordable file.now c room.old beside.old }
+    requires extent_in_bounds { (c.extent < length table.old) × Blank table.old }
+    requires keyed { Keyed file.now code.now 0 }
+    ensures { RecordingIs file.now room.old beside.old result room.new beside.new }
 {
     let bodies = c.functions + 1;
     let answer = checker::check_with(file, c, code, table, room);
@@ -47,9 +45,9 @@ fn with_small_table(
     room: &mut [u8],
     beside: &mut [u8],
 ) -> RecordingAnswer
-    requires { ⌜ Recordable (now file) c (now room) (now beside) × (c .extent < 512) ⌝ }
-    requires { ⌜ Keyed (now file) (now code) 0 ⌝ }
-    ensures { λ r. ⌜ RecordingIs (now (file .entry)) (now (room .entry)) (now (beside .entry)) r (now (room .exit)) (now (beside .exit)) ⌝ }
+    requires recordable { Recordable file.now c room.old beside.old × (c.extent < 512) }
+    requires keyed { Keyed file.now code.now 0 }
+    ensures { RecordingIs file.now room.old beside.old result room.new beside.new }
 {
     let mut table = [0u16; 512];
     record_with(file, c, code, &mut table, room, beside)
@@ -62,9 +60,9 @@ fn with_middle_table(
     room: &mut [u8],
     beside: &mut [u8],
 ) -> RecordingAnswer
-    requires { ⌜ Recordable (now file) c (now room) (now beside) × (c .extent < 4096) ⌝ }
-    requires { ⌜ Keyed (now file) (now code) 0 ⌝ }
-    ensures { λ r. ⌜ RecordingIs (now (file .entry)) (now (room .entry)) (now (beside .entry)) r (now (room .exit)) (now (beside .exit)) ⌝ }
+    requires recordable { Recordable file.now c room.old beside.old × (c.extent < 4096) }
+    requires keyed { Keyed file.now code.now 0 }
+    ensures { RecordingIs file.now room.old beside.old result room.new beside.new }
 {
     let mut table = [0u16; 4096];
     record_with(file, c, code, &mut table, room, beside)
@@ -77,9 +75,9 @@ fn with_large_table(
     room: &mut [u8],
     beside: &mut [u8],
 ) -> RecordingAnswer
-    requires { ⌜ Recordable (now file) c (now room) (now beside) ⌝ }
-    requires { ⌜ Keyed (now file) (now code) 0 ⌝ }
-    ensures { λ r. ⌜ RecordingIs (now (file .entry)) (now (room .entry)) (now (beside .entry)) r (now (room .exit)) (now (beside .exit)) ⌝ }
+    requires recordable { Recordable file.now c room.old beside.old }
+    requires keyed { Keyed file.now code.now 0 }
+    ensures { RecordingIs file.now room.old beside.old result room.new beside.new }
 {
     let mut table = [0u16; 16385];
     record_with(file, c, code, &mut table, room, beside)
@@ -92,9 +90,9 @@ fn old_with_small_table(
     room: &mut [u8],
     beside: &mut [u8],
 ) -> RecordingAnswer
-    requires { ⌜ Recordable (now file) c (now room) (now beside) × (c .extent < 512) ⌝ }
-    requires { ⌜ edition (now file) ≡ 1 ⌝ }
-    ensures { λ r. ⌜ RecordingIs (now (file .entry)) (now (room .entry)) (now (beside .entry)) r (now (room .exit)) (now (beside .exit)) ⌝ }
+    requires recordable { Recordable file.now c room.old beside.old × (c.extent < 512) }
+    requires file_value { edition file.now ≡ 1 }
+    ensures { RecordingIs file.now room.old beside.old result room.new beside.new }
 {
     let start = c.code;
     let mut own = [0u8; 512];
@@ -108,9 +106,9 @@ fn old_with_large_table(
     room: &mut [u8],
     beside: &mut [u8],
 ) -> RecordingAnswer
-    requires { ⌜ Recordable (now file) c (now room) (now beside) ⌝ }
-    requires { ⌜ edition (now file) ≡ 1 ⌝ }
-    ensures { λ r. ⌜ RecordingIs (now (file .entry)) (now (room .entry)) (now (beside .entry)) r (now (room .exit)) (now (beside .exit)) ⌝ }
+    requires recordable { Recordable file.now c room.old beside.old }
+    requires file_value { edition file.now ≡ 1 }
+    ensures { RecordingIs file.now room.old beside.old result room.new beside.new }
 {
     let start = c.code;
     let mut own = [0u8; 16384];
@@ -125,8 +123,8 @@ pub(crate) fn check_and_record(
     room: &mut [u8],
     beside: &mut [u8],
 ) -> RecordingAnswer
-    requires { ⌜ Recordable (now file) c (now room) (now beside) ⌝ }
-    ensures { λ r. ⌜ RecordingIs (now (file .entry)) (now (room .entry)) (now (beside .entry)) r (now (room .exit)) (now (beside .exit)) ⌝ }
+    requires { Recordable file.now c room.old beside.old }
+    ensures { RecordingIs file.now room.old beside.old result room.new beside.new }
 {
     let edition = format::word(file, 0);
     if edition == 1 {

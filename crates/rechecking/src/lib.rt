@@ -1,20 +1,22 @@
 // The public calls `check_recording` and `check_body`, with their promises.
-ghost use Rattle·promises.specs.RecordingPromises.{RecordingKeeps, RecheckKeeps};
-use rules::CheckAnswer;
-use rules::RecordingAnswer;
+#![tactic(auto)]
+
+ghost use Rattle.promises.specs.RecordingPromises.{RecordingKeeps, RecheckKeeps};
+
+use rules::{CheckAnswer, RecordingAnswer};
 
 pub mod host;
 
 // The check of any bytes in the lent room, which writes a record of which bodies have a typing into `beside`.
 pub fn check_recording(file: &[u8], room: &mut [u8], beside: &mut [u8]) -> RecordingAnswer
-    ensures { λ r. ⌜ RecordingKeeps (now (file .entry)) (now (room .entry)) (now (beside .entry)) r (now (room .exit)) (now (beside .exit)) ⌝ }
+    ensures { RecordingKeeps file.now room.old beside.old result room.new beside.new }
 {
     rechecker::check_recording(file, room, beside)
 }
 
 // The check of one body of any bytes, beside a record whose byte for it is set. ffffffff names the entry.
 pub fn check_body(file: &[u8], body: u32, beside: &mut [u8]) -> CheckAnswer
-    ensures { λ r. ⌜ RecheckKeeps (now (file .entry)) body (now (beside .entry)) r (now (beside .exit)) ⌝ }
+    ensures { RecheckKeeps file.now body beside.old result beside.new }
 {
     rechecker::check_body(file, body, beside)
 }

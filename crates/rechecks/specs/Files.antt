@@ -1,344 +1,342 @@
 -- "a module with the same edition, signatures, constant types, structures and other bodies, their labels the same by number and place within": of two
 -- files that can be read, by their tables; and that this is what the update asks of the modules read from them.
-use mathlib.Core.Path.{_≡_, refl, sym, ap, _∙_, subst}
-use mathlib.Core.Logic.{_≢_}
-use Prim.Native.Nat.{ℕ, zero, suc, _+_, _-_, _*_, _^_, _≤_, _<_}
+use Rattle.std.specs.Prelude.{◌≡◌, ◌≢◌, true, ◌&&◌, List, [], ◌∷◌, ◌++◌, get_or, take, drop, leb, eqb}
+use Rattle.std.proofs.Math.Path.{refl, sym, ap}
+use Rattle.std.proofs.Common.{◌∙◌, subst, take_at}
+use Prim.Native.Nat.{ℕ, zero, suc, ◌+◌, ◌-◌, ◌*◌, ◌≤◌, ◌<◌}
 use native.Mathlib.Omega.{arith}
-use mathlib.Core.Bool.{Bool, true, false, cond, _&&_}
-use mathlib.Core.Option.{Option, none, some}
-use mathlib.Core.List.{List, [], _∷_, _++_}
-use lib.ListN.{length, getD, take, drop}
-use lib.Dec.{leb, ltb, eqb}
-use lib.Seq.{take-at}
-use Rattle·soundness.specs.Names.{Slot, Num, Instruction, CheckAnswer, Refused, Untyped, Accepted}
-use Rattle·rules.specs.Bytes.{byte, number, word, maybe, within}
-use Rattle·rules.specs.Instructions.{Ty, Opcode, absent, bare, wide, opcodes, opcodeOf, instructionOf, size}
-use Rattle·rules.specs.Tables.{Bodies, Tables, constantCount, functionCount, structureCount, constantAt, functionAt, constantOf, functionOf, structureOf, opcodeAt, dueAfter, due, dueIn, codeOf, placeIn, bodyStart, bodyEnd, Body, entry, fn, eqBody, bodyOf, Function, Module, moduleOf, labelCount}
-use Rattle·rules.specs.ModuleFile.{refusal, edition, functions, functionsIn, labels, read, tablesIn, bodiesIn}
-use Rattle·rules.specs.Writing.{tableRefusal}
-use Rattle·rules.specs.Machine.{owned}
-use Rattle·rules.specs.Typing.{startOf, endOf}
-use Rattle·rules.specs.Claims.{dueFrom}
-use Rattle·soundness.specs.Tests.{decide, none-some, some-inj, eqb-is, eqb-same, leb-is, leb-yes, ltb-is, ltb-yes, ltb-no, and-both, and-intro}
-use Rattle·soundness.specs.Invariant.{owned-is}
-use Rattle·soundness.specs.Readable.{Has, Orderly, orderly, has-end, label-is, place-inside, cut-from, sized, Sized, start-is, place-is}
-use Rattle·soundness.specs.Cutting.{good-file, function-count, few-functions}
-use Rattle·rules.specs.Check.{bodies, firstUntyped}
-use Rattle·rules.specs.Answers.{checkNumber, checkBodyNamed, check}
-use Rattle·rules.specs.Demand3.{Exists}
-use Rattle·rules.specs.declared.RecordingAnswer.{RecordingAnswer}
-use Rattle·rules.specs.declared.RecordingAnswer.the-variants.{Unrecorded, RecordedUntyped, Recorded}
-use Rattle·rules.specs.Recording.{indexOf, recordOf, recordLength, recordingNumber, recordingBodyNamed, Recording, recording, recordingWith, checkRecording, answerFrom, recheck}
-use Rattle·rules.specs.Rechecked.{SameCode, countIn, functionIn, SameOutside, Faithful, Rechecks}
-use Rattle·rechecks·specs.specs.Same.{SameTables, SameBody}
-use Rattle·rechecks·specs.specs.Whole.{SameBut, Tells, record-faithful, full-answer, recheck-is}
+use Rattle.std.proofs.Math.Option.{Option, none, some}
+use Rattle.std.proofs.Math.ListN.{length}
+use Rattle.std.proofs.Math.Dec.{ltb}
+use Rattle.soundness.specs.Names.{Slot, Instruction, CheckAnswer, Refused, Untyped, Accepted}
+use Rattle.rules.specs.Bytes.{byte, number, word, within}
+use Rattle.rules.specs.Instructions.{Ty, Opcode, absent, bare, wide, opcodes, opcode_of, instruction_of, size}
+use Rattle.rules.specs.Tables.{Bodies, Tables, constant_count, function_count, structure_count, constant_of, function_of, structure_of, opcode_at, due_after, due_in, code_of, place_in, body_start, body_end, Body, entry, fn, eq_body, body_of, Function, module_of}
+use Rattle.rules.specs.ModuleFile.{refusal, edition, functions, functions_in, labels, read, tables_in, bodies_in}
+use Rattle.rules.specs.Writing.{table_refusal}
+use Rattle.rules.specs.Machine.{owned}
+use Rattle.rules.specs.Typing.{start_of}
+use Rattle.rules.specs.Claims.{due_from}
+use Rattle.soundness.specs.Tests.{decide, none_some, some_inj, eqb_same, leb_yes, ltb_is, ltb_yes, ltb_no, and_intro}
+use Rattle.soundness.specs.Invariant.{owned_is}
+use Rattle.soundness.specs.Readable.{Has, orderly, has_end, label_is, place_inside, cut_from, sized, Sized, place_is}
+use Rattle.soundness.specs.Cutting.{good_file, function_count_lem, few_functions}
+use Rattle.rules.specs.Check.{bodies, first_untyped}
+use Rattle.rules.specs.Answers.{check_number, check_body_named, check}
+use Rattle.rules.specs.Demand3.{Exists}
+use Rattle.rules.specs.declared.RecordingAnswer.{RecordingAnswer}
+use Rattle.rules.specs.declared.RecordingAnswer.TheVariants.{Unrecorded, RecordedUntyped, Recorded}
+use Rattle.rules.specs.Recording.{index_of, record_of, record_length, recording_number, recording_body_named, Recording, recording, recording_with, check_recording, answer_from, recheck}
+use Rattle.rules.specs.Rechecked.{SameCode, count_in, function_in, SameOutside, Faithful, Rechecks}
+use Rattle.rechecks.specs.Same.{SameTables, SameBody}
+use Rattle.rechecks.specs.Whole.{SameBut, Tells, record_faithful, full_answer, recheck_is}
 
 -- the other way round
-code-back : (t t′ : Tables) (c : Body) → SameCode t t′ c → SameCode t′ t c
-code-back t t′ c S = record { long = S .long; ends = S .ends′; ends′ = S .ends; bytes = λ j l. sym (S .bytes j l); labels = S .labels′; labels′ = S .labels }
+code_back : (t t' : Tables) (c : Body) → SameCode t t' c → SameCode t' t c
+code_back t t' c S = record { long = S.long; ends = S.ends'; ends' = S.ends; bytes = λ j l. sym (S.bytes j l); labels = S.labels'; labels' = S.labels }
 
 -- a body that there is, by its index
-index-of : (t : Tables) (c : Body) → Has (t .bodies) c → indexOf c < suc (countIn t)
-index-of t entry h = omega arith
-index-of t (fn k) h = let l : k < countIn t = h in omega arith
+index_of_lem : (t : Tables) (c : Body) → Has t.bodies c → index_of c < suc (count_in t)
+index_of_lem t entry h = omega arith
+index_of_lem t (fn k) h = let l : k < count_in t = h in omega arith
 
 -- ---- words by their bytes
 
-number-next : (n : ℕ) (s : List ℕ) (i : ℕ) → number (take (suc n) (drop i s)) ≡ getD s i 0 + 256 * number (take n (drop (suc i) s))
-number-next zero [] zero = omega arith
-number-next (suc n) [] zero = omega arith
-number-next zero [] (suc i) = omega arith
-number-next (suc n) [] (suc i) = omega arith
-number-next n (x ∷ s) zero = refl
-number-next n (x ∷ s) (suc i) = number-next n s i
+number_next : (n : ℕ) (s : List ℕ) (i : ℕ) → number (take (suc n) (drop i s)) ≡ get_or s i 0 + 256 * number (take n (drop (suc i) s))
+number_next zero [] zero = omega arith
+number_next (suc n) [] zero = omega arith
+number_next zero [] (suc i) = omega arith
+number_next (suc n) [] (suc i) = omega arith
+number_next n (x ∷ s) zero = refl
+number_next n (x ∷ s) (suc i) = number_next n s i
 
-same-word : (n : ℕ) (s s′ : List ℕ) (i i′ : ℕ) → ((j : ℕ) → j < n → byte s (i + j) ≡ byte s′ (i′ + j)) → word n s i ≡ word n s′ i′
+same_word : (n : ℕ) (s s' : List ℕ) (i i' : ℕ) → ((j : ℕ) → j < n → byte s (i + j) ≡ byte s' (i' + j)) → word n s i ≡ word n s' i'
 unfolding word
-same-word zero s s′ i i′ h = refl
-same-word (suc n) s s′ i i′ h =
-    let a : getD s i 0 ≡ getD s′ i′ 0 = let z : i + 0 ≡ i = omega arith in let z′ : i′ + 0 ≡ i′ = omega arith in ap (λ k. getD s k 0) (sym z) ∙ h 0 (omega arith) ∙ ap (λ k. getD s′ k 0) z′ in
-    let b : number (take n (drop (suc i) s)) ≡ number (take n (drop (suc i′) s′)) =
-    same-word n s s′ (suc i) (suc i′) (λ j l. let z : suc i + j ≡ i + suc j = omega arith in let z′ : i′ + suc j ≡ suc i′ + j = omega arith in ap (λ k. getD s k 0) z ∙ h (suc j) (omega arith) ∙ ap (λ k. getD s′ k 0) z′) in
-    number-next n s i ∙ (omega arith) ∙ sym (number-next n s′ i′)
+same_word zero s s' i i' h = refl
+same_word (suc n) s s' i i' h =
+    let a : get_or s i 0 ≡ get_or s' i' 0 = let z : i + 0 ≡ i = omega arith in let z' : i' + 0 ≡ i' = omega arith in ap (λ k. get_or s k 0) (sym z) ∙ h 0 (omega arith) ∙ ap (λ k. get_or s' k 0) z' in
+    let b : number (take n (drop (suc i) s)) ≡ number (take n (drop (suc i') s')) =
+    same_word n s s' (suc i) (suc i') (λ j l. let z : suc i + j ≡ i + suc j = omega arith in let z' : i' + suc j ≡ suc i' + j = omega arith in ap (λ k. get_or s k 0) z ∙ h (suc j) (omega arith) ∙ ap (λ k. get_or s' k 0) z') in
+    number_next n s i ∙ (omega arith) ∙ sym (number_next n s' i')
 
 -- ---- one body
 
-is-place : (B : Bodies) (b : Body) (p : ℕ) → bodyStart B b ≤ p → p ≤ bodyEnd B b → dueIn B p ≡ 0 → placeIn B b p ≡ true
-unfolding placeIn
-is-place B b p h k d =
-    and-intro (leb (bodyStart B b) p && leb p (bodyEnd B b)) (eqb (dueIn B p) 0)
-    (and-intro (leb (bodyStart B b) p) (leb p (bodyEnd B b)) (leb-yes (bodyStart B b) p h) (leb-yes p (bodyEnd B b) k)) (rw d refl)
+is_place_lem : (B : Bodies) (b : Body) (p : ℕ) → body_start B b ≤ p → p ≤ body_end B b → due_in B p ≡ 0 → place_in B b p ≡ true
+unfolding place_in
+is_place_lem B b p h k d =
+    and_intro (leb (body_start B b) p && leb p (body_end B b)) (eqb (due_in B p) 0)
+    (and_intro (leb (body_start B b) p) (leb p (body_end B b)) (leb_yes (body_start B b) p h) (leb_yes p (body_end B b) k)) (rw d refl)
 
-module _ (t t′ : Tables) (e : tableRefusal t ≡ 0) (e′ : tableRefusal t′ ≡ 0) (c : Body) (has : Has (t .bodies) c) (has′ : Has (t′ .bodies) c) (same-edition : t .bodies .edition ≡ t′ .bodies .edition)
-    (ts : List Ty) (st : startOf (moduleOf t) c ≡ some (bodyStart (t .bodies) c, ts)) (st′ : startOf (moduleOf t′) c ≡ some (bodyStart (t′ .bodies) c, ts)) (S : SameCode t t′ c) where
+module _ (t t' : Tables) (e : table_refusal t ≡ 0) (e' : table_refusal t' ≡ 0) (c : Body) (has : Has t.bodies c) (has' : Has t'.bodies c) (same-edition : t.bodies.edition ≡ t'.bodies.edition)
+    (ts : List Ty) (st : start_of (module_of t) c ≡ some (body_start t.bodies c, ts)) (st' : start_of (module_of t') c ≡ some (body_start t'.bodies c, ts)) (S : SameCode t t' c) where
   abbrev ed : ℕ
-  ed = t .bodies .edition
+  ed = t.bodies.edition
 
-  abbrev ed′ : ℕ
-  ed′ = t′ .bodies .edition
+  abbrev ed' : ℕ
+  ed' = t'.bodies.edition
 
-  same-opcode : (j : ℕ) → j < S .long → opcodeAt ed (t .bodies .code) (bodyStart (t .bodies) c + j) ≡ opcodeAt ed′ (t′ .bodies .code) (bodyStart (t′ .bodies) c + j)
-  same-opcode j l = ap (λ x. opcodeOf (opcodes x) (byte (t .bodies .code) (bodyStart (t .bodies) c + j))) same-edition ∙ ap (opcodeOf (opcodes ed′)) (S .bytes j l)
+  same_opcode : (j : ℕ) → j < S.long → opcode_at ed t.bodies.code (body_start t.bodies c + j) ≡ opcode_at ed' t'.bodies.code (body_start t'.bodies c + j)
+  same_opcode j l = ap (λ x. opcode_of (opcodes x) (byte t.bodies.code (body_start t.bodies c + j))) same-edition ∙ ap (opcode_of (opcodes ed')) (S.bytes j l)
 
-  start-cut : dueIn (t .bodies) (bodyStart (t .bodies) c) ≡ 0
-  unfolding moduleOf
-  start-cut = place-is t e c (bodyStart (t .bodies) c) (orderly t e .enters c (bodyStart (t .bodies) c, ts) st) .2
+  start_cut : due_in t.bodies (body_start t.bodies c) ≡ 0
+  unfolding module_of
+  start_cut = (place_is t e c (body_start t.bodies c) ((orderly t e).enters c (body_start t.bodies c, ts) st)).2
 
-  start-cut′ : dueIn (t′ .bodies) (bodyStart (t′ .bodies) c) ≡ 0
-  unfolding moduleOf
-  start-cut′ = place-is t′ e′ c (bodyStart (t′ .bodies) c) (orderly t′ e′ .enters c (bodyStart (t′ .bodies) c, ts) st′) .2
+  start_cut' : due_in t'.bodies (body_start t'.bodies c) ≡ 0
+  unfolding module_of
+  start_cut' = (place_is t' e' c (body_start t'.bodies c) ((orderly t' e').enters c (body_start t'.bodies c, ts) st')).2
 
-  same-from : (r : ℕ) → r ≤ S .long → dueFrom ed (t .bodies .code) (bodyStart (t .bodies) c) r ≡ dueFrom ed′ (t′ .bodies .code) (bodyStart (t′ .bodies) c) r
-  unfolding dueFrom
-  same-from zero l = refl
-  same-from (suc r) l =
-      let z : dueFrom ed (t .bodies .code) (bodyStart (t .bodies) c) r ≡ dueFrom ed′ (t′ .bodies .code) (bodyStart (t′ .bodies) c) r = same-from r (omega arith) in
-      ap (λ d. dueAfter d (opcodeAt ed (t .bodies .code) (bodyStart (t .bodies) c + r))) z ∙ ap (dueAfter (dueFrom ed′ (t′ .bodies .code) (bodyStart (t′ .bodies) c) r)) (same-opcode r (omega arith))
+  same_from : (r : ℕ) → r ≤ S.long → due_from ed t.bodies.code (body_start t.bodies c) r ≡ due_from ed' t'.bodies.code (body_start t'.bodies c) r
+  unfolding due_from
+  same_from zero l = refl
+  same_from (suc r) l =
+      let z : due_from ed t.bodies.code (body_start t.bodies c) r ≡ due_from ed' t'.bodies.code (body_start t'.bodies c) r = same_from r (omega arith) in
+      ap (λ d. due_after d (opcode_at ed t.bodies.code (body_start t.bodies c + r))) z ∙ ap (due_after (due_from ed' t'.bodies.code (body_start t'.bodies c) r)) (same_opcode r (omega arith))
 
-  same-due : (r : ℕ) → r ≤ S .long → dueIn (t .bodies) (bodyStart (t .bodies) c + r) ≡ dueIn (t′ .bodies) (bodyStart (t′ .bodies) c + r)
-  same-due r l = cut-from ed (t .bodies .code) (bodyStart (t .bodies) c) start-cut r ∙ same-from r l ∙ sym (cut-from ed′ (t′ .bodies .code) (bodyStart (t′ .bodies) c) start-cut′ r)
+  same_due : (r : ℕ) → r ≤ S.long → due_in t.bodies (body_start t.bodies c + r) ≡ due_in t'.bodies (body_start t'.bodies c + r)
+  same_due r l = cut_from ed t.bodies.code (body_start t.bodies c) start_cut r ∙ same_from r l ∙ sym (cut_from ed' t'.bodies.code (body_start t'.bodies c) start_cut' r)
 
-  place-within : (r : ℕ) → moduleOf t .isPlace c (bodyStart (t .bodies) c + r) ≡ true → r ≤ S .long
-  place-within r i =
-      let x = place-inside t e c (bodyStart (t .bodies) c + r) has i in
-      let y : bodyStart (t .bodies) c + r ≤ bodyEnd (t .bodies) c = x .1 in let z : bodyEnd (t .bodies) c ≡ bodyStart (t .bodies) c + S .long = S .ends in omega arith
+  place_within : (r : ℕ) → (module_of t).is_place c (body_start t.bodies c + r) ≡ true → r ≤ S.long
+  place_within r i =
+      let x = place_inside t e c (body_start t.bodies c + r) has i in
+      let y : body_start t.bodies c + r ≤ body_end t.bodies c = x.1 in let z : body_end t.bodies c ≡ body_start t.bodies c + S.long = S.ends in omega arith
 
-  same-places : (r : ℕ) → r ≤ S .long → moduleOf t .isPlace c (bodyStart (t .bodies) c + r) ≡ true → moduleOf t′ .isPlace c (bodyStart (t′ .bodies) c + r) ≡ true
-  unfolding moduleOf
-  same-places r l i =
-      let d : dueIn (t .bodies) (bodyStart (t .bodies) c + r) ≡ 0 = place-is t e c (bodyStart (t .bodies) c + r) i .2 in
-      let z : bodyEnd (t′ .bodies) c ≡ bodyStart (t′ .bodies) c + S .long = S .ends′ in
-      is-place (t′ .bodies) c (bodyStart (t′ .bodies) c + r) (omega arith) (omega arith) (sym (same-due r l) ∙ d)
+  same_places : (r : ℕ) → r ≤ S.long → (module_of t).is_place c (body_start t.bodies c + r) ≡ true → (module_of t').is_place c (body_start t'.bodies c + r) ≡ true
+  unfolding module_of
+  same_places r l i =
+      let d : due_in t.bodies (body_start t.bodies c + r) ≡ 0 = (place_is t e c (body_start t.bodies c + r) i).2 in
+      let z : body_end t'.bodies c ≡ body_start t'.bodies c + S.long = S.ends' in
+      is_place_lem t'.bodies c (body_start t'.bodies c + r) (omega arith) (omega arith) (sym (same_due r l) ∙ d)
 
   -- an instruction lies in its body whole
-  fits : (r : ℕ) → r < S .long → moduleOf t .isPlace c (bodyStart (t .bodies) c + r) ≡ true → (i : Instruction) → moduleOf t .code (bodyStart (t .bodies) c + r) ≡ some i → r + size i ≤ S .long
+  fits : (r : ℕ) → r < S.long → (module_of t).is_place c (body_start t.bodies c + r) ≡ true → (i : Instruction) → (module_of t).code (body_start t.bodies c + r) ≡ some i → r + size i ≤ S.long
   fits r l p i q =
-      let x : (i : Instruction) × (moduleOf t .code (bodyStart (t .bodies) c + r) ≡ some i) × (moduleOf t .isPlace c (bodyStart (t .bodies) c + r + size i) ≡ true) =
-      orderly t e .goes-on c (bodyEnd (t .bodies) c) (bodyStart (t .bodies) c + r) (has-end t e c has) p (let z : bodyEnd (t .bodies) c ≡ bodyStart (t .bodies) c + S .long = S .ends in omega arith) in
-      let w : x .0 ≡ i = some-inj (x .0) i (sym (x .1) ∙ q) in
-      let y : bodyStart (t .bodies) c + r + size (x .0) ≡ bodyStart (t .bodies) c + (r + size (x .0)) = omega arith in
-      subst (λ k. r + size k ≤ S .long) w (place-within (r + size (x .0)) (subst (λ k. moduleOf t .isPlace c k ≡ true) y (x .2)))
+      let x : (i : Instruction) × ((module_of t).code (body_start t.bodies c + r) ≡ some i) × ((module_of t).is_place c (body_start t.bodies c + r + size i) ≡ true) =
+      (orderly t e).goes_on c (body_end t.bodies c) (body_start t.bodies c + r) (has_end t e c has) p (let z : body_end t.bodies c ≡ body_start t.bodies c + S.long = S.ends in omega arith) in
+      let w : x.0 ≡ i = some_inj x.0 i (sym x.1 ∙ q) in
+      let y : body_start t.bodies c + r + size x.0 ≡ body_start t.bodies c + (r + size x.0) = omega arith in
+      subst (λ k. r + size k ≤ S.long) w (place_within (r + size x.0) (subst (λ k. (module_of t).is_place c k ≡ true) y x.2))
 
-  same-code : (r : ℕ) → r < S .long → moduleOf t .isPlace c (bodyStart (t .bodies) c + r) ≡ true → moduleOf t .code (bodyStart (t .bodies) c + r) ≡ moduleOf t′ .code (bodyStart (t′ .bodies) c + r)
-  unfolding moduleOf codeOf
-  same-code r l p = go (opcodeAt ed (t .bodies .code) (bodyStart (t .bodies) c + r)) refl
+  same_code : (r : ℕ) → r < S.long → (module_of t).is_place c (body_start t.bodies c + r) ≡ true → (module_of t).code (body_start t.bodies c + r) ≡ (module_of t').code (body_start t'.bodies c + r)
+  unfolding module_of code_of
+  same_code r l p = go (opcode_at ed t.bodies.code (body_start t.bodies c + r)) refl
     where
       v : ℕ
-      v = word 4 (t .bodies .code) (bodyStart (t .bodies) c + r + 1)
+      v = word 4 t.bodies.code (body_start t.bodies c + r + 1)
 
-      v′ : ℕ
-      v′ = word 4 (t′ .bodies .code) (bodyStart (t′ .bodies) c + r + 1)
+      v' : ℕ
+      v' = word 4 t'.bodies.code (body_start t'.bodies c + r + 1)
 
-      there : opcodeAt ed′ (t′ .bodies .code) (bodyStart (t′ .bodies) c + r) ≡ opcodeAt ed (t .bodies .code) (bodyStart (t .bodies) c + r)
-      there = sym (same-opcode r l)
+      there : opcode_at ed' t'.bodies.code (body_start t'.bodies c + r) ≡ opcode_at ed t.bodies.code (body_start t.bodies c + r)
+      there = sym (same_opcode r l)
 
-      words : r + 5 ≤ S .long → word 4 (t .bodies .code) (bodyStart (t .bodies) c + r + 1) ≡ word 4 (t′ .bodies .code) (bodyStart (t′ .bodies) c + r + 1)
-      words n = same-word 4 (t .bodies .code) (t′ .bodies .code) (bodyStart (t .bodies) c + r + 1) (bodyStart (t′ .bodies) c + r + 1)
-          (λ j k. let z : bodyStart (t .bodies) c + r + 1 + j ≡ bodyStart (t .bodies) c + (r + 1 + j) = omega arith in
-          let z′ : bodyStart (t′ .bodies) c + (r + 1 + j) ≡ bodyStart (t′ .bodies) c + r + 1 + j = omega arith in
-          ap (byte (t .bodies .code)) z ∙ S .bytes (r + 1 + j) (omega arith) ∙ ap (byte (t′ .bodies .code)) z′)
+      words : r + 5 ≤ S.long → word 4 t.bodies.code (body_start t.bodies c + r + 1) ≡ word 4 t'.bodies.code (body_start t'.bodies c + r + 1)
+      words n = same_word 4 t.bodies.code t'.bodies.code (body_start t.bodies c + r + 1) (body_start t'.bodies c + r + 1)
+          (λ j k. let z : body_start t.bodies c + r + 1 + j ≡ body_start t.bodies c + (r + 1 + j) = omega arith in
+          let z' : body_start t'.bodies c + (r + 1 + j) ≡ body_start t'.bodies c + r + 1 + j = omega arith in
+          ap (byte t.bodies.code) z ∙ S.bytes (r + 1 + j) (omega arith) ∙ ap (byte t'.bodies.code) z')
 
-      go : (o : Opcode) → opcodeAt ed (t .bodies .code) (bodyStart (t .bodies) c + r) ≡ o
-          → instructionOf (opcodeAt ed (t .bodies .code) (bodyStart (t .bodies) c + r)) (word 4 (t .bodies .code) (bodyStart (t .bodies) c + r + 1)) ≡ instructionOf (opcodeAt ed′ (t′ .bodies .code) (bodyStart (t′ .bodies) c + r)) (word 4 (t′ .bodies .code) (bodyStart (t′ .bodies) c + r + 1))
-      go absent q = ap (λ o. instructionOf o v) q ∙ sym (ap (λ o. instructionOf o v′) (there ∙ q))
-      go (bare i) q = ap (λ o. instructionOf o v) q ∙ sym (ap (λ o. instructionOf o v′) (there ∙ q))
+      go : (o : Opcode) → opcode_at ed t.bodies.code (body_start t.bodies c + r) ≡ o
+          → instruction_of (opcode_at ed t.bodies.code (body_start t.bodies c + r)) (word 4 t.bodies.code (body_start t.bodies c + r + 1)) ≡ instruction_of (opcode_at ed' t'.bodies.code (body_start t'.bodies c + r)) (word 4 t'.bodies.code (body_start t'.bodies c + r + 1))
+      go absent q = ap (λ o. instruction_of o v) q ∙ sym (ap (λ o. instruction_of o v') (there ∙ q))
+      go (bare i) q = ap (λ o. instruction_of o v) q ∙ sym (ap (λ o. instruction_of o v') (there ∙ q))
       go (wide g) q =
-          let si : size (g v) ≡ 5 = subst Sized q (sized ed (byte (t .bodies .code) (bodyStart (t .bodies) c + r))) v in
-          let n : r + size (g v) ≤ S .long = fits r l p (g v) (ap (λ o. instructionOf o v) q) in
-          ap (λ o. instructionOf o v) q ∙ ap (λ w. some (g w)) (words (omega arith)) ∙ sym (ap (λ o. instructionOf o v′) (there ∙ q))
+          let si : size (g v) ≡ 5 = subst Sized q (sized ed (byte t.bodies.code (body_start t.bodies c + r))) v in
+          let n : r + size (g v) ≤ S.long = fits r l p (g v) (ap (λ o. instruction_of o v) q) in
+          ap (λ o. instruction_of o v) q ∙ ap (λ w. some (g w)) (words (omega arith)) ∙ sym (ap (λ o. instruction_of o v') (there ∙ q))
 
-  same-labels : (l q : ℕ) → owned c (moduleOf t .label l) ≡ some q → (r : ℕ) × (q ≡ bodyStart (t .bodies) c + r) × (owned c (moduleOf t′ .label l) ≡ some (bodyStart (t′ .bodies) c + r))
-  same-labels l q o =
-      let a : moduleOf t .label l ≡ some (c, q) = owned-is c (moduleOf t .label l) q o in
-      let x = label-is t e l c q a in
-      let y : bodyStart (t .bodies) c ≤ q = x .1 .1 in
-      let z : q ≡ bodyStart (t .bodies) c + (q - bodyStart (t .bodies) c) = omega arith in
-      let b : moduleOf t′ .label l ≡ some (c, bodyStart (t′ .bodies) c + (q - bodyStart (t .bodies) c)) = S .labels l (q - bodyStart (t .bodies) c) (subst (λ k. moduleOf t .label l ≡ some (c, k)) z a) in
-      (q - bodyStart (t .bodies) c, z, ap (owned c) b ∙ rw (own-body c) refl)
+  same_labels : (l q : ℕ) → owned c ((module_of t).label l) ≡ some q → (r : ℕ) × (q ≡ body_start t.bodies c + r) × (owned c ((module_of t').label l) ≡ some (body_start t'.bodies c + r))
+  same_labels l q o =
+      let a : (module_of t).label l ≡ some (c, q) = owned_is c ((module_of t).label l) q o in
+      let x = label_is t e l c q a in
+      let y : body_start t.bodies c ≤ q = x.1.1 in
+      let z : q ≡ body_start t.bodies c + (q - body_start t.bodies c) = omega arith in
+      let b : (module_of t').label l ≡ some (c, body_start t'.bodies c + (q - body_start t.bodies c)) = S.labels l (q - body_start t.bodies c) (subst (λ k. (module_of t).label l ≡ some (c, k)) z a) in
+      (q - body_start t.bodies c, z, ap (owned c) b ∙ rw (own_body c) refl)
     where
-      own-body : (b : Body) → eqBody b b ≡ true
-      own-body entry = refl
-      own-body (fn k) = eqb-same k
+      own_body : (b : Body) → eq_body b b ≡ true
+      own_body entry = refl
+      own_body (fn k) = eqb_same k
 
-  extent′ : bodyStart (t′ .bodies) c + S .long ≤ moduleOf t′ .extent
-  unfolding moduleOf
-  extent′ =
-      let x = place-inside t′ e′ c (bodyStart (t′ .bodies) c) has′ (orderly t′ e′ .enters c (bodyStart (t′ .bodies) c, ts) st′) in
-      let y : bodyEnd (t′ .bodies) c ≤ length (t′ .bodies .code) = x .2 in let z : bodyEnd (t′ .bodies) c ≡ bodyStart (t′ .bodies) c + S .long = S .ends′ in omega arith
+  extent' : body_start t'.bodies c + S.long ≤ (module_of t').extent
+  unfolding module_of
+  extent' =
+      let x = place_inside t' e' c (body_start t'.bodies c) has' ((orderly t' e').enters c (body_start t'.bodies c, ts) st') in
+      let y : body_end t'.bodies c ≤ length t'.bodies.code = x.2 in let z : body_end t'.bodies c ≡ body_start t'.bodies c + S.long = S.ends' in omega arith
 
-  pub same-body : SameBody (moduleOf t) (moduleOf t′) c
-  same-body =
+  pub same_body : SameBody (module_of t) (module_of t') c
+  same_body =
       record {
-        from = bodyStart (t .bodies) c;
-        onto = bodyStart (t′ .bodies) c;
-        long = S .long;
+        from = body_start t.bodies c;
+        onto = body_start t'.bodies c;
+        long = S.long;
         params = ts;
         starts = st;
-        starts′ = st′;
-        ends = has-end t e c has ∙ ap some (S .ends);
-        ends′ = has-end t′ e′ c has′ ∙ ap some (S .ends′);
-        code = same-code;
-        places = same-places;
-        within = place-within;
-        extent = extent′;
-        labels = same-labels;
+        starts' = st';
+        ends = has_end t e c has ∙ ap some S.ends;
+        ends' = has_end t' e' c has' ∙ ap some S.ends';
+        code = same_code;
+        places = same_places;
+        within = place_within;
+        extent = extent';
+        labels = same_labels;
       }
 
 -- ---- tables
 
-function-there : (t : Tables) (k : ℕ) → k < countIn t → moduleOf t .function k ≡ some (functionIn t k)
-unfolding moduleOf
-function-there t k l = rw (ltb-yes k (countIn t) l)
+function_there : (t : Tables) (k : ℕ) → k < count_in t → (module_of t).function k ≡ some (function_in t k)
+unfolding module_of
+function_there t k l = rw (ltb_yes k (count_in t) l)
 
-function-is : (t : Tables) (k : ℕ) (F : Function) → moduleOf t .function k ≡ some F → (k < countIn t) × (functionIn t k ≡ F)
-unfolding moduleOf
-function-is t k F q = decide (ltb k (countIn t)) (λ y. (ltb-is k (countIn t) y, some-inj (functionIn t k) F (rw y at q))) (λ y. none-some (rw y at q))
+function_is : (t : Tables) (k : ℕ) (F : Function) → (module_of t).function k ≡ some F → (k < count_in t) × (function_in t k ≡ F)
+unfolding module_of
+function_is t k F q = decide (ltb k (count_in t)) (λ y. (ltb_is k (count_in t) y, some_inj (function_in t k) F (rw y at q))) (λ y. none_some (rw y at q))
 
 -- the parameters of a body
-paramsOf : Tables → Body → List Ty
-paramsOf t entry = []
-paramsOf t (fn k) = functionIn t k .params
+params_of : Tables → Body → List Ty
+params_of t entry = []
+params_of t (fn k) = (function_in t k).params
 
-start-of : (t : Tables) (c : Body) → Has (t .bodies) c → startOf (moduleOf t) c ≡ some (bodyStart (t .bodies) c, paramsOf t c)
-unfolding paramsOf functionOf
-start-of t entry h = refl
-start-of t (fn k) h = rw (function-there t k h) refl
+start_of_lem : (t : Tables) (c : Body) → Has t.bodies c → start_of (module_of t) c ≡ some (body_start t.bodies c, params_of t c)
+unfolding params_of function_of
+start_of_lem t entry h = refl
+start_of_lem t (fn k) h = rw (function_there t k h) refl
 
-module _ (t t′ : Tables) (e : tableRefusal t ≡ 0) (e′ : tableRefusal t′ ≡ 0) (b : Body) (S : SameOutside t t′ b) where
-  same-tables : SameTables (moduleOf t) (moduleOf t′)
-  unfolding moduleOf constantOf
-  same-tables =
+module _ (t t' : Tables) (e : table_refusal t ≡ 0) (e' : table_refusal t' ≡ 0) (b : Body) (S : SameOutside t t' b) where
+  same_tables : SameTables (module_of t) (module_of t')
+  unfolding module_of constant_of
+  same_tables =
       record {
-        editions = S .editions;
-        structures = λ k. ap (λ zs. within (leb 10 k && ltb k (10 + structureCount zs)) (structureOf zs (k - 10))) (S .structures);
-        constants = λ k c q. decide (ltb k (constantCount (t .constants)))
-            (λ y. let l : k < constantCount (t .constants) = ltb-is k (constantCount (t .constants)) y in
-            let w : constantOf (t .constants) k ≡ c = some-inj (constantOf (t .constants) k) c (rw y at q) in
-            let n : constantCount (t .constants) ≡ constantCount (t′ .constants) = S .constant-count in
-            (constantOf (t′ .constants) k, rw (ltb-yes k (constantCount (t′ .constants)) (subst (λ x. k < x) n l)) refl, sym (S .constant-types k l) ∙ ap (λ (v : Slot). v .kind) w))
-            (λ y. none-some (rw y at q));
+        editions = S.editions;
+        structures = λ k. ap (λ zs. within (leb 10 k && ltb k (10 + structure_count zs)) (structure_of zs (k - 10))) S.structures;
+        constants = λ k c q. decide (ltb k (constant_count t.constants))
+            (λ y. let l : k < constant_count t.constants = ltb_is k (constant_count t.constants) y in
+            let w : constant_of t.constants k ≡ c = some_inj (constant_of t.constants k) c (rw y at q) in
+            let n : constant_count t.constants ≡ constant_count t'.constants = S.constant_count_lem in
+            (constant_of t'.constants k, rw (ltb_yes k (constant_count t'.constants) (subst (λ x. k < x) n l)) refl, sym (S.constant_types k l) ∙ ap (λ (v : Slot). v.kind) w))
+            (λ y. none_some (rw y at q));
         functions = λ k F q.
-            let x : (k < countIn t) × (functionIn t k ≡ F) = function-is t k F q in
-            let l : k < countIn t = x .0 in
-            (functionIn t′ k, function-there t′ k (subst (λ n. k < n) (S .function-count) l), sym (S .parameters k l) ∙ ap (λ (G : Function). G .params) (x .1), sym (S .results k l) ∙ ap (λ (G : Function). G .result) (x .1));
+            let x : (k < count_in t) × (function_in t k ≡ F) = function_is t k F q in
+            let l : k < count_in t = x.0 in
+            (function_in t' k, function_there t' k (subst (λ n. k < n) S.function_count_lem l), sym (S.parameters k l) ∙ ap (λ (G : Function). G.params) x.1, sym (S.results k l) ∙ ap (λ (G : Function). G.result) x.1);
       }
 
-  same-params : (c : Body) → Has (t .bodies) c → paramsOf t c ≡ paramsOf t′ c
-  unfolding paramsOf
-  same-params entry h = refl
-  same-params (fn k) h = S .parameters k h
+  same_params : (c : Body) → Has t.bodies c → params_of t c ≡ params_of t' c
+  unfolding params_of
+  same_params entry h = refl
+  same_params (fn k) h = S.parameters k h
 
-  exists′ : (c : Body) → Has (t .bodies) c → Has (t′ .bodies) c
-  exists′ entry h = tt
-  exists′ (fn k) h = subst (λ n. k < n) (S .function-count) h
+  exists' : (c : Body) → Has t.bodies c → Has t'.bodies c
+  exists' entry h = tt
+  exists' (fn k) h = subst (λ n. k < n) S.function_count_lem h
 
-  same-bodies : (c : Body) → Has (t .bodies) c → c ≢ b → SameBody (moduleOf t) (moduleOf t′) c
-  same-bodies c h d =
-      same-body t t′ e e′ c h (exists′ c h) (S .editions) (paramsOf t c) (start-of t c h)
-      (start-of t′ c (exists′ c h) ∙ ap (λ ts. some (bodyStart (t′ .bodies) c, ts)) (sym (same-params c h))) (S .others c (index-of t c h) d)
+  same_bodies : (c : Body) → Has t.bodies c → c ≢ b → SameBody (module_of t) (module_of t') c
+  same_bodies c h d =
+      same_body t t' e e' c h (exists' c h) S.editions (params_of t c) (start_of_lem t c h)
+      (start_of_lem t' c (exists' c h) ∙ ap (λ ts. some (body_start t'.bodies c, ts)) (sym (same_params c h))) (S.others c (index_of_lem t c h) d)
 
 -- the other way round
-outside-back : (t t′ : Tables) (b : Body) → SameOutside t t′ b → SameOutside t′ t b
-outside-back t t′ b S =
+outside_back : (t t' : Tables) (b : Body) → SameOutside t t' b → SameOutside t' t b
+outside_back t t' b S =
     record {
-      editions = sym (S .editions);
-      constant-count = sym (S .constant-count);
-      constant-types = λ k l. sym (S .constant-types k (subst (λ n. k < n) (sym (S .constant-count)) l));
-      structures = sym (S .structures);
-      function-count = sym (S .function-count);
-      parameters = λ k l. sym (S .parameters k (subst (λ n. k < n) (sym (S .function-count)) l));
-      results = λ k l. sym (S .results k (subst (λ n. k < n) (sym (S .function-count)) l));
-      others = λ c h d. code-back t t′ c (S .others c (subst (λ n. indexOf c < suc n) (sym (S .function-count)) h) d);
+      editions = sym S.editions;
+      constant_count_lem = sym S.constant_count_lem;
+      constant_types = λ k l. sym (S.constant_types k (subst (λ n. k < n) (sym S.constant_count_lem) l));
+      structures = sym S.structures;
+      function_count_lem = sym S.function_count_lem;
+      parameters = λ k l. sym (S.parameters k (subst (λ n. k < n) (sym S.function_count_lem) l));
+      results = λ k l. sym (S.results k (subst (λ n. k < n) (sym S.function_count_lem) l));
+      others = λ c h d. code_back t t' c (S.others c (subst (λ n. index_of c < suc n) (sym S.function_count_lem) h) d);
     }
 
-by-index : (n : ℕ) (t : Tables) → countIn t ≡ n → (c : Body) → indexOf c < suc n → Has (t .bodies) c
-by-index n t q entry l = tt
-by-index n t q (fn k) l = let w : k < n = omega arith in subst (λ x. k < x) (sym q) w
+by_index : (n : ℕ) (t : Tables) → count_in t ≡ n → (c : Body) → index_of c < suc n → Has t.bodies c
+by_index n t q entry l = tt
+by_index n t q (fn k) l = let w : k < n = omega arith in subst (λ x. k < x) (sym q) w
 
-pub same-but : (t t′ : Tables) → tableRefusal t ≡ 0 → tableRefusal t′ ≡ 0 → (b : Body) → SameOutside t t′ b → SameBut (moduleOf t) (moduleOf t′) (countIn t) b
-same-but t t′ e e′ b S =
+pub same_but : (t t' : Tables) → table_refusal t ≡ 0 → table_refusal t' ≡ 0 → (b : Body) → SameOutside t t' b → SameBut (module_of t) (module_of t') (count_in t) b
+same_but t t' e e' b S =
     record {
-      tables = same-tables t t′ e e′ b S;
-      tables′ = same-tables t′ t e′ e b (outside-back t t′ b S);
-      others = λ c l d. same-bodies t t′ e e′ b S c (by-index (countIn t) t refl c l) (λ z. d (ap indexOf z));
-      others′ = λ c l d. same-bodies t′ t e′ e b (outside-back t t′ b S) c (by-index (countIn t) t′ (sym (S .function-count)) c l) (λ z. d (ap indexOf z));
+      tables = same_tables t t' e e' b S;
+      tables' = same_tables t' t e' e b (outside_back t t' b S);
+      others = λ c l d. same_bodies t t' e e' b S c (by_index (count_in t) t refl c l) (λ z. d (ap index_of z));
+      others' = λ c l d. same_bodies t' t e' e b (outside_back t t' b S) c (by_index (count_in t) t' (sym S.function_count_lem) c l) (λ z. d (ap index_of z));
     }
 
 -- ---- files
 
 tells : (s r : List ℕ) → Faithful s r → Tells (read s) (functions s) r
-tells s r F = record { count = F .count; offset = F .offset; long = F .long; flags = F .flags }
+tells s r F = record { count = F.count; offset = F.offset; long = F.long; flags = F.flags }
 
 faithful : (s r : List ℕ) → Tells (read s) (functions s) r → Faithful s r
-faithful s r F = record { count = F .count; offset = F .offset; long = F .long; flags = F .flags }
+faithful s r F = record { count = F.count; offset = F.offset; long = F.long; flags = F.flags }
 
-there-is : (s : List ℕ) → refusal s ≡ 0 → (b : Body) → Exists s b → Has (bodiesIn s) b
-there-is s e entry h = tt
-there-is s e (fn k) h = subst (λ n. k < n) (sym (function-count s e)) h
+there_is : (s : List ℕ) → refusal s ≡ 0 → (b : Body) → Exists s b → Has (bodies_in s) b
+there_is s e entry h = tt
+there_is s e (fn k) h = subst (λ n. k < n) (sym (function_count_lem s e)) h
 
-index-in : (s : List ℕ) (b : Body) → Exists s b → indexOf b < suc (functions s)
-index-in s entry h = omega arith
-index-in s (fn k) h = let l : k < functions s = h in omega arith
+index_in : (s : List ℕ) (b : Body) → Exists s b → index_of b < suc (functions s)
+index_in s entry h = omega arith
+index_in s (fn k) h = let l : k < functions s = h in omega arith
 
 -- from bytes to answers
-recheck-files : (s s′ r : List ℕ) (f : ℕ) → refusal s ≡ 0 → refusal s′ ≡ 0 → Exists s′ (bodyOf f) → SameOutside (tablesIn s) (tablesIn s′) (bodyOf f) → Faithful s r
-    → ((room : List ℕ) → 64 * labels s′ ≤ length room → recheck s′ r f .answer ≡ check s′ room .answer) × Faithful s′ (recheck s′ r f .beside)
-recheck-files s s′ r f e e′ h S F =
-    let n : functions s ≡ functions s′ = sym (function-count s e) ∙ S .function-count ∙ function-count s′ e′ in
-    let x = recheck-is s s′ r f e′ _ (start-of (tablesIn s′) (bodyOf f) (there-is s′ e′ (bodyOf f) h)) (sym n) (subst (λ k. indexOf (bodyOf f) < suc k) (sym n) (index-in s′ (bodyOf f) h))
-    (subst (λ k. SameBut (read s) (read s′) k (bodyOf f)) (function-count s e) (same-but (tablesIn s) (tablesIn s′) (good-file s e) (good-file s′ e′) (bodyOf f) S)) (tells s r F) in
-    (x .0, faithful s′ (recheck s′ r f .beside) (x .1))
+recheck_files : (s s' r : List ℕ) (f : ℕ) → refusal s ≡ 0 → refusal s' ≡ 0 → Exists s' (body_of f) → SameOutside (tables_in s) (tables_in s') (body_of f) → Faithful s r
+    → ((room : List ℕ) → 64 * labels s' ≤ length room → (recheck s' r f).answer ≡ (check s' room).answer) × Faithful s' (recheck s' r f).beside
+recheck_files s s' r f e e' h S F =
+    let n : functions s ≡ functions s' = sym (function_count_lem s e) ∙ S.function_count_lem ∙ function_count_lem s' e' in
+    let x = recheck_is s s' r f e' _ (start_of_lem (tables_in s') (body_of f) (there_is s' e' (body_of f) h)) (sym n) (subst (λ k. index_of (body_of f) < suc k) (sym n) (index_in s' (body_of f) h))
+    (subst (λ k. SameBut (read s) (read s') k (body_of f)) (function_count_lem s e) (same_but (tables_in s) (tables_in s') (good_file s e) (good_file s' e') (body_of f) S)) (tells s r F) in
+    (x.0, faithful s' (recheck s' r f).beside x.1)
 
 -- what the check answers, with a record of n functions beside it
-abbrev pub recordedAs : ℕ → CheckAnswer → RecordingAnswer
-recordedAs n (Refused e) = Unrecorded e
-recordedAs n (Untyped b) = RecordedUntyped b
-recordedAs n Accepted = Recorded (recordLength n)
+abbrev pub recorded_as : ℕ → CheckAnswer → RecordingAnswer
+recorded_as n (Refused e) = Unrecorded e
+recorded_as n (Untyped b) = RecordedUntyped b
+recorded_as n Accepted = Recorded (record_length n)
 
-pub recording-writes : (s room r : List ℕ) → refusal s ≡ 0 → 64 * labels s ≤ length room → recordLength (functions s) ≤ length r
-    → checkRecording s room r ≡ recording (recordedAs (functions s) (check s room .answer)) (check s room .room) (recordOf (read s) (functions s) ++ drop (recordLength (functions s)) r)
-unfolding checkRecording
-recording-writes s room r e l n =
-    ap (recordingWith s room r) (full-answer s room e l) ∙ go (firstUntyped (read s) (bodies (functions s)))
-    ∙ ap (λ a. recording (recordedAs (functions s) a) (check s room .room) after) (sym (full-answer s room e l))
+pub recording_writes : (s room r : List ℕ) → refusal s ≡ 0 → 64 * labels s ≤ length room → record_length (functions s) ≤ length r
+    → check_recording s room r ≡ recording (recorded_as (functions s) (check s room).answer) (check s room).room (record_of (read s) (functions s) ++ drop (record_length (functions s)) r)
+unfolding check_recording
+recording_writes s room r e l n =
+    ap (recording_with s room r) (full_answer s room e l) ∙ go (first_untyped (read s) (bodies (functions s)))
+    ∙ ap (λ a. recording (recorded_as (functions s) a) (check s room).room after) (sym (full_answer s room e l))
   where
     after : List ℕ
-    after = recordOf (read s) (functions s) ++ drop (recordLength (functions s)) r
+    after = record_of (read s) (functions s) ++ drop (record_length (functions s)) r
 
-    go : (o : Option Body) → recordingWith s room r (answerFrom o) ≡ recording (recordedAs (functions s) (answerFrom o)) (check s room .room) after
-    go none = rw (ltb-no (length r) (recordLength (functions s)) n)
-    go (some b) = rw (ltb-no (length r) (recordLength (functions s)) n)
+    go : (o : Option Body) → recording_with s room r (answer_from o) ≡ recording (recorded_as (functions s) (answer_from o)) (check s room).room after
+    go none = rw (ltb_no (length r) (record_length (functions s)) n)
+    go (some b) = rw (ltb_no (length r) (record_length (functions s)) n)
 
-record-tells : (s : List ℕ) → refusal s ≡ 0 → Tells (read s) (functions s) (recordOf (read s) (functions s))
-record-tells s e =
-    record-faithful (read s) (functions s)
-    (let w : functionCount (edition s) (functionsIn s) ≤ 128 = few-functions s e in let z : functions s ≤ 128 = subst (λ k. k ≤ 128) (function-count s e) w in omega arith)
+record_tells : (s : List ℕ) → refusal s ≡ 0 → Tells (read s) (functions s) (record_of (read s) (functions s))
+record_tells s e =
+    record_faithful (read s) (functions s)
+    (let w : function_count (edition s) (functions_in s) ≤ 128 = few_functions s e in let z : functions s ≤ 128 = subst (λ k. k ≤ 128) (function_count_lem s e) w in omega arith)
 
-number-same : (n : ℕ) (a : CheckAnswer) → recordingNumber (recordedAs n a) ≡ checkNumber a
-number-same n (Refused e) = refl
-number-same n (Untyped b) = refl
-number-same n Accepted = refl
+number_same : (n : ℕ) (a : CheckAnswer) → recording_number (recorded_as n a) ≡ check_number a
+number_same n (Refused e) = refl
+number_same n (Untyped b) = refl
+number_same n Accepted = refl
 
-body-same : (n : ℕ) (a : CheckAnswer) → recordingBodyNamed (recordedAs n a) ≡ checkBodyNamed a
-body-same n (Refused e) = refl
-body-same n (Untyped b) = refl
-body-same n Accepted = refl
+body_same : (n : ℕ) (a : CheckAnswer) → recording_body_named (recorded_as n a) ≡ check_body_named a
+body_same n (Refused e) = refl
+body_same n (Untyped b) = refl
+body_same n Accepted = refl
 
 -- 02, A10
 pub rechecks : Rechecks
-rechecks = record { recorded = recorded-so; updates = recheck-files }
+rechecks = record { recorded = recorded_so; updates = recheck_files }
   where
-    recorded-so : (s room r : List ℕ) → refusal s ≡ 0 → 64 * labels s ≤ length room → recordLength (functions s) ≤ length r
-        → (recordingNumber (checkRecording s room r .answer) ≡ checkNumber (check s room .answer))
-        × (recordingBodyNamed (checkRecording s room r .answer) ≡ checkBodyNamed (check s room .answer))
-        × (checkRecording s room r .room ≡ check s room .room)
-        × Faithful s (take (recordLength (functions s)) (checkRecording s room r .beside))
-    recorded-so s room r e l n =
-        let w = recording-writes s room r e l n in
-        let front : take (recordLength (functions s)) (recordOf (read s) (functions s) ++ drop (recordLength (functions s)) r) ≡ recordOf (read s) (functions s) =
-        take-at (recordOf (read s) (functions s)) (drop (recordLength (functions s)) r) (recordLength (functions s)) (record-tells s e .long) in (
-          ap (λ (x : Recording). recordingNumber (x .answer)) w ∙ number-same (functions s) (check s room .answer),
-          ap (λ (x : Recording). recordingBodyNamed (x .answer)) w ∙ body-same (functions s) (check s room .answer),
-          ap (λ (x : Recording). x .room) w,
-          subst (Faithful s) (sym (ap (λ (x : Recording). take (recordLength (functions s)) (x .beside)) w ∙ front)) (faithful s (recordOf (read s) (functions s)) (record-tells s e)),
+    recorded_so : (s room r : List ℕ) → refusal s ≡ 0 → 64 * labels s ≤ length room → record_length (functions s) ≤ length r
+        → (recording_number (check_recording s room r).answer ≡ check_number (check s room).answer)
+        × (recording_body_named (check_recording s room r).answer ≡ check_body_named (check s room).answer)
+        × ((check_recording s room r).room ≡ (check s room).room)
+        × Faithful s (take (record_length (functions s)) (check_recording s room r).beside)
+    recorded_so s room r e l n =
+        let w = recording_writes s room r e l n in
+        let front : take (record_length (functions s)) (record_of (read s) (functions s) ++ drop (record_length (functions s)) r) ≡ record_of (read s) (functions s) =
+        take_at (record_of (read s) (functions s)) (drop (record_length (functions s)) r) (record_length (functions s)) (record_tells s e).long in (
+          ap (λ (x : Recording). recording_number x.answer) w ∙ number_same (functions s) (check s room).answer,
+          ap (λ (x : Recording). recording_body_named x.answer) w ∙ body_same (functions s) (check s room).answer,
+          ap (λ (x : Recording). x.room) w,
+          subst (Faithful s) (sym (ap (λ (x : Recording). take (record_length (functions s)) x.beside) w ∙ front)) (faithful s (record_of (read s) (functions s)) (record_tells s e)),
         )

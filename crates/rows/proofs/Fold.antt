@@ -1,81 +1,78 @@
 -- The fold over rows: what each row's run is in the rules, and how the fold goes on from it.
-use Prim.Native.Nat.{ℕ, zero, suc, _+_, _*_, _-_, _/_, _%_, _≤_, _<_}
+use Prim.Native.Nat.{ℕ, zero, suc, ◌+◌, ◌*◌, ◌-◌, ◌/◌, ◌≤◌, ◌<◌}
 use native.Mathlib.Omega.{arith}
-use mathlib.Core.Path.{_≡_, refl, sym, ap, _∙_}
-use mathlib.Core.Bool.{Bool, true, false, cond}
-use mathlib.Core.Option.{Option, none, some}
-use mathlib.Core.List.{List, [], _∷_}
-use lib.Dec.{eqb, leb}
+use mathlib.Core.Path.{◌≡◌, refl, sym, ap, ◌∙◌}
+use mathlib.Core.Bool.{true, false}
+use mathlib.Core.List.{List, [], ◌∷◌}
 use lib.ListN.{length, take, drop, length-append, length-drop}
 use lib.Seq.{length-take-le, take-length}
-use native.Mathlib.Nat.{mul-comm, mul-assoc, suc-mul, mul-le-mul-right}
-use borrow.Author.Tests.{eq-eqb, ne-eqb, le-leb, lt-leb}
-use Rattle·rules.specs.declared.RunAnswer.{RunAnswer}
-use Rattle·rules.specs.declared.RunAnswer.the-variants.{Rejected}
-use Rattle·rules.specs.declared.Slot.{Slot}
-use Rattle·rules.specs.declared.Tally.{Tally}
-use Rattle·rules.specs.Instructions.{Ty, kindOf}
-use Rattle·rules.specs.Tables.{bodyOf, functionAt}
-use Rattle·rules.specs.ModuleFile.{edition, functionsIn, read, refusal}
-use Rattle·rules.specs.Stack.{Lent, capacity, slotsOf, lentAfter}
-use Rattle·rules.specs.Heap.{Heap, emptyHeap, LentHeap, heapCapacity, lentHeapAfter, cellsAfter, tableAfter}
-use Rattle·rules.specs.Machine.{Outcome, outcome, keeping}
-use Rattle·rules.specs.Answers.{runNumber, valueOut, topSlot, arguments, admitted, answered, madeFor, otherProfile, outcomeOf, runRefusal, scanRefusal, Ran, ran, runModule}
-use Rattle·format.specs.declared.Sections.{Sections}
-use Rattle·heap.proofs.Lent.{Small}
-use Rattle·state.specs.State.{memoryOf}
-use Rattle·state.proofs.Stack.{length-slots}
-use Rattle·runs.specs.Runs.{lentOf, slotsIn, lentHeapOf, cellsIn, Empty, Emptied}
-use Rattle·runs.proofs.Final.{cells-blank, table-blank, stack-of, heap-past, heap-of}
-use Rattle·rules.specs.declared.MapAnswer.{MapAnswer}
-use Rattle·rows·specs.specs.declared.RowEnd.{RowEnd}
-use Rattle·rules.specs.Mapping.{takesNumbers, typesOf, paramsOf, rowOf, withValue, Mapped, mapped, mapRows, runRow}
-use Rattle·rows·specs.specs.Rows.{paramTypes, lowInts, valueIn, answerOf, left, Admits, Stage, RowIs, Mappable, RowsAre}
-use Rattle·rows·proofs.proofs.Types.{types-shown, admits-low}
-use Rattle·rows·proofs.proofs.Cleared.{again, capacity-after, value-is, past-cells, past-table}
+use native.Mathlib.Nat.{mul_comm, mul_assoc, suc-mul, mul-le-mul_right}
+use borrow.Author.Tests.{ne_eqb, lt-leb}
+use Rattle.rules.specs.declared.RunAnswer.TheVariants.{Rejected}
+use Rattle.rules.specs.declared.Slot.{Slot}
+use Rattle.rules.specs.declared.Tally.{Tally}
+use Rattle.rules.specs.Instructions.{Ty, kind_of}
+use Rattle.rules.specs.Tables.{body_of, function_at}
+use Rattle.rules.specs.ModuleFile.{edition, functions_in, read, refusal}
+use Rattle.rules.specs.Stack.{Lent, capacity, slots_of, lent_after}
+use Rattle.rules.specs.Heap.{empty_heap, LentHeap, heap_capacity, lent_heap_after, cells_after, table_after}
+use Rattle.rules.specs.Machine.{Outcome, outcome, keeping}
+use Rattle.rules.specs.Answers.{run_number, top_slot, arguments, admitted, answered, made_for, other_profile, outcome_of, run_refusal, scan_refusal, Ran, ran, run_module}
+use Rattle.format.specs.declared.Sections.{Sections}
+use Rattle.heap.proofs.Lent.{Small}
+use Rattle.state.specs.State.{memory_of}
+use Rattle.state.proofs.Stack.{length_slots}
+use Rattle.runs.specs.Runs.{lent_of, slots_in, lent_heap_of, cells_in, Empty, Emptied}
+use Rattle.runs.proofs.Final.{cells_blank, table_blank, stack_of, heap_past, heap_of_lem}
+use Rattle.rules.specs.declared.MapAnswer.{MapAnswer}
+use Rattle.rows.specs.declared.RowEnd.{RowEnd}
+use Rattle.rules.specs.Mapping.{types_of, params_of, row_of, with_value, mapped, map_rows, run_row}
+use Rattle.rows.specs.Rows.{param_types, low_ints, value_in, answer_of, left, Admits, Stage, RowIs, Mappable, RowsAre}
+use Rattle.rows.proofs.Types.{types_shown, admits_low}
+use Rattle.rows.proofs.Cleared.{again, capacity_after, value_is, past_cells, past_table}
 
-number-is : (n : ℕ) (t : Tally) → runNumber (answered n t) ≡ n
-number-is zero t = refl
-number-is (suc n) t = refl
+number_is : (n : ℕ) (t : Tally) → run_number (answered n t) ≡ n
+number_is zero t = refl
+number_is (suc n) t = refl
 
 -- ---- one row's run, which the rules give as `ran o`, and the rows after it
 
 module _ (run : ℕ → Lent → LentHeap → Ran) (o : Outcome) (i : ℕ) (x : Lent) (y : LentHeap) (is : run i x y ≡ ran o x y) where
   -- it did not finish
-  pub stops : (k : ℕ) (out : List ℕ) → (o .number ≡ 0 → ⊥) → mapRows run (suc k) i out x y ≡ mapped (o .number) i out (lentAfter (o .memory .stack) x) (lentHeapAfter (o .memory .heap) y)
-  unfolding mapRows
+  pub stops : (k : ℕ) (out : List ℕ) → (o.number ≡ 0 → ⊥) → map_rows run (suc k) i out x y ≡ mapped o.number i out (lent_after o.memory.stack x) (lent_heap_after o.memory.heap y)
+  unfolding map_rows
   stops k out n =
-      let t : Tally = record { steps = o .steps; height = length (o .memory .stack) } in
-      rw is (rw (number-is (o .number) t, ne-eqb (o .number) 0 n) refl)
+      let t : Tally = record { steps = o.steps; height = length o.memory.stack } in
+      rw is (rw (number_is o.number t, ne_eqb o.number 0 n) refl)
 
   -- it finished
-  pub goes : (k : ℕ) (out : List ℕ) → o .number ≡ 0
-      → mapRows run (suc k) i out x y
-      ≡ mapRows run k (suc i) (withValue out i (topSlot (lentAfter (o .memory .stack) x) (length (o .memory .stack)))) (lentAfter (o .memory .stack) x) (lentHeapAfter (o .memory .heap) y)
-  unfolding mapRows
+  pub goes : (k : ℕ) (out : List ℕ) → o.number ≡ 0
+      → map_rows run (suc k) i out x y
+      ≡ map_rows run k (suc i) (with_value out i (top_slot (lent_after o.memory.stack x) (length o.memory.stack))) (lent_after o.memory.stack x) (lent_heap_after o.memory.heap y)
+  unfolding map_rows
   goes k out e = rw is (rw e refl)
 
 -- a row that is refused ends the fold too
 pub refused : (run : ℕ → Lent → LentHeap → Ran) (i : ℕ) (x : Lent) (y : LentHeap) (n : ℕ) → (n ≡ 0 → ⊥) → run i x y ≡ record { answer = Rejected n; stack = x; heap = y }
-    → (k : ℕ) (out : List ℕ) → mapRows run (suc k) i out x y ≡ mapped n i out x y
-unfolding mapRows
-refused run i x y n h is k out = rw is (rw (ne-eqb n 0 h) refl)
+    → (k : ℕ) (out : List ℕ) → map_rows run (suc k) i out x y ≡ mapped n i out x y
+unfolding map_rows
+refused run i x y n h is k out = rw is (rw (ne_eqb n 0 h) refl)
 
-pub no-rows : (run : ℕ → Lent → LentHeap → Ran) (i : ℕ) (out : List ℕ) (x : Lent) (y : LentHeap) → mapRows run 0 i out x y ≡ mapped 0 i out x y
-unfolding mapRows
-no-rows run i out x y = refl
+pub no_rows : (run : ℕ → Lent → LentHeap → Ran) (i : ℕ) (out : List ℕ) (x : Lent) (y : LentHeap) → map_rows run 0 i out x y ≡ mapped 0 i out x y
+unfolding map_rows
+no_rows run i out x y = refl
 
 -- the fold on what was lent and on what was left is the same where its first row's run is
-pub alike : (run : ℕ → Lent → LentHeap → Ran) (i k : ℕ) (out : List ℕ) (x x′ : Lent) (y y′ : LentHeap) → run i x′ y′ ≡ run i x y → mapRows run (suc k) i out x′ y′ ≡ mapRows run (suc k) i out x y
-unfolding mapRows
-alike run i k out x x′ y y′ e = rw e refl
+pub alike : (run : ℕ → Lent → LentHeap → Ran) (i k : ℕ) (out : List ℕ) (x x' : Lent) (y y' : LentHeap) → run i x' y' ≡ run i x y → map_rows run (suc k) i out x' y' ≡ map_rows run (suc k) i out x y
+unfolding map_rows
+alike run i k out x x' y y' e = rw e refl
 
 -- ---- the rows of a function that takes them
 
 -- type bytes have one for each
-length-types : (ts : List Ty) → length (typesOf ts) ≡ length ts
-length-types [] = refl
-length-types (t ∷ ts) = length-append (typesOf ts) (kindOf t ∷ []) ∙ rw (length-types ts) (omega arith)
+length_types : (ts : List Ty) → length (types_of ts) ≡ length ts
+length_types [] = refl
+length_types (t ∷ ts) = length-append (types_of ts) (kind_of t ∷ []) ∙ rw (length_types ts) (omega arith)
 
 module _ (s : List ℕ) (readable : refusal s ≡ 0) (l : Sections) (f start end : ℕ) (b args out : List ℕ) (M : Mappable s l f start end b args out) where
   -- bytes of a row
@@ -88,357 +85,357 @@ module _ (s : List ℕ) (readable : refusal s ≡ 0) (l : Sections) (f start end
   abbrev row : ℕ → List ℕ
   row i = take width (drop (i * width) args)
 
-  params-are : paramsOf (read s) (bodyOf f) ≡ paramTypes s f (length b)
-  params-are = rw (M .body .starts) refl
+  params_are : params_of (read s) (body_of f) ≡ param_types s f (length b)
+  params_are = rw M.body.starts refl
 
-  types-are : b ≡ typesOf (paramTypes s f (length b))
-  types-are = sym (take-length b) ∙ types-shown (functionsIn s) (functionAt (edition s) f + 10) b (length b) (omega arith) (M .numbers) (M .types)
+  types_are : b ≡ types_of (param_types s f (length b))
+  types_are = sym (take-length b) ∙ types_shown (functions_in s) (function_at (edition s) f + 10) b (length b) (omega arith) M.numbers M.types
 
-  row-is : (i : ℕ) → rowOf (paramsOf (read s) (bodyOf f)) args i ≡ lentOf (row i) b
-  row-is i =
-      let count : length (paramTypes s f (length b)) ≡ length b = sym (length-types (paramTypes s f (length b))) ∙ ap length (sym types-are) in
+  row_is : (i : ℕ) → row_of (params_of (read s) (body_of f)) args i ≡ lent_of (row i) b
+  row_is i =
+      let count : length (param_types s f (length b)) ≡ length b = sym (length_types (param_types s f (length b))) ∙ ap length (sym types_are) in
       let v : 8 * length b ≡ width = omega arith in
-      let u : width * i ≡ i * width = mul-comm width i in
-      rw params-are (rw count (rw (v, u, ← types-are) refl))
+      let u : width * i ≡ i * width = mul_comm width i in
+      rw params_are (rw count (rw (v, u, ← types_are) refl))
 
   -- rows lie inside
-  whole-rows : rows * width ≡ length args
-  whole-rows =
-      let e : length out ≡ rows * 8 = omega (arith, M .whole) in
-      let c : rows * 8 * length b ≡ rows * (8 * length b) = mul-assoc rows 8 (length b) in
+  whole_rows : rows * width ≡ length args
+  whole_rows =
+      let e : length out ≡ rows * 8 = omega (arith, M.whole) in
+      let c : rows * 8 * length b ≡ rows * (8 * length b) = mul_assoc rows 8 (length b) in
       let d : 8 * length b ≡ width = omega arith in
-      ap (λ (x : ℕ). rows * x) (sym d) ∙ sym c ∙ ap (λ (x : ℕ). x * length b) (sym e) ∙ mul-comm (length out) (length b) ∙ sym (M .same)
+      ap (λ (x : ℕ). rows * x) (sym d) ∙ sym c ∙ ap (λ (x : ℕ). x * length b) (sym e) ∙ mul_comm (length out) (length b) ∙ sym M.same
 
   pub inside : (i : ℕ) → i < rows → i * width + width ≤ length args
   inside i h =
-      let q : suc i * width ≤ rows * width = mul-le-mul-right width h in
+      let q : suc i * width ≤ rows * width = mul-le-mul_right width h in
       let e : suc i * width ≡ i * width + width = suc-mul i width in
-      omega (arith, whole-rows)
+      omega (arith, whole_rows)
 
-  pub length-row : (i : ℕ) → i < rows → length (row i) ≡ width
-  length-row i h = length-take-le width (drop (i * width) args) (let d : length (drop (i * width) args) ≡ length args - i * width = length-drop (i * width) args in omega (arith, inside i h))
+  pub length_row : (i : ℕ) → i < rows → length (row i) ≡ width
+  length_row i h = length-take-le width (drop (i * width) args) (let d : length (drop (i * width) args) ≡ length args - i * width = length-drop (i * width) args in omega (arith, inside i h))
 
-  low-admits : (i : ℕ) → i < rows → lowInts (row i) b (length b) ≡ admitted (paramTypes s f (length b)) (lentOf (row i) b)
-  low-admits i h = admits-low (functionsIn s) (functionAt (edition s) f + 10) b (row i) (length b) (M .numbers) (M .types) refl (length-row i h)
+  low_admits : (i : ℕ) → i < rows → low_ints (row i) b (length b) ≡ admitted (param_types s f (length b)) (lent_of (row i) b)
+  low_admits i h = admits_low (functions_in s) (function_at (edition s) f + 10) b (row i) (length b) M.numbers M.types refl (length_row i h)
 
-  pub admits : (i : ℕ) → i < rows → lowInts (row i) b (length b) ≡ true → Admits s l f start end (row i) b
-  admits i h low = record { body = M .body; admits = sym (low-admits i h) ∙ low }
+  pub admits : (i : ℕ) → i < rows → low_ints (row i) b (length b) ≡ true → Admits s l f start end (row i) b
+  admits i h low = record { body = M.body; admits = sym (low_admits i h) ∙ low }
 
-  module _ (allowance scan : ℕ) (same : otherProfile (madeFor (read s) (bodyOf f)) scan ≡ false) where
+  module _ (allowance scan : ℕ) (same : other_profile (made_for (read s) (body_of f)) scan ≡ false) where
     abbrev run : ℕ → Lent → LentHeap → Ran
-    run = runRow s f scan args allowance
+    run = run_row s f scan args allowance
 
     -- what the rules give of a row
-    runs-as : (i : ℕ) → i < rows → lowInts (row i) b (length b) ≡ true → (cap n : ℕ) (x : Lent) (y : LentHeap) → capacity x ≡ cap → heapCapacity y ≡ n
-        → run i x y ≡ ran (outcomeOf (read s) (bodyOf f) (arguments (lentOf (row i) b)) allowance cap n) x y
-    unfolding runModule runRefusal scanRefusal
-    runs-as i h low cap n x y ex ey =
-        let fit : admitted (paramTypes s f (length b)) (lentOf (row i) b) ≡ true = sym (low-admits i h) ∙ low in
-        rw (row-is i) (rw (readable, M .body .starts, fit, same, ex, ey) refl)
+    runs_as : (i : ℕ) → i < rows → low_ints (row i) b (length b) ≡ true → (cap n : ℕ) (x : Lent) (y : LentHeap) → capacity x ≡ cap → heap_capacity y ≡ n
+        → run i x y ≡ ran (outcome_of (read s) (body_of f) (arguments (lent_of (row i) b)) allowance cap n) x y
+    unfolding run_module run_refusal scan_refusal
+    runs_as i h low cap n x y ex ey =
+        let fit : admitted (param_types s f (length b)) (lent_of (row i) b) ≡ true = sym (low_admits i h) ∙ low in
+        rw (row_is i) (rw (readable, M.body.starts, fit, same, ex, ey) refl)
 
-    rejects : (i : ℕ) → i < rows → lowInts (row i) b (length b) ≡ false → (x : Lent) (y : LentHeap) → run i x y ≡ record { answer = Rejected 13; stack = x; heap = y }
-    unfolding runModule runRefusal scanRefusal
+    rejects : (i : ℕ) → i < rows → low_ints (row i) b (length b) ≡ false → (x : Lent) (y : LentHeap) → run i x y ≡ record { answer = Rejected 13; stack = x; heap = y }
+    unfolding run_module run_refusal scan_refusal
     rejects i h low x y =
-        let misfit : admitted (paramTypes s f (length b)) (lentOf (row i) b) ≡ false = sym (low-admits i h) ∙ low in
-        rw (row-is i) (rw (readable, M .body .starts, misfit) refl)
+        let misfit : admitted (param_types s f (length b)) (lent_of (row i) b) ≡ false = sym (low_admits i h) ∙ low in
+        rw (row_is i) (rw (readable, M.body.starts, misfit) refl)
 
-pub row-next : (i w : ℕ) → (i + 1) * w ≡ i * w + w
-row-next i w = let z : i + 1 ≡ suc i = omega arith in ap (λ (x : ℕ). x * w) z ∙ suc-mul i w
+pub row_next : (i w : ℕ) → (i + 1) * w ≡ i * w + w
+row_next i w = let z : i + 1 ≡ suc i = omega arith in ap (λ (x : ℕ). x * w) z ∙ suc-mul i w
 
 -- ---- the loop: p₀, t₀, c₀ and h₀ were lent
 
 -- i rows are done, of which the next one is admitted; the outputs are `out` now, the slots p and t, and no block stands in the cells c and the table h
 pub record Going (s : List ℕ) (f : ℕ) (b args out₀ : List ℕ) (allowance : ℕ) (p₀ t₀ c₀ h₀ : List ℕ) (i at : ℕ) (out p t c h : List ℕ) : Type 0 where
   pub below : i < length out₀ / 8
-  pub at-is : at ≡ i * (length b * 8)
-  pub low : lowInts (take (length b * 8) (drop (i * (length b * 8)) args)) b (length b) ≡ true
-  pub rest : (scan : ℕ) → otherProfile (madeFor (read s) (bodyOf f)) scan ≡ false
-      → mapRows (runRow s f scan args allowance) (length out₀ / 8) 0 out₀ (lentOf p₀ t₀) (lentHeapOf c₀ h₀)
-      ≡ mapRows (runRow s f scan args allowance) (length out₀ / 8 - i) i out (lentOf p₀ t₀) (lentHeapOf c₀ h₀)
-  pub same-out : length out ≡ length out₀
-  pub same-payloads : length p ≡ length p₀
-  pub same-types : length t ≡ length t₀
-  pub rest-payloads : drop (slotsIn p₀ t₀ * 8) p ≡ drop (slotsIn p₀ t₀ * 8) p₀
-  pub rest-types : drop (slotsIn p₀ t₀) t ≡ drop (slotsIn p₀ t₀) t₀
+  pub at_is : at ≡ i * (length b * 8)
+  pub low : low_ints (take (length b * 8) (drop (i * (length b * 8)) args)) b (length b) ≡ true
+  pub rest : (scan : ℕ) → other_profile (made_for (read s) (body_of f)) scan ≡ false
+      → map_rows (run_row s f scan args allowance) (length out₀ / 8) 0 out₀ (lent_of p₀ t₀) (lent_heap_of c₀ h₀)
+      ≡ map_rows (run_row s f scan args allowance) (length out₀ / 8 - i) i out (lent_of p₀ t₀) (lent_heap_of c₀ h₀)
+  pub same_out : length out ≡ length out₀
+  pub same_payloads : length p ≡ length p₀
+  pub same_types : length t ≡ length t₀
+  pub rest_payloads : drop (slots_in p₀ t₀ * 8) p ≡ drop (slots_in p₀ t₀ * 8) p₀
+  pub rest_types : drop (slots_in p₀ t₀) t ≡ drop (slots_in p₀ t₀) t₀
   pub clear : Emptied c₀ h₀ c h
 
 module _ (s : List ℕ) (readable : refusal s ≡ 0) (l : Sections) (f start end : ℕ) (b args out₀ : List ℕ) (M : Mappable s l f start end b args out₀) (allowance : ℕ) (p₀ t₀ c₀ h₀ : List ℕ) where
   abbrev cap : ℕ
-  cap = slotsIn p₀ t₀
+  cap = slots_in p₀ t₀
 
   abbrev size : ℕ
-  size = cellsIn c₀ h₀
+  size = cells_in c₀ h₀
 
   abbrev At : ℕ → ℕ → List ℕ → List ℕ → List ℕ → List ℕ → List ℕ → Type 0
   At i at out p t c h = Going s f b args out₀ allowance p₀ t₀ c₀ h₀ i at out p t c h
 
-  pub begins : lowInts (take (length b * 8) args) b (length b) ≡ true → Empty size c₀ h₀ → At 0 0 out₀ p₀ t₀ c₀ h₀
+  pub begins : low_ints (take (length b * 8) args) b (length b) ≡ true → Empty size c₀ h₀ → At 0 0 out₀ p₀ t₀ c₀ h₀
   begins low empty =
       record {
-        below = omega (arith, M .whole, M .one);
-        at-is = let z : 0 * (length b * 8) ≡ 0 = omega arith in sym z;
+        below = omega (arith, M.whole, M.one);
+        at_is = let z : 0 * (length b * 8) ≡ 0 = omega arith in sym z;
         low = let z : 0 * (length b * 8) ≡ 0 = omega arith in rw z low;
         rest = λ scan same. let z : length out₀ / 8 - 0 ≡ length out₀ / 8 = omega arith in rw z refl;
-        same-out = refl;
-        same-payloads = refl;
-        same-types = refl;
-        rest-payloads = refl;
-        rest-types = refl;
-        clear = record { empty = empty; past-cells = refl; past-table = refl; same-cells = refl; same-table = refl };
+        same_out = refl;
+        same_payloads = refl;
+        same_types = refl;
+        rest_payloads = refl;
+        rest_types = refl;
+        clear = record { empty = empty; past_cells = refl; past_table = refl; same_cells = refl; same_table = refl };
       }
 
   module _ (i at : ℕ) (out p t c h : List ℕ) (G : At i at out p t c h) where
     -- the slice of the row
-    pub slice-is : take (at + length b * 8 - at) (drop at args) ≡ row s readable l f start end b args out₀ M i
-    slice-is = let z : at + length b * 8 - at ≡ length b * 8 = omega arith in rw (z, G .at-is) refl
+    pub slice_is : take (at + length b * 8 - at) (drop at args) ≡ row s readable l f start end b args out₀ M i
+    slice_is = let z : at + length b * 8 - at ≡ length b * 8 = omega arith in rw (z, G.at_is) refl
 
     -- and of the next one
-    pub next-is : take (at + length b * 8 + length b * 8 - (at + length b * 8)) (drop (at + length b * 8) args) ≡ row s readable l f start end b args out₀ M (i + 1)
-    next-is =
+    pub next_is : take (at + length b * 8 + length b * 8 - (at + length b * 8)) (drop (at + length b * 8) args) ≡ row s readable l f start end b args out₀ M (i + 1)
+    next_is =
         let z : at + length b * 8 + length b * 8 - (at + length b * 8) ≡ length b * 8 = omega arith in
-        let u : at + length b * 8 ≡ (i + 1) * (length b * 8) = ap (λ (x : ℕ). x + length b * 8) (G .at-is) ∙ sym (row-next i (length b * 8)) in
+        let u : at + length b * 8 ≡ (i + 1) * (length b * 8) = ap (λ (x : ℕ). x + length b * 8) G.at_is ∙ sym (row_next i (length b * 8)) in
         rw (z, u) refl
 
     pub stage : length b ≤ cap → Stage cap size b p t c h
-    stage enough = record { slots = rw (G .same-payloads, G .same-types) refl; fit = enough; empty = G .clear .empty }
+    stage enough = record { slots = rw (G.same_payloads, G.same_types) refl; fit = enough; empty = G.clear.empty }
 
     -- its run ended as g says
-    module _ (a : List ℕ) (ea : a ≡ row s readable l f start end b args out₀ M i) (g : RowEnd) (p′ t′ c′ h′ : List ℕ) (R : RowIs s f a b allowance cap size g p t c h p′ t′ c′ h′)
-        (small : Small p′) (lc : length c′ ≡ length c) (lh : length h′ ≡ length h) where
+    module _ (a : List ℕ) (ea : a ≡ row s readable l f start end b args out₀ M i) (g : RowEnd) (p' t' c' h' : List ℕ) (R : RowIs s f a b allowance cap size g p t c h p' t' c' h')
+        (small : Small p') (lc : length c' ≡ length c) (lh : length h' ≡ length h) where
       abbrev height : ℕ
-      height = g .ended .last .height
+      height = g.ended.last.height
 
       abbrev st : List Slot
-      st = slotsOf p′ t′ height
+      st = slots_of p' t' height
 
       abbrev o : Outcome
-      o = outcome (g .ended .number) (allowance - g .ended .rest) (keeping (memoryOf p′ t′ height) (R .heap))
+      o = outcome g.ended.number (allowance - g.ended.rest) (keeping (memory_of p' t' height) R.heap)
 
       abbrev x₀ : Lent
-      x₀ = lentOf p₀ t₀
+      x₀ = lent_of p₀ t₀
 
       abbrev y₀ : LentHeap
-      y₀ = lentHeapOf c₀ h₀
+      y₀ = lent_heap_of c₀ h₀
 
-      lp : length p′ ≡ length p₀
-      lp = R .same-payloads ∙ G .same-payloads
+      lp : length p' ≡ length p₀
+      lp = R.same_payloads ∙ G.same_payloads
 
-      lt : length t′ ≡ length t₀
-      lt = R .same-types ∙ G .same-types
+      lt : length t' ≡ length t₀
+      lt = R.same_types ∙ G.same_types
 
-      dp : drop (cap * 8) p′ ≡ drop (cap * 8) p₀
-      dp = R .rest-payloads ∙ G .rest-payloads
+      dp : drop (cap * 8) p' ≡ drop (cap * 8) p₀
+      dp = R.rest_payloads ∙ G.rest_payloads
 
-      dt : drop cap t′ ≡ drop cap t₀
-      dt = R .rest-types ∙ G .rest-types
+      dt : drop cap t' ≡ drop cap t₀
+      dt = R.rest_types ∙ G.rest_types
 
-      pub same-cap : cap ≡ slotsIn p′ t′
-      same-cap = rw (lp, lt) refl
+      pub same_cap : cap ≡ slots_in p' t'
+      same_cap = rw (lp, lt) refl
 
       -- the cells and the table after it
-      heap-left : lentHeapOf c′ h′ ≡ lentHeapAfter (R .heap) y₀
-      heap-left =
-          let e : lentHeapAfter (R .heap) (lentHeapOf c h) ≡ lentHeapAfter (R .heap) y₀ = ap (λ (r : Ran). r .heap) (heap-of o x₀ c₀ h₀ c h (G .clear)) in
-          let z : cellsIn c h ≡ size = rw (G .clear .same-cells, G .clear .same-table) refl in
-          (λ j. record { cells = (R .cells-are ∙ ap (λ (n : ℕ). cellsAfter n (R .heap .blocks) c) (sym z)) j; table = (R .table-is ∙ ap (λ (n : ℕ). tableAfter n (R .heap .blocks) h) (sym z)) j }) ∙ e
+      heap_left : lent_heap_of c' h' ≡ lent_heap_after R.heap y₀
+      heap_left =
+          let e : lent_heap_after R.heap (lent_heap_of c h) ≡ lent_heap_after R.heap y₀ = ap (λ (r : Ran). r.heap) (heap_of_lem o x₀ c₀ h₀ c h G.clear) in
+          let z : cells_in c h ≡ size = rw (G.clear.same_cells, G.clear.same_table) refl in
+          (λ j. record { cells = (R.cells_are ∙ ap (λ (n : ℕ). cells_after n R.heap.blocks c) (sym z)) j; table = (R.table_is ∙ ap (λ (n : ℕ). table_after n R.heap.blocks h) (sym z)) j }) ∙ e
 
-      past-c : drop (size * 8) c′ ≡ drop (size * 8) c₀
-      past-c = past-cells size (R .heap .blocks) c c′ (R .cells-are) lc (omega (arith, G .clear .same-cells)) ∙ G .clear .past-cells
+      past_c : drop (size * 8) c' ≡ drop (size * 8) c₀
+      past_c = past_cells size R.heap.blocks c c' R.cells_are lc (omega (arith, G.clear.same_cells)) ∙ G.clear.past_cells
 
-      past-h : drop (size * 24) h′ ≡ drop (size * 24) h₀
-      past-h = past-table size (R .heap .blocks) h h′ (R .table-is) lh (omega (arith, G .clear .same-table)) ∙ G .clear .past-table
+      past_h : drop (size * 24) h' ≡ drop (size * 24) h₀
+      past_h = past_table size R.heap.blocks h h' R.table_is lh (omega (arith, G.clear.same_table)) ∙ G.clear.past_table
 
-      same-c : length c′ ≡ length c₀
-      same-c = lc ∙ G .clear .same-cells
+      same_c : length c' ≡ length c₀
+      same_c = lc ∙ G.clear.same_cells
 
-      same-h : length h′ ≡ length h₀
-      same-h = lh ∙ G .clear .same-table
+      same_h : length h' ≡ length h₀
+      same_h = lh ∙ G.clear.same_table
 
-      -- the slots after they are cleared to p″ and t″
-      slots-left : (p″ t″ : List ℕ) → lentOf p″ t″ ≡ lentAfter st (lentOf p′ t′) → lentOf p″ t″ ≡ lentAfter st x₀
-      slots-left p″ t″ e = e ∙ ap (λ (r : Ran). r .stack) (stack-of o p₀ t₀ p′ t′ y₀ cap refl lp lt dp dt)
+      -- the slots after they are cleared to p'' and t''
+      slots_left : (p'' t'' : List ℕ) → lent_of p'' t'' ≡ lent_after st (lent_of p' t') → lent_of p'' t'' ≡ lent_after st x₀
+      slots_left p'' t'' e = e ∙ ap (λ (r : Ran). r.stack) (stack_of o p₀ t₀ p' t' y₀ cap refl lp lt dp dt)
 
       more : length out₀ / 8 - i ≡ suc (length out₀ / 8 - i - 1)
-      more = omega (arith, G .below)
+      more = omega (arith, G.below)
 
-      module _ (scan : ℕ) (same : otherProfile (madeFor (read s) (bodyOf f)) scan ≡ false) where
+      module _ (scan : ℕ) (same : other_profile (made_for (read s) (body_of f)) scan ≡ false) where
         abbrev each : ℕ → Lent → LentHeap → Ran
-        each = runRow s f scan args allowance
+        each = run_row s f scan args allowance
 
-        ran-so : each i x₀ y₀ ≡ ran o x₀ y₀
-        ran-so =
-            runs-as s readable l f start end b args out₀ M allowance scan same i (G .below) (G .low) cap size x₀ y₀ refl refl
-            ∙ ap (λ (u : List ℕ). ran (outcomeOf (read s) (bodyOf f) (arguments (lentOf u b)) allowance cap size) x₀ y₀) (sym ea)
-            ∙ ap (λ (u : Outcome). ran u x₀ y₀) (sym (R .exact))
+        ran_so : each i x₀ y₀ ≡ ran o x₀ y₀
+        ran_so =
+            runs_as s readable l f start end b args out₀ M allowance scan same i G.below G.low cap size x₀ y₀ refl refl
+            ∙ ap (λ (u : List ℕ). ran (outcome_of (read s) (body_of f) (arguments (lent_of u b)) allowance cap size) x₀ y₀) (sym ea)
+            ∙ ap (λ (u : Outcome). ran u x₀ y₀) (sym R.exact)
 
-        from-here : mapRows each (length out₀ / 8) 0 out₀ x₀ y₀ ≡ mapRows each (suc (length out₀ / 8 - i - 1)) i out x₀ y₀
-        from-here = G .rest scan same ∙ ap (λ (k : ℕ). mapRows each k i out x₀ y₀) more
+        from_here : map_rows each (length out₀ / 8) 0 out₀ x₀ y₀ ≡ map_rows each (suc (length out₀ / 8 - i - 1)) i out x₀ y₀
+        from_here = G.rest scan same ∙ ap (λ (k : ℕ). map_rows each k i out x₀ y₀) more
 
         -- with the row's value
-        valued : g .ended .number ≡ 0 → mapRows each (length out₀ / 8) 0 out₀ x₀ y₀ ≡ mapRows each (length out₀ / 8 - i - 1) (suc i) (valueIn out i p′ height) (lentAfter st x₀) (lentHeapAfter (R .heap) y₀)
+        valued : g.ended.number ≡ 0 → map_rows each (length out₀ / 8) 0 out₀ x₀ y₀ ≡ map_rows each (length out₀ / 8 - i - 1) (suc i) (value_in out i p' height) (lent_after st x₀) (lent_heap_after R.heap y₀)
         valued e =
-            from-here ∙ goes each o i x₀ y₀ ran-so (length out₀ / 8 - i - 1) out e
-            ∙ ap (λ (u : List ℕ). mapRows each (length out₀ / 8 - i - 1) (suc i) u (lentAfter st x₀) (lentHeapAfter (R .heap) y₀))
-            (ap (λ (k : ℕ). withValue out i (topSlot (lentAfter st x₀) k)) (length-slots p′ t′ height)
-            ∙ value-is p′ t′ small height cap same-cap (R .high) p₀ t₀ lp lt dp dt out i)
+            from_here ∙ goes each o i x₀ y₀ ran_so (length out₀ / 8 - i - 1) out e
+            ∙ ap (λ (u : List ℕ). map_rows each (length out₀ / 8 - i - 1) (suc i) u (lent_after st x₀) (lent_heap_after R.heap y₀))
+            (ap (λ (k : ℕ). with_value out i (top_slot (lent_after st x₀) k)) (length_slots p' t' height)
+            ∙ value_is p' t' small height cap same_cap R.high p₀ t₀ lp lt dp dt out i)
 
       -- it did not finish
-      pub ends-not : (g .ended .number ≡ 0 → ⊥) → (p″ t″ : List ℕ) → lentOf p″ t″ ≡ lentAfter st (lentOf p′ t′)
-          → RowsAre s f args out₀ allowance p₀ t₀ c₀ h₀ out p″ t″ c′ h′ (answerOf (g .ended .number) i)
-      ends-not n p″ t″ e scan same =
-          (λ j. record { answer = answerOf (g .ended .number) i; output = out; stack = slots-left p″ t″ e j; heap = heap-left j })
-          ∙ sym (stops (each scan same) o i x₀ y₀ (ran-so scan same) (length out₀ / 8 - i - 1) out n) ∙ sym (from-here scan same)
+      pub ends_not : (g.ended.number ≡ 0 → ⊥) → (p'' t'' : List ℕ) → lent_of p'' t'' ≡ lent_after st (lent_of p' t')
+          → RowsAre s f args out₀ allowance p₀ t₀ c₀ h₀ out p'' t'' c' h' (answer_of g.ended.number i)
+      ends_not n p'' t'' e scan same =
+          (λ j. record { answer = answer_of g.ended.number i; output = out; stack = slots_left p'' t'' e j; heap = heap_left j })
+          ∙ sym (stops (each scan same) o i x₀ y₀ (ran_so scan same) (length out₀ / 8 - i - 1) out n) ∙ sym (from_here scan same)
 
-      -- it finished; the outputs are out′ now
-      module _ (done : g .ended .number ≡ 0) (out′ : List ℕ) (eo : out′ ≡ valueIn out i p′ height) where
-        closing : (n k : ℕ) (p″ t″ : List ℕ) → lentOf p″ t″ ≡ lentAfter st (lentOf p′ t′) → left (answerOf n k) out′ p″ t″ c′ h′ ≡ mapped n k out′ (lentAfter st x₀) (lentHeapAfter (R .heap) y₀)
-        closing n k p″ t″ e = λ j. record { answer = answerOf n k; output = out′; stack = slots-left p″ t″ e j; heap = heap-left j }
+      -- it finished; the outputs are out' now
+      module _ (done : g.ended.number ≡ 0) (out' : List ℕ) (eo : out' ≡ value_in out i p' height) where
+        closing : (n k : ℕ) (p'' t'' : List ℕ) → lent_of p'' t'' ≡ lent_after st (lent_of p' t') → left (answer_of n k) out' p'' t'' c' h' ≡ mapped n k out' (lent_after st x₀) (lent_heap_after R.heap y₀)
+        closing n k p'' t'' e = λ j. record { answer = answer_of n k; output = out'; stack = slots_left p'' t'' e j; heap = heap_left j }
 
-        on : (scan : ℕ) (same : otherProfile (madeFor (read s) (bodyOf f)) scan ≡ false)
-            → mapRows (each scan same) (length out₀ / 8) 0 out₀ x₀ y₀ ≡ mapRows (each scan same) (length out₀ / 8 - i - 1) (i + 1) out′ (lentAfter st x₀) (lentHeapAfter (R .heap) y₀)
+        on : (scan : ℕ) (same : other_profile (made_for (read s) (body_of f)) scan ≡ false)
+            → map_rows (each scan same) (length out₀ / 8) 0 out₀ x₀ y₀ ≡ map_rows (each scan same) (length out₀ / 8 - i - 1) (i + 1) out' (lent_after st x₀) (lent_heap_after R.heap y₀)
         on scan same =
             let z : suc i ≡ i + 1 = omega arith in
-            valued scan same done ∙ ap (λ (u : List ℕ). mapRows (each scan same) (length out₀ / 8 - i - 1) (suc i) u (lentAfter st x₀) (lentHeapAfter (R .heap) y₀)) (sym eo)
-            ∙ ap (λ (k : ℕ). mapRows (each scan same) (length out₀ / 8 - i - 1) k out′ (lentAfter st x₀) (lentHeapAfter (R .heap) y₀)) z
+            valued scan same done ∙ ap (λ (u : List ℕ). map_rows (each scan same) (length out₀ / 8 - i - 1) (suc i) u (lent_after st x₀) (lent_heap_after R.heap y₀)) (sym eo)
+            ∙ ap (λ (k : ℕ). map_rows (each scan same) (length out₀ / 8 - i - 1) k out' (lent_after st x₀) (lent_heap_after R.heap y₀)) z
 
         -- it was the last
-        pub ends-last : i + 1 ≡ length out₀ / 8 → (p″ t″ : List ℕ) → lentOf p″ t″ ≡ lentAfter st (lentOf p′ t′) → RowsAre s f args out₀ allowance p₀ t₀ c₀ h₀ out′ p″ t″ c′ h′ (answerOf 0 (i + 1))
-        ends-last last p″ t″ e scan same =
+        pub ends_last : i + 1 ≡ length out₀ / 8 → (p'' t'' : List ℕ) → lent_of p'' t'' ≡ lent_after st (lent_of p' t') → RowsAre s f args out₀ allowance p₀ t₀ c₀ h₀ out' p'' t'' c' h' (answer_of 0 (i + 1))
+        ends_last last p'' t'' e scan same =
             let z : length out₀ / 8 - i - 1 ≡ 0 = omega arith in
-            closing 0 (i + 1) p″ t″ e ∙ sym (no-rows (each scan same) (i + 1) out′ (lentAfter st x₀) (lentHeapAfter (R .heap) y₀))
-            ∙ ap (λ (k : ℕ). mapRows (each scan same) k (i + 1) out′ (lentAfter st x₀) (lentHeapAfter (R .heap) y₀)) (sym z) ∙ sym (on scan same)
+            closing 0 (i + 1) p'' t'' e ∙ sym (no_rows (each scan same) (i + 1) out' (lent_after st x₀) (lent_heap_after R.heap y₀))
+            ∙ ap (λ (k : ℕ). map_rows (each scan same) k (i + 1) out' (lent_after st x₀) (lent_heap_after R.heap y₀)) (sym z) ∙ sym (on scan same)
 
         -- there is one more
         module _ (another : i + 1 < length out₀ / 8) where
-          left-over : length out₀ / 8 - i - 1 ≡ suc (length out₀ / 8 - i - 2)
-          left-over = omega arith
+          left_over : length out₀ / 8 - i - 1 ≡ suc (length out₀ / 8 - i - 2)
+          left_over = omega arith
 
           -- which is refused
-          pub ends-13 : lowInts (row s readable l f start end b args out₀ M (i + 1)) b (length b) ≡ false → (p″ t″ : List ℕ) → lentOf p″ t″ ≡ lentAfter st (lentOf p′ t′)
-              → RowsAre s f args out₀ allowance p₀ t₀ c₀ h₀ out′ p″ t″ c′ h′ (answerOf 13 (i + 1))
-          ends-13 low p″ t″ e scan same =
-              closing 13 (i + 1) p″ t″ e
-              ∙ sym (refused (each scan same) (i + 1) (lentAfter st x₀) (lentHeapAfter (R .heap) y₀) 13 (λ z. absurd (omega arith))
-              (rejects s readable l f start end b args out₀ M allowance scan same (i + 1) another low (lentAfter st x₀) (lentHeapAfter (R .heap) y₀)) (length out₀ / 8 - i - 2) out′)
-              ∙ ap (λ (k : ℕ). mapRows (each scan same) k (i + 1) out′ (lentAfter st x₀) (lentHeapAfter (R .heap) y₀)) (sym left-over) ∙ sym (on scan same)
+          pub ends_13 : low_ints (row s readable l f start end b args out₀ M (i + 1)) b (length b) ≡ false → (p'' t'' : List ℕ) → lent_of p'' t'' ≡ lent_after st (lent_of p' t')
+              → RowsAre s f args out₀ allowance p₀ t₀ c₀ h₀ out' p'' t'' c' h' (answer_of 13 (i + 1))
+          ends_13 low p'' t'' e scan same =
+              closing 13 (i + 1) p'' t'' e
+              ∙ sym (refused (each scan same) (i + 1) (lent_after st x₀) (lent_heap_after R.heap y₀) 13 (λ z. absurd (omega arith))
+              (rejects s readable l f start end b args out₀ M allowance scan same (i + 1) another low (lent_after st x₀) (lent_heap_after R.heap y₀)) (length out₀ / 8 - i - 2) out')
+              ∙ ap (λ (k : ℕ). map_rows (each scan same) k (i + 1) out' (lent_after st x₀) (lent_heap_after R.heap y₀)) (sym left_over) ∙ sym (on scan same)
 
-          -- which is admitted, the heap being cleared to c″ and h″
-          pub goes-on : lowInts (row s readable l f start end b args out₀ M (i + 1)) b (length b) ≡ true → length out′ ≡ length out₀ → (c″ h″ : List ℕ) → Emptied c₀ h₀ c″ h″
-              → At (i + 1) (at + length b * 8) out′ p′ t′ c″ h″
-          goes-on low long c″ h″ clear =
+          -- which is admitted, the heap being cleared to c'' and h''
+          pub goes_on : low_ints (row s readable l f start end b args out₀ M (i + 1)) b (length b) ≡ true → length out' ≡ length out₀ → (c'' h'' : List ℕ) → Emptied c₀ h₀ c'' h''
+              → At (i + 1) (at + length b * 8) out' p' t' c'' h''
+          goes_on low long c'' h'' clear =
               record {
                 below = another;
-                at-is = ap (λ (u : ℕ). u + length b * 8) (G .at-is) ∙ sym (row-next i (length b * 8));
+                at_is = ap (λ (u : ℕ). u + length b * 8) G.at_is ∙ sym (row_next i (length b * 8));
                 low = low;
-                rest = λ scan same. on scan same ∙ ap (λ (k : ℕ). mapRows (each scan same) k (i + 1) out′ (lentAfter st x₀) (lentHeapAfter (R .heap) y₀)) left-over
-                    ∙ alike (each scan same) (i + 1) (length out₀ / 8 - i - 2) out′ x₀ (lentAfter st x₀) y₀ (lentHeapAfter (R .heap) y₀) (same-run scan same)
-                    ∙ ap (λ (k : ℕ). mapRows (each scan same) k (i + 1) out′ x₀ y₀) counted;
-                same-out = long;
-                same-payloads = lp;
-                same-types = lt;
-                rest-payloads = dp;
-                rest-types = dt;
+                rest = λ scan same. on scan same ∙ ap (λ (k : ℕ). map_rows (each scan same) k (i + 1) out' (lent_after st x₀) (lent_heap_after R.heap y₀)) left_over
+                    ∙ alike (each scan same) (i + 1) (length out₀ / 8 - i - 2) out' x₀ (lent_after st x₀) y₀ (lent_heap_after R.heap y₀) (same_run scan same)
+                    ∙ ap (λ (k : ℕ). map_rows (each scan same) k (i + 1) out' x₀ y₀) counted;
+                same_out = long;
+                same_payloads = lp;
+                same_types = lt;
+                rest_payloads = dp;
+                rest_types = dt;
                 clear = clear;
               }
             where
               counted : suc (length out₀ / 8 - i - 2) ≡ length out₀ / 8 - (i + 1)
               counted = omega arith
 
-              same-run : (scan : ℕ) (same : otherProfile (madeFor (read s) (bodyOf f)) scan ≡ false) → each scan same (i + 1) (lentAfter st x₀) (lentHeapAfter (R .heap) y₀) ≡ each scan same (i + 1) x₀ y₀
-              same-run scan same =
-                  let o₂ : Outcome = outcomeOf (read s) (bodyOf f) (arguments (lentOf (row s readable l f start end b args out₀ M (i + 1)) b)) allowance cap size in
-                  let so : (x : Lent) (y : LentHeap) → capacity x ≡ cap → heapCapacity y ≡ size → each scan same (i + 1) x y ≡ ran o₂ x y =
-                  runs-as s readable l f start end b args out₀ M allowance scan same (i + 1) another low cap size in
-                  let z : heapCapacity (lentHeapOf c′ h′) ≡ size = rw (same-c, same-h) refl in
-                  so (lentAfter st x₀) (lentHeapAfter (R .heap) y₀) (capacity-after p′ t′ small height cap same-cap (R .high) p₀ t₀ lp lt dp dt) (ap heapCapacity (sym heap-left) ∙ z)
-                  ∙ again p′ t′ small height cap same-cap (R .high) p₀ t₀ lp lt dp dt o₂ (lentHeapAfter (R .heap) y₀)
-                  ∙ ap (ran o₂ x₀) (sym heap-left) ∙ heap-past o₂ x₀ c₀ h₀ c′ h′ same-c same-h past-c past-h
+              same_run : (scan : ℕ) (same : other_profile (made_for (read s) (body_of f)) scan ≡ false) → each scan same (i + 1) (lent_after st x₀) (lent_heap_after R.heap y₀) ≡ each scan same (i + 1) x₀ y₀
+              same_run scan same =
+                  let o₂ : Outcome = outcome_of (read s) (body_of f) (arguments (lent_of (row s readable l f start end b args out₀ M (i + 1)) b)) allowance cap size in
+                  let so : (x : Lent) (y : LentHeap) → capacity x ≡ cap → heap_capacity y ≡ size → each scan same (i + 1) x y ≡ ran o₂ x y =
+                  runs_as s readable l f start end b args out₀ M allowance scan same (i + 1) another low cap size in
+                  let z : heap_capacity (lent_heap_of c' h') ≡ size = rw (same_c, same_h) refl in
+                  so (lent_after st x₀) (lent_heap_after R.heap y₀) (capacity_after p' t' small height cap same_cap R.high p₀ t₀ lp lt dp dt) (ap heap_capacity (sym heap_left) ∙ z)
+                  ∙ again p' t' small height cap same_cap R.high p₀ t₀ lp lt dp dt o₂ (lent_heap_after R.heap y₀)
+                  ∙ ap (ran o₂ x₀) (sym heap_left) ∙ heap_past o₂ x₀ c₀ h₀ c' h' same_c same_h past_c past_h
                   ∙ sym (so x₀ y₀ refl refl)
 
       -- the heap for the next row: as it was, or cleared
-      pub unused-clear : g .used ≡ false → Emptied c₀ h₀ c′ h′
-      unused-clear e =
-          let q = R .unused e in
+      pub unused_clear : g.used ≡ false → Emptied c₀ h₀ c' h'
+      unused_clear e =
+          let q = R.unused e in
           record {
-            empty = rw (q .0, q .1) (G .clear .empty);
-            past-cells = past-c;
-            past-table = past-h;
-            same-cells = same-c;
-            same-table = same-h;
+            empty = rw (q.0, q.1) G.clear.empty;
+            past_cells = past_c;
+            past_table = past_h;
+            same_cells = same_c;
+            same_table = same_h;
           }
 
-      pub used-clear : (c″ h″ : List ℕ) → Emptied c′ h′ c″ h″ → Emptied c₀ h₀ c″ h″
-      used-clear c″ h″ e =
-          let z : cellsIn c′ h′ ≡ size = rw (same-c, same-h) refl in
+      pub used_clear : (c'' h'' : List ℕ) → Emptied c' h' c'' h'' → Emptied c₀ h₀ c'' h''
+      used_clear c'' h'' e =
+          let z : cells_in c' h' ≡ size = rw (same_c, same_h) refl in
           record {
-            empty = rw z at (e .empty);
-            past-cells = (rw z at (e .past-cells)) ∙ past-c;
-            past-table = (rw z at (e .past-table)) ∙ past-h;
-            same-cells = e .same-cells ∙ same-c;
-            same-table = e .same-table ∙ same-h;
+            empty = rw z at e.empty;
+            past_cells = (rw z at e.past_cells) ∙ past_c;
+            past_table = (rw z at e.past_table) ∙ past_h;
+            same_cells = e.same_cells ∙ same_c;
+            same_table = e.same_table ∙ same_h;
           }
 
 -- ---- before the loop: no row was run, and the heap was cleared
 
 module _ (s : List ℕ) (readable : refusal s ≡ 0) (l : Sections) (f start end : ℕ) (b args out : List ℕ) (M : Mappable s l f start end b args out) (allowance : ℕ) (p t c h : List ℕ) where
-  first-row : 0 < length out / 8
-  first-row = omega (arith, M .whole, M .one)
+  first_row : 0 < length out / 8
+  first_row = omega (arith, M.whole, M.one)
 
-  some-rows : length out / 8 ≡ suc (length out / 8 - 1)
-  some-rows = omega (arith, first-row)
+  some_rows : length out / 8 ≡ suc (length out / 8 - 1)
+  some_rows = omega (arith, first_row)
 
-  pub row-0 : take (length b * 8) args ≡ row s readable l f start end b args out M 0
-  row-0 = let z : 0 * (length b * 8) ≡ 0 = omega arith in rw z refl
+  pub row_0 : take (length b * 8) args ≡ row s readable l f start end b args out M 0
+  row_0 = let z : 0 * (length b * 8) ≡ 0 = omega arith in rw z refl
 
-  pub inside-0 : length b * 8 ≤ length args
-  inside-0 = let z : 0 * (length b * 8) ≡ 0 = omega arith in omega (arith, z, inside s readable l f start end b args out M 0 first-row)
+  pub inside_0 : length b * 8 ≤ length args
+  inside_0 = let z : 0 * (length b * 8) ≡ 0 = omega arith in omega (arith, z, inside s readable l f start end b args out M 0 first_row)
 
   -- the first row is refused
-  pub first-13 : lowInts (take (length b * 8) args) b (length b) ≡ false → RowsAre s f args out allowance p t c h out p t c h (answerOf 13 0)
-  first-13 low scan same =
-      sym (refused (runRow s f scan args allowance) 0 (lentOf p t) (lentHeapOf c h) 13 (λ z. absurd (omega arith))
-      (rejects s readable l f start end b args out M allowance scan same 0 first-row (ap (λ (u : List ℕ). lowInts u b (length b)) (sym row-0) ∙ low) (lentOf p t) (lentHeapOf c h)) (length out / 8 - 1) out)
-      ∙ ap (λ (k : ℕ). mapRows (runRow s f scan args allowance) k 0 out (lentOf p t) (lentHeapOf c h)) (sym some-rows)
+  pub first_13 : low_ints (take (length b * 8) args) b (length b) ≡ false → RowsAre s f args out allowance p t c h out p t c h (answer_of 13 0)
+  first_13 low scan same =
+      sym (refused (run_row s f scan args allowance) 0 (lent_of p t) (lent_heap_of c h) 13 (λ z. absurd (omega arith))
+      (rejects s readable l f start end b args out M allowance scan same 0 first_row (ap (λ (u : List ℕ). low_ints u b (length b)) (sym row_0) ∙ low) (lent_of p t) (lent_heap_of c h)) (length out / 8 - 1) out)
+      ∙ ap (λ (k : ℕ). map_rows (run_row s f scan args allowance) k 0 out (lent_of p t) (lent_heap_of c h)) (sym some_rows)
 
-  module _ (low : lowInts (take (length b * 8) args) b (length b) ≡ true) (c₁ h₁ : List ℕ) (clear : Emptied c h c₁ h₁) where
-    low-0 : lowInts (row s readable l f start end b args out M 0) b (length b) ≡ true
-    low-0 = ap (λ (u : List ℕ). lowInts u b (length b)) (sym row-0) ∙ low
+  module _ (low : low_ints (take (length b * 8) args) b (length b) ≡ true) (c₁ h₁ : List ℕ) (clear : Emptied c h c₁ h₁) where
+    low_0 : low_ints (row s readable l f start end b args out M 0) b (length b) ≡ true
+    low_0 = ap (λ (u : List ℕ). low_ints u b (length b)) (sym row_0) ∙ low
 
-    same-size : cellsIn c₁ h₁ ≡ cellsIn c h
-    same-size = rw (clear .same-cells, clear .same-table) refl
+    same_size : cells_in c₁ h₁ ≡ cells_in c h
+    same_size = rw (clear.same_cells, clear.same_table) refl
 
-    pub still-empty : Empty (cellsIn c₁ h₁) c₁ h₁
-    still-empty = rw same-size (clear .empty)
+    pub still_empty : Empty (cells_in c₁ h₁) c₁ h₁
+    still_empty = rw same_size clear.empty
 
     -- the rest of the call on what was cleared
-    pub on-cleared : (out′ p′ t′ c′ h′ : List ℕ) (r : MapAnswer) → RowsAre s f args out allowance p t c₁ h₁ out′ p′ t′ c′ h′ r → RowsAre s f args out allowance p t c h out′ p′ t′ c′ h′ r
-    on-cleared out′ p′ t′ c′ h′ r is scan same =
-        let each : ℕ → Lent → LentHeap → Ran = runRow s f scan args allowance in
-        let o : Outcome = outcomeOf (read s) (bodyOf f) (arguments (lentOf (row s readable l f start end b args out M 0) b)) allowance (slotsIn p t) (cellsIn c h) in
-        let so : (y : LentHeap) → heapCapacity y ≡ cellsIn c h → each 0 (lentOf p t) y ≡ ran o (lentOf p t) y =
-        λ y e. runs-as s readable l f start end b args out M allowance scan same 0 first-row low-0 (slotsIn p t) (cellsIn c h) (lentOf p t) y refl e in
+    pub on_cleared : (out' p' t' c' h' : List ℕ) (r : MapAnswer) → RowsAre s f args out allowance p t c₁ h₁ out' p' t' c' h' r → RowsAre s f args out allowance p t c h out' p' t' c' h' r
+    on_cleared out' p' t' c' h' r is scan same =
+        let each : ℕ → Lent → LentHeap → Ran = run_row s f scan args allowance in
+        let o : Outcome = outcome_of (read s) (body_of f) (arguments (lent_of (row s readable l f start end b args out M 0) b)) allowance (slots_in p t) (cells_in c h) in
+        let so : (y : LentHeap) → heap_capacity y ≡ cells_in c h → each 0 (lent_of p t) y ≡ ran o (lent_of p t) y =
+        λ y e. runs_as s readable l f start end b args out M allowance scan same 0 first_row low_0 (slots_in p t) (cells_in c h) (lent_of p t) y refl e in
         is scan same
-        ∙ ap (λ (k : ℕ). mapRows each k 0 out (lentOf p t) (lentHeapOf c₁ h₁)) some-rows
-        ∙ alike each 0 (length out / 8 - 1) out (lentOf p t) (lentOf p t) (lentHeapOf c h) (lentHeapOf c₁ h₁)
-        (so (lentHeapOf c₁ h₁) same-size ∙ heap-of o (lentOf p t) c h c₁ h₁ clear ∙ sym (so (lentHeapOf c h) refl))
-        ∙ ap (λ (k : ℕ). mapRows each k 0 out (lentOf p t) (lentHeapOf c h)) (sym some-rows)
+        ∙ ap (λ (k : ℕ). map_rows each k 0 out (lent_of p t) (lent_heap_of c₁ h₁)) some_rows
+        ∙ alike each 0 (length out / 8 - 1) out (lent_of p t) (lent_of p t) (lent_heap_of c h) (lent_heap_of c₁ h₁)
+        (so (lent_heap_of c₁ h₁) same_size ∙ heap_of_lem o (lent_of p t) c h c₁ h₁ clear ∙ sym (so (lent_heap_of c h) refl))
+        ∙ ap (λ (k : ℕ). map_rows each k 0 out (lent_of p t) (lent_heap_of c h)) (sym some_rows)
 
     -- the arguments don't fit
-    pub first-20 : slotsIn p t < length b → Small c₁ → Small h₁ → (p″ t″ : List ℕ) → lentOf p″ t″ ≡ lentAfter (slotsOf p t 0) (lentOf p t)
-        → RowsAre s f args out allowance p t c h out p″ t″ c₁ h₁ (answerOf 20 0)
-    unfolding outcomeOf slotsOf
-    first-20 less sc sh p″ t″ e scan same =
-        let each : ℕ → Lent → LentHeap → Ran = runRow s f scan args allowance in
-        let n : ℕ = cellsIn c h in
-        let o : Outcome = outcome 20 0 (record { stack = []; heap = emptyHeap n }) in
-        let count : length (arguments (lentOf (row s readable l f start end b args out M 0) b)) ≡ length b = length-slots (row s readable l f start end b args out M 0) b (length b) in
-        let is : outcomeOf (read s) (bodyOf f) (arguments (lentOf (row s readable l f start end b args out M 0) b)) allowance (slotsIn p t) n ≡ o =
-        rw (count, lt-leb (length b) (slotsIn p t) less) refl in
-        let so : each 0 (lentOf p t) (lentHeapOf c h) ≡ ran o (lentOf p t) (lentHeapOf c h) =
-        runs-as s readable l f start end b args out M allowance scan same 0 first-row low-0 (slotsIn p t) n (lentOf p t) (lentHeapOf c h) refl refl ∙ ap (λ (u : Outcome). ran u (lentOf p t) (lentHeapOf c h)) is in
-        let blank : lentHeapOf c₁ h₁ ≡ lentHeapAfter (emptyHeap n) (lentHeapOf c₁ h₁) =
-        λ j. record { cells = cells-blank (cellsIn c₁ h₁) c₁ h₁ still-empty sc j; table = table-blank (cellsIn c₁ h₁) c₁ h₁ still-empty sh j } in
-        let gone : lentHeapOf c₁ h₁ ≡ lentHeapAfter (emptyHeap n) (lentHeapOf c h) = blank ∙ ap (λ (r : Ran). r .heap) (heap-of o (lentOf p t) c h c₁ h₁ clear) in
-        (λ j. record { answer = answerOf 20 0; output = out; stack = e j; heap = gone j })
-        ∙ sym (stops each o 0 (lentOf p t) (lentHeapOf c h) so (length out / 8 - 1) out (λ z. absurd (omega arith)))
-        ∙ ap (λ (k : ℕ). mapRows each k 0 out (lentOf p t) (lentHeapOf c h)) (sym some-rows)
+    pub first_20 : slots_in p t < length b → Small c₁ → Small h₁ → (p'' t'' : List ℕ) → lent_of p'' t'' ≡ lent_after (slots_of p t 0) (lent_of p t)
+        → RowsAre s f args out allowance p t c h out p'' t'' c₁ h₁ (answer_of 20 0)
+    unfolding outcome_of slots_of
+    first_20 less sc sh p'' t'' e scan same =
+        let each : ℕ → Lent → LentHeap → Ran = run_row s f scan args allowance in
+        let n : ℕ = cells_in c h in
+        let o : Outcome = outcome 20 0 (record { stack = []; heap = empty_heap n }) in
+        let count : length (arguments (lent_of (row s readable l f start end b args out M 0) b)) ≡ length b = length_slots (row s readable l f start end b args out M 0) b (length b) in
+        let is : outcome_of (read s) (body_of f) (arguments (lent_of (row s readable l f start end b args out M 0) b)) allowance (slots_in p t) n ≡ o =
+        rw (count, lt-leb (length b) (slots_in p t) less) refl in
+        let so : each 0 (lent_of p t) (lent_heap_of c h) ≡ ran o (lent_of p t) (lent_heap_of c h) =
+        runs_as s readable l f start end b args out M allowance scan same 0 first_row low_0 (slots_in p t) n (lent_of p t) (lent_heap_of c h) refl refl ∙ ap (λ (u : Outcome). ran u (lent_of p t) (lent_heap_of c h)) is in
+        let blank : lent_heap_of c₁ h₁ ≡ lent_heap_after (empty_heap n) (lent_heap_of c₁ h₁) =
+        λ j. record { cells = cells_blank (cells_in c₁ h₁) c₁ h₁ still_empty sc j; table = table_blank (cells_in c₁ h₁) c₁ h₁ still_empty sh j } in
+        let gone : lent_heap_of c₁ h₁ ≡ lent_heap_after (empty_heap n) (lent_heap_of c h) = blank ∙ ap (λ (r : Ran). r.heap) (heap_of_lem o (lent_of p t) c h c₁ h₁ clear) in
+        (λ j. record { answer = answer_of 20 0; output = out; stack = e j; heap = gone j })
+        ∙ sym (stops each o 0 (lent_of p t) (lent_heap_of c h) so (length out / 8 - 1) out (λ z. absurd (omega arith)))
+        ∙ ap (λ (k : ℕ). map_rows each k 0 out (lent_of p t) (lent_heap_of c h)) (sym some_rows)

@@ -1,86 +1,85 @@
 -- A call for rows of a module that can be read: its refusals, and the function's rows.
-use Prim.Native.Nat.{ℕ, zero, suc, _+_, _*_, _-_, _/_, _%_, _≤_, _<_}
+use Prim.Native.Nat.{ℕ, zero, suc, ◌+◌, ◌*◌, ◌-◌, ◌/◌, ◌%◌, ◌≤◌, ◌<◌}
 use native.Mathlib.Omega.{arith}
-use mathlib.Core.Path.{_≡_, refl, sym, ap, _∙_}
-use mathlib.Core.Bool.{Bool, true, false, cond, not, _&&_}
-use mathlib.Core.Option.{Option, none, some}
-use mathlib.Core.List.{List, []}
+use mathlib.Core.Path.{◌≡◌, refl, sym, ap, ◌∙◌}
+use mathlib.Core.Bool.{Bool, true, false, cond, not, ◌&&◌}
+use mathlib.Core.Option.{none, some}
+use mathlib.Core.List.{List}
 use lib.Dec.{eqb}
-use lib.ListN.{length, getD, take, drop}
-use lib.Seq.{length-take-le, getD-take}
-use borrow.Author.Tests.{eq-eqb, ne-eqb, eqb-true, eqb-false}
-use Rattle·rules.specs.Instructions.{Ty, tyOf}
-use Rattle·rules.specs.Bytes.{maybe}
-use Rattle·rules.specs.Tables.{bodyOf, functionAt, paramsFrom, resultOf}
-use Rattle·rules.specs.ModuleFile.{edition, functionsIn, read, refusal}
-use Rattle·rules.specs.Typing.{startOf}
-use Rattle·rules.specs.Answers.{madeFor, otherProfile}
-use Rattle·soundness.specs.Tests.{and-both}
-use Rattle·format.specs.declared.Sections.{Sections}
-use Rattle·format.specs.Layout.{Packed, sectionsOf}
-use Rattle·reader.specs.declared.entries.FunctionRecord.{FunctionRecord}
-use Rattle·reader.specs.declared.entries.FoundFunction.the-variants.{Record}
-use Rattle·reader.specs.declared.Opened.the-variants.{Refused}
-use Rattle·reader.specs.Answers.{answer, openedOf, functionFound}
-use Rattle·reader.proofs.Opening.{opened-refused}
-use Rattle·runs.specs.Runs.{lentOf, lentHeapOf}
-use Rattle·runs.proofs.Bodies.{names-function, names-none}
-use Rattle·rules.specs.declared.MapAnswer.{MapAnswer}
-use Rattle·rules.specs.Mapping.{takesNumbers, hasResult, mappable, mapRefusal, mapRows, mapModule}
-use Rattle·rows·specs.specs.Rows.{paramTypes, TypesAre, sized, answerOf, Mappable, RowsAre, MapIs}
+use lib.ListN.{length, get_or, take, drop}
+use lib.Seq.{length-take-le, get_or-take}
+use borrow.Author.Tests.{eq-eqb, ne_eqb, eqb-true}
+use Rattle.rules.specs.Instructions.{Ty, ty_of}
+use Rattle.rules.specs.Bytes.{maybe}
+use Rattle.rules.specs.Tables.{body_of, function_at, params_from}
+use Rattle.rules.specs.ModuleFile.{edition, functions_in, read, refusal}
+use Rattle.rules.specs.Typing.{start_of}
+use Rattle.rules.specs.Answers.{made_for, other_profile}
+use Rattle.soundness.specs.Tests.{and_both}
+use Rattle.format.specs.declared.Sections.{Sections}
+use Rattle.format.specs.Layout.{Packed, sections_of}
+use Rattle.reader.specs.declared.entries.FunctionRecord.{FunctionRecord}
+use Rattle.reader.specs.declared.entries.FoundFunction.TheVariants.{Record}
+use Rattle.reader.specs.declared.Opened.TheVariants.{Refused}
+use Rattle.reader.specs.Answers.{answer, opened_of, function_found}
+use Rattle.reader.proofs.Opening.{opened_refused}
+use Rattle.runs.proofs.Bodies.{names_function}
+use Rattle.rules.specs.declared.MapAnswer.{MapAnswer}
+use Rattle.rules.specs.Mapping.{takes_numbers, has_result, mappable, map_refusal, map_rows, map_module}
+use Rattle.rows.specs.Rows.{param_types, TypesAre, sized, answer_of, Mappable, RowsAre, MapIs}
 
 -- a part from 0 on
-pub part-0 : (n : ℕ) (k : List ℕ) → take (n - 0) (drop 0 k) ≡ take n k
-part-0 n k = let z : n - 0 ≡ n = omega arith in rw z refl
+pub part_0 : (n : ℕ) (k : List ℕ) → take (n - 0) (drop 0 k) ≡ take n k
+part_0 n k = let z : n - 0 ≡ n = omega arith in rw z refl
 
-and-last : (x y z : Bool) → (x && y && z && false) ≡ false
-and-last false y z = refl
-and-last true false z = refl
-and-last true true false = refl
-and-last true true true = refl
+and_last : (x y z : Bool) → (x && y && z && false) ≡ false
+and_last false y z = refl
+and_last true false z = refl
+and_last true true false = refl
+and_last true true true = refl
 
 -- ---- the file s, the function's number f, the arguments a, the outputs o, the lent bytes p and t, c and h
 
 module _ (s : List ℕ) (f scan : ℕ) (a o : List ℕ) (allowance : ℕ) (p t c h : List ℕ) where
   abbrev Refuses : ℕ → Type 0
-  Refuses n = MapIs s f scan a o allowance p t c h o p t c h (answerOf n 0)
+  Refuses n = MapIs s f scan a o allowance p t c h o p t c h (answer_of n 0)
 
-  pub map-unread : (k : ℕ) → Refused k ≡ openedOf s → Refuses k
-  unfolding mapModule mapRefusal
-  map-unread k q = go (refusal s) refl
+  pub map_unread : (k : ℕ) → Refused k ≡ opened_of s → Refuses k
+  unfolding map_module map_refusal
+  map_unread k q = go (refusal s) refl
     where
       go : (r : ℕ) → refusal s ≡ r → Refuses k
       go zero w =
-          absurd (let g : Refused k ≡ answer zero (sectionsOf s) = q ∙ ap (λ (j : ℕ). answer j (sectionsOf s)) w in
-          let z : _≡_ {A = ℕ} 0 1 = cc in omega arith)
-      go (suc r) w = let e : k ≡ suc r = opened-refused s k q ∙ w in rw w (rw e refl)
+          absurd (let g : Refused k ≡ answer zero (sections_of s) = q ∙ ap (λ (j : ℕ). answer j (sections_of s)) w in
+          let z : ◌≡◌ {A = ℕ} 0 1 = cc in omega arith)
+      go (suc r) w = let e : k ≡ suc r = opened_refused s k q ∙ w in rw w (rw e refl)
 
   module _ (readable : refusal s ≡ 0) where
-    pub map-entry : f ≡ 0xffffffff → Refuses 13
-    unfolding mapModule mapRefusal
-    map-entry e = rw readable (rw (eq-eqb f 0xffffffff e) (rw (and-last (eqb (length o % 8) 0) (eqb (length a) (0 * length o)) true) refl))
+    pub map_entry : f ≡ 0xffffffff → Refuses 13
+    unfolding map_module map_refusal
+    map_entry e = rw readable (rw (eq-eqb f 0xffffffff e) (rw (and_last (eqb (length o % 8) 0) (eqb (length a) (0 * length o)) true) refl))
 
-    pub map-12 : startOf (read s) (bodyOf f) ≡ none → Refuses 12
-    unfolding mapModule mapRefusal
-    map-12 e = rw (readable, e) refl
+    pub map_12 : start_of (read s) (body_of f) ≡ none → Refuses 12
+    unfolding map_module map_refusal
+    map_12 e = rw (readable, e) refl
 
     -- ---- a function that is there
 
-    module _ (l : Sections) (packed : Packed s l) (g : FunctionRecord) (other : f ≡ 0xffffffff → ⊥) (there : functionFound s f (Record g) ≡ read s .function f) where
+    module _ (l : Sections) (packed : Packed s l) (g : FunctionRecord) (other : f ≡ 0xffffffff → ⊥) (there : function_found s f (Record g) ≡ (read s).function f) where
       abbrev params : List Ty
-      params = paramTypes s f (g .params)
+      params = param_types s f g.params
 
-      starts : startOf (read s) (bodyOf f) ≡ some (g .start, params)
-      starts = names-function s l packed f other readable g there .starts
+      starts : start_of (read s) (body_of f) ≡ some (g.start, params)
+      starts = (names_function s l packed f other readable g there).starts
 
-      results : hasResult (read s) (bodyOf f) ≡ not (eqb (g .result) 0)
-      results = rw (ne-eqb f 0xffffffff other, ← there) (go (eqb (g .result) 0))
+      results : has_result (read s) (body_of f) ≡ not (eqb g.result 0)
+      results = rw (ne_eqb f 0xffffffff other, ← there) (go (eqb g.result 0))
         where
-          go : (x : Bool) → maybe (cond x none (some (tyOf (g .result)))) false (λ u. true) ≡ not x
+          go : (x : Bool) → maybe (cond x none (some (ty_of g.result))) false (λ u. true) ≡ not x
           go true = refl
           go false = refl
 
-      count : (n : ℕ) → length (paramsFrom (functionsIn s) (functionAt (edition s) f + 10) n) ≡ n
+      count : (n : ℕ) → length (params_from (functions_in s) (function_at (edition s) f + 10) n) ≡ n
       count zero = refl
       count (suc n) = ap suc (count n)
 
@@ -93,46 +92,46 @@ module _ (s : List ℕ) (f scan : ℕ) (a o : List ℕ) (allowance : ℕ) (p t c
       joined false v true x = refl
       joined false v false x = refl
 
-      module _ (x y : Bool) (ex : x ≡ takesNumbers params) (ey : y ≡ sized (g .params) (length a) (length o)) where
-        fits : mappable (read s) (bodyOf f) params a o ≡ ((x && y) && not (eqb (g .result) 0))
-        fits = rw (results, count (g .params)) (joined (eqb (length o % 8) 0) (eqb (length a) (g .params * length o)) (takesNumbers params) (not (eqb (g .result) 0)) ∙ rw (ex, ey) refl)
+      module _ (x y : Bool) (ex : x ≡ takes_numbers params) (ey : y ≡ sized g.params (length a) (length o)) where
+        fits : mappable (read s) (body_of f) params a o ≡ ((x && y) && not (eqb g.result 0))
+        fits = rw (results, count g.params) (joined (eqb (length o % 8) 0) (eqb (length a) (g.params * length o)) (takes_numbers params) (not (eqb g.result 0)) ∙ rw (ex, ey) refl)
 
-        pub map-13 : ((x && y) && not (eqb (g .result) 0)) ≡ false → Refuses 13
-        unfolding mapModule mapRefusal
-        map-13 q = rw (readable, starts) (rw (fits ∙ q) refl)
+        pub map_13 : ((x && y) && not (eqb g.result 0)) ≡ false → Refuses 13
+        unfolding map_module map_refusal
+        map_13 q = rw (readable, starts) (rw (fits ∙ q) refl)
 
-        module _ (q : ((x && y) && not (eqb (g .result) 0)) ≡ true) (z : Bool) (ez : z ≡ otherProfile (madeFor (read s) (bodyOf f)) scan) where
-          pub map-17 : z ≡ true → Refuses 17
-          unfolding mapModule mapRefusal
-          map-17 e = rw (readable, starts) (rw (fits ∙ q, sym ez ∙ e) refl)
+        module _ (q : ((x && y) && not (eqb g.result 0)) ≡ true) (z : Bool) (ez : z ≡ other_profile (made_for (read s) (body_of f)) scan) where
+          pub map_17 : z ≡ true → Refuses 17
+          unfolding map_module map_refusal
+          map_17 e = rw (readable, starts) (rw (fits ∙ q, sym ez ∙ e) refl)
 
           -- for this scan
           module _ (e : z ≡ false) where
-            not-refused : mapRefusal s f scan a o ≡ 0
-            unfolding mapRefusal
-            not-refused = rw (readable, starts) (rw (fits ∙ q, sym ez ∙ e) refl)
+            not_refused : map_refusal s f scan a o ≡ 0
+            unfolding map_refusal
+            not_refused = rw (readable, starts) (rw (fits ∙ q, sym ez ∙ e) refl)
 
-            pub map-none : length o ≡ 0 → Refuses 0
-            unfolding mapModule mapRows
-            map-none w = let v : length o / 8 ≡ 0 = omega arith in rw not-refused (rw v refl)
+            pub map_none : length o ≡ 0 → Refuses 0
+            unfolding map_module map_rows
+            map_none w = let v : length o / 8 ≡ 0 = omega arith in rw not_refused (rw v refl)
 
-            pub map-rows : (o′ p′ t′ c′ h′ : List ℕ) (r : MapAnswer) → RowsAre s f a o allowance p t c h o′ p′ t′ c′ h′ r → MapIs s f scan a o allowance p t c h o′ p′ t′ c′ h′ r
-            unfolding mapModule
-            map-rows o′ p′ t′ c′ h′ r is = rw not-refused (is scan (sym ez ∙ e))
+            pub map_rows_lem : (o' p' t' c' h' : List ℕ) (r : MapAnswer) → RowsAre s f a o allowance p t c h o' p' t' c' h' r → MapIs s f scan a o allowance p t c h o' p' t' c' h' r
+            unfolding map_module
+            map_rows_lem o' p' t' c' h' r is = rw not_refused (is scan (sym ez ∙ e))
 
             -- b are its types, of the bytes k
-            pub mappable-is : 0 < length o → (k b : List ℕ) → length k ≡ 8 → g .params ≤ 8 → (x ≡ true → TypesAre s f (g .params) k) → b ≡ take (g .params) k
-                → Mappable s l f (g .start) (g .end) b a o
-            mappable-is one k b long few types eb =
-                let lb : length b ≡ g .params = ap length eb ∙ length-take-le (g .params) k (omega arith) in
-                let xy : (x && y) ≡ true = and-both (x && y) (not (eqb (g .result) 0)) q .0 in
-                let yes : (x ≡ true) × (y ≡ true) = and-both x y xy in
-                let size : (eqb (length o % 8) 0 ≡ true) × (eqb (length a) (g .params * length o) ≡ true) = and-both (eqb (length o % 8) 0) (eqb (length a) (g .params * length o)) (sym ey ∙ yes .1) in
+            pub mappable_is : 0 < length o → (k b : List ℕ) → length k ≡ 8 → g.params ≤ 8 → (x ≡ true → TypesAre s f g.params k) → b ≡ take g.params k
+                → Mappable s l f g.start g.end b a o
+            mappable_is one k b long few types eb =
+                let lb : length b ≡ g.params = ap length eb ∙ length-take-le g.params k (omega arith) in
+                let xy : (x && y) ≡ true = (and_both (x && y) (not (eqb g.result 0)) q).0 in
+                let yes : (x ≡ true) × (y ≡ true) = and_both x y xy in
+                let size : (eqb (length o % 8) 0 ≡ true) × (eqb (length a) (g.params * length o) ≡ true) = and_both (eqb (length o % 8) 0) (eqb (length a) (g.params * length o)) (sym ey ∙ yes.1) in
                 record {
-                  body = rw lb (names-function s l packed f other readable g there);
-                  numbers = rw lb (sym ex ∙ yes .0);
-                  types = λ i m. ap (λ (u : List ℕ). getD u i 0) eb ∙ getD-take (g .params) k i 0 (omega (arith, lb)) ∙ types (yes .0) i (omega (arith, lb));
-                  whole = eqb-true (length o % 8) 0 (size .0);
-                  same = rw lb (eqb-true (length a) (g .params * length o) (size .1));
+                  body = rw lb (names_function s l packed f other readable g there);
+                  numbers = rw lb (sym ex ∙ yes.0);
+                  types = λ i m. ap (λ (u : List ℕ). get_or u i 0) eb ∙ get_or-take g.params k i 0 (omega (arith, lb)) ∙ types yes.0 i (omega (arith, lb));
+                  whole = eqb-true (length o % 8) 0 size.0;
+                  same = rw lb (eqb-true (length a) (g.params * length o) size.1);
                   one = one;
                 }

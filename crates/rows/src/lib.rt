@@ -1,18 +1,18 @@
 // A function on each row of lent payloads: the module is opened once, the words of frames are cleared once, and the machine runs
 // each row on the same slots. Slots are cleared after the last row only: no run depends on what they held.
-ghost use mathlib.Core.Path.{_≡_};
-ghost use mathlib.Core.Bool.{true};
-ghost use Prim.Native.Nat.{_+_, _*_, _/_, _<_, _≤_};
-ghost use lib.ListN.{length};
-ghost use Rattle·rules.specs.Instructions.{tyOf};
-ghost use Rattle·rules.specs.Mapping.{takesNumbers};
-ghost use Rattle·rules.specs.ModuleFile.{edition, read, refusal};
-ghost use Rattle·format.specs.Layout.{Packed};
-ghost use Rattle·keys.specs.Keys.{Keyed};
-ghost use Rattle·machine.specs.Ends.{Fits};
-ghost use Rattle·rules.specs.Stack.{slotsOf, lentAfter};
-ghost use Rattle·runs.specs.Runs.{lentOf, slotsIn, cellsIn, Empty};
-ghost use Rattle·rows·specs.specs.Rows.{isNumber, paramTypes, TypesAre, lowInts, valueIn, sized, RunsAs, Admits, Stage, RowIs, answerOf, Mappable, FirstLow, RowsAre, MapIs};
+#![tactic(auto)]
+
+ghost use Rattle.std.specs.Prelude.{◌≡◌, true, ◌+◌, ◌*◌, ◌/◌, ◌<◌, ◌≤◌, length};
+ghost use Rattle.rules.specs.Instructions.{ty_of};
+ghost use Rattle.rules.specs.Mapping.{takes_numbers};
+ghost use Rattle.rules.specs.ModuleFile.{edition, read, refusal};
+ghost use Rattle.format.specs.Layout.{Packed};
+ghost use Rattle.keys.specs.Keys.{Keyed};
+ghost use Rattle.machine.specs.Ends.{Fits};
+ghost use Rattle.rules.specs.Stack.{slots_of, lent_after};
+ghost use Rattle.runs.specs.Runs.{lent_of, slots_in, cells_in, Empty};
+ghost use Rattle.rows.specs.Rows.{is_number, param_types, TypesAre, low_ints, value_in, sized, RunsAs, Admits, Stage, RowIs, answer_of, Mappable, FirstLow, RowsAre, MapIs};
+
 use format::Sections;
 use machine::Ended;
 use reader::Opened;
@@ -34,15 +34,15 @@ const STACK_OVERFLOW: u32 = 20;
 
 // Whether this is the type byte of a number.
 fn is_number(b: u8) -> bool
-    ensures { λ r. ⌜ r ≡ isNumber (tyOf b) ⌝ }
+    ensures { result ≡ is_number (ty_of b) }
 {
     (b == 3) | (b == 4) | (b == 6)
 }
 
 // Whether function k takes n numbers, and their type bytes.
 fn types_of(file: &[u8], c: Sections, k: usize, n: usize, kinds: &mut [u8]) -> bool
-    requires { ⌜ Packed (now file) c × (k < c .functions) × (n ≤ 8) × (length (now kinds) ≡ 8) ⌝ }
-    ensures { λ r. ⌜ (r ≡ takesNumbers (paramTypes (now (file .entry)) k n)) × (r ≡ true → TypesAre (now (file .entry)) k n (now (kinds .exit))) ⌝ }
+    requires { Packed file.now c × (k < c.functions) × (n ≤ 8) × (length kinds.old ≡ 8) }
+    ensures { (result ≡ takes_numbers (param_types file.now k n)) × (result ≡ true → TypesAre file.now k n kinds.new) }
 {
     let mut j = n;
     while 0 < j {
@@ -59,8 +59,8 @@ fn types_of(file: &[u8], c: Sections, k: usize, n: usize, kinds: &mut [u8]) -> b
 
 // Whether args are as many bytes as rows of n arguments have beside so many bytes of outputs.
 fn same_rows(n: usize, args: usize, out: usize) -> bool
-    requires { ⌜ n ≤ 8 ⌝ }
-    ensures { λ r. ⌜ r ≡ sized n args out ⌝ }
+    requires { n ≤ 8 }
+    ensures { result ≡ sized n args out }
 {
     if out % 8 != 0 {
         return false;
@@ -73,8 +73,8 @@ fn same_rows(n: usize, args: usize, out: usize) -> bool
 
 // Whether no int argument of a row has upper bits.
 fn admits_row(args: &[u8], kinds: &[u8]) -> bool
-    requires { ⌜ length (now args) ≡ length (now kinds) * 8 ⌝ }
-    ensures { λ r. ⌜ r ≡ lowInts (now (args .entry)) (now (kinds .entry)) (length (now (kinds .entry))) ⌝ }
+    requires { length args.now ≡ length kinds.now * 8 }
+    ensures { result ≡ low_ints args.now kinds.now (length kinds.now) }
 {
     let mut j = kinds.len();
     while 0 < j {
@@ -91,8 +91,8 @@ fn admits_row(args: &[u8], kinds: &[u8]) -> bool
 
 // The payload under the height is the output of row i.
 fn put_value(out: &mut [u8], i: usize, p: &[u8], height: usize)
-    requires { ⌜ (i * 8 + 8 ≤ length (now out)) × (height * 8 ≤ length (now p)) ⌝ }
-    ensures { λ r. ⌜ now (out .exit) ≡ valueIn (now (out .entry)) i (now (p .entry)) height ⌝ }
+    requires { (i * 8 + 8 ≤ length out.old) × (height * 8 ≤ length p.now) }
+    ensures { out.new ≡ value_in out.old i p.now height }
 {
     if 0 < height {
         let v = memory::load64(p, (height - 1) * 8);
@@ -103,6 +103,7 @@ fn put_value(out: &mut [u8], i: usize, p: &[u8], height: usize)
 // ---- a row
 
 // How a row's run ended, and whether it used the heap.
+#[derive(Clone, Copy)]
 struct RowEnd {
     ended: Ended,
     used: bool,
@@ -124,9 +125,9 @@ fn run_row(
     cells: &mut [u8],
     table: &mut [u8],
 ) -> RowEnd
-    requires { ⌜ Packed (now file) c × (refusal (now file) ≡ 0) × Keyed (now file) (now source) from ⌝ }
-    requires { ⌜ Fits (read (now file)) cap first (now p) (now t) (now f) × Empty size (now cells) (now table) × (length (now f) ≡ 1536) ⌝ }
-    ensures { λ g. ⌜ RunsAs (now (file .entry)) cap size first allowance g (now (p .entry)) (now (t .entry)) (now (f .entry)) (now (cells .entry)) (now (table .entry)) (now (p .exit)) (now (t .exit)) (now (cells .exit)) (now (table .exit)) ⌝ }
+    requires packed { Packed file.now c × (refusal file.now ≡ 0) × Keyed file.now source.now from }
+    requires fits { Fits (read file.now) cap first p.old t.old f.old × Empty size cells.old table.old × (length f.old ≡ 1536) }
+    ensures { RunsAs file.now cap size first allowance result p.old t.old f.old cells.old table.old p.new t.new cells.new table.new }
 {
     let e = machine::run_from(file, c, cap, first, allowance, p, t, f, source, from);
     let waits = machine::left(e.number);
@@ -163,27 +164,15 @@ fn row(
     cells: &mut [u8],
     table: &mut [u8],
 ) -> RowEnd
-    requires { ⌜ Packed (now file) c × (refusal (now file) ≡ 0) × Keyed (now file) (now source) from ⌝ }
-    requires { ⌜ Admits (now file) c k start end (now args) (now kinds) × Stage cap size (now kinds) (now p) (now t) (now cells) (now table) × (length (now f) ≡ 1536) ⌝ }
-    ensures { λ g. ⌜ RowIs (now (file .entry)) k (now (args .entry)) (now (kinds .entry)) allowance cap size g (now (p .entry)) (now (t .entry)) (now (cells .entry)) (now (table .entry)) (now (p .exit)) (now (t .exit)) (now (cells .exit)) (now (table .exit)) ⌝ }
+    requires packed { Packed file.now c × (refusal file.now ≡ 0) × Keyed file.now source.now from }
+    requires admits { Admits file.now c k start end args.now kinds.now × Stage cap size kinds.now p.old t.old cells.old table.old × (length f.old ≡ 1536) }
+    ensures { RowIs file.now k args.now kinds.now allowance cap size result p.old t.old cells.old table.old p.new t.new cells.new table.new }
 {
     let n = kinds.len();
     runs::copy_arguments(args, kinds, n, p, t);
     let first = control::calls::first_frame(k, start, end, n, f);
     run_row(
-        file,
-        c,
-        cap,
-        size,
-        first,
-        allowance,
-        p,
-        t,
-        f,
-        source,
-        from,
-        cells,
-        table,
+        file, c, cap, size, first, allowance, p, t, f, source, from, cells, table,
     )
 }
 
@@ -191,7 +180,7 @@ fn row(
 
 // An answer before any row was run.
 fn stopped(number: u32) -> MapAnswer
-    ensures { λ r. ⌜ r ≡ answerOf number 0 ⌝ }
+    ensures { result ≡ answer_of number 0 }
 {
     MapAnswer { number, rows: 0 }
 }
@@ -205,8 +194,8 @@ fn close(
     p: &mut [u8],
     t: &mut [u8],
 ) -> MapAnswer
-    requires { ⌜ (cap ≡ slotsIn (now p) (now t)) × (height ≤ cap) ⌝ }
-    ensures { λ r. ⌜ (r ≡ answerOf number rows) × (lentOf (now (p .exit)) (now (t .exit)) ≡ lentAfter (slotsOf (now (p .entry)) (now (t .entry)) height) (lentOf (now (p .entry)) (now (t .entry)))) ⌝ }
+    requires { (cap ≡ slots_in p.old t.old) × (height ≤ cap) }
+    ensures { (result ≡ answer_of number rows) × (lent_of p.new t.new ≡ lent_after (slots_of p.old t.old height) (lent_of p.old t.old)) }
 {
     runs::close(number, 0, height, cap, p, t);
     MapAnswer {
@@ -233,9 +222,9 @@ fn map_rows(
     cells: &mut [u8],
     table: &mut [u8],
 ) -> MapAnswer
-    requires { ⌜ Packed (now file) c × (refusal (now file) ≡ 0) × Keyed (now file) (now source) from ⌝ }
-    requires { ⌜ Mappable (now file) c k start end (now kinds) (now args) (now out) × FirstLow (now args) (now kinds) × (length (now kinds) ≤ slotsIn (now p) (now t)) × Empty (cellsIn (now cells) (now table)) (now cells) (now table) ⌝ }
-    ensures { λ r. ⌜ RowsAre (now (file .entry)) k (now (args .entry)) (now (out .entry)) allowance (now (p .entry)) (now (t .entry)) (now (cells .entry)) (now (table .entry)) (now (out .exit)) (now (p .exit)) (now (t .exit)) (now (cells .exit)) (now (table .exit)) r ⌝ }
+    requires packed { Packed file.now c × (refusal file.now ≡ 0) × Keyed file.now source.now from }
+    requires mappable { Mappable file.now c k start end kinds.now args.now out.old × FirstLow args.now kinds.now × (length kinds.now ≤ slots_in p.old t.old) × Empty (cells_in cells.old table.old) cells.old table.old }
+    ensures { RowsAre file.now k args.now out.old allowance p.old t.old cells.old table.old out.new p.new t.new cells.new table.new result }
 {
     let n = kinds.len();
     let width = n * 8;
@@ -305,29 +294,15 @@ fn map_old(
     cells: &mut [u8],
     table: &mut [u8],
 ) -> MapAnswer
-    requires { ⌜ Packed (now file) c × (refusal (now file) ≡ 0) × (edition (now file) ≡ 1) ⌝ }
-    requires { ⌜ Mappable (now file) c k start end (now kinds) (now args) (now out) × FirstLow (now args) (now kinds) × (length (now kinds) ≤ slotsIn (now p) (now t)) × Empty (cellsIn (now cells) (now table)) (now cells) (now table) ⌝ }
-    ensures { λ r. ⌜ RowsAre (now (file .entry)) k (now (args .entry)) (now (out .entry)) allowance (now (p .entry)) (now (t .entry)) (now (cells .entry)) (now (table .entry)) (now (out .exit)) (now (p .exit)) (now (t .exit)) (now (cells .exit)) (now (table .exit)) r ⌝ }
+    requires packed { Packed file.now c × (refusal file.now ≡ 0) × (edition file.now ≡ 1) }
+    requires mappable { Mappable file.now c k start end kinds.now args.now out.old × FirstLow args.now kinds.now × (length kinds.now ≤ slots_in p.old t.old) × Empty (cells_in cells.old table.old) cells.old table.old }
+    ensures { RowsAre file.now k args.now out.old allowance p.old t.old cells.old table.old out.new p.new t.new cells.new table.new result }
 {
     let mut own = [0u8; 16384];
     let at = c.code;
     keys::edition1::translate(&file[at..], &mut own);
     map_rows(
-        file,
-        c,
-        k,
-        start,
-        end,
-        kinds,
-        args,
-        out,
-        allowance,
-        p,
-        t,
-        &own,
-        0,
-        cells,
-        table,
+        file, c, k, start, end, kinds, args, out, allowance, p, t, &own, 0, cells, table,
     )
 }
 
@@ -347,8 +322,8 @@ fn start_rows(
     cells: &mut [u8],
     table: &mut [u8],
 ) -> MapAnswer
-    requires { ⌜ Packed (now file) c × (refusal (now file) ≡ 0) × Mappable (now file) c k start end (now kinds) (now args) (now out) ⌝ }
-    ensures { λ r. ⌜ RowsAre (now (file .entry)) k (now (args .entry)) (now (out .entry)) allowance (now (p .entry)) (now (t .entry)) (now (cells .entry)) (now (table .entry)) (now (out .exit)) (now (p .exit)) (now (t .exit)) (now (cells .exit)) (now (table .exit)) r ⌝ }
+    requires { Packed file.now c × (refusal file.now ≡ 0) × Mappable file.now c k start end kinds.now args.now out.old }
+    ensures { RowsAre file.now k args.now out.old allowance p.old t.old cells.old table.old out.new p.new t.new cells.new table.new result }
 {
     let n = kinds.len();
     let width = n * 8;
@@ -364,38 +339,12 @@ fn start_rows(
     let edition = format::word(file, 0);
     if edition == 1 {
         return map_old(
-            file,
-            c,
-            k,
-            start,
-            end,
-            kinds,
-            args,
-            out,
-            allowance,
-            p,
-            t,
-            cells,
-            table,
+            file, c, k, start, end, kinds, args, out, allowance, p, t, cells, table,
         );
     }
     let from = c.code;
     map_rows(
-        file,
-        c,
-        k,
-        start,
-        end,
-        kinds,
-        args,
-        out,
-        allowance,
-        p,
-        t,
-        file,
-        from,
-        cells,
-        table,
+        file, c, k, start, end, kinds, args, out, allowance, p, t, file, from, cells, table,
     )
 }
 
@@ -413,8 +362,8 @@ fn map_opened(
     cells: &mut [u8],
     table: &mut [u8],
 ) -> MapAnswer
-    requires { ⌜ Packed (now file) c × (refusal (now file) ≡ 0) ⌝ }
-    ensures { λ r. ⌜ MapIs (now (file .entry)) function profile (now (args .entry)) (now (out .entry)) allowance (now (p .entry)) (now (t .entry)) (now (cells .entry)) (now (table .entry)) (now (out .exit)) (now (p .exit)) (now (t .exit)) (now (cells .exit)) (now (table .exit)) r ⌝ }
+    requires { Packed file.now c × (refusal file.now ≡ 0) }
+    ensures { MapIs file.now function profile args.now out.old allowance p.old t.old cells.old table.old out.new p.new t.new cells.new table.new result }
 {
     if function == ENTRY {
         return stopped(ARGUMENTS_REFUSED);
@@ -468,7 +417,7 @@ pub fn map(
     heap: &mut [u8],
     blocks: &mut [u8],
 ) -> MapAnswer
-    ensures { λ r. ⌜ MapIs (now (file .entry)) function profile (now («arg_payloads» .entry)) (now (out .entry)) allowance (now (payloads .entry)) (now (types .entry)) (now (heap .entry)) (now (blocks .entry)) (now (out .exit)) (now (payloads .exit)) (now (types .exit)) (now (heap .exit)) (now (blocks .exit)) r ⌝ }
+    ensures { MapIs file.now function profile arg_payloads.now out.old allowance payloads.old types.old heap.old blocks.old out.new payloads.new types.new heap.new blocks.new result }
 {
     let opened = reader::open(file);
     match opened {

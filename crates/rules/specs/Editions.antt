@@ -1,12 +1,10 @@
 -- A table that is not of the paper: 02's A5, edition 1 beside edition 3. (Edition 4 is in `Heaps`.)
-use mathlib.Core.Path.{_≡_, refl}
-use Prim.Native.Nat.{ℕ, _-_, _^_}
-use mathlib.Core.List.{List, [], _∷_, _++_}
-use Rattle·rules·specs.specs.Bytes.{bytes}
-use Rattle·rules·specs.specs.Stack.{Slot, slot, slotsOf}
-use Rattle·rules·specs.specs.Answers.{CheckAnswer, Refused, Untyped, Accepted, RunAnswer, Rejected, Stopped, Finished, Ran}
-use Rattle·rules·specs.specs.Files.{PUSH, POP, LOAD, STORE, function, fileIn, scratch}
-use Rattle·rules·specs.specs.Evaluate.{checkNow, runNow}
+use Rattle.std.specs.Prelude.{◌≡◌, refl, ℕ, ◌-◌, ◌^◌, List, [], ◌∷◌, ◌++◌}
+use Rattle.rules.specs.Bytes.{bytes}
+use Rattle.rules.specs.Stack.{Slot, slot, slots_of}
+use Rattle.rules.specs.Answers.{CheckAnswer, Refused, Untyped, Accepted, RunAnswer, Rejected, Stopped, Finished, Ran}
+use Rattle.rules.specs.Files.{PUSH, POP, LOAD, STORE, function, file_in, scratch}
+use Rattle.rules.specs.Evaluate.{check_now, run_now}
 
 -- ints 0, 1, 5, -1; longs 0, 7, -1; doubles 1.5, 2 ^ 53 and a NaN
 abbrev constants : List (ℕ × ℕ)
@@ -16,7 +14,7 @@ constants =
 
 -- this entry in edition e, where `ret` is r; function 0 gives back the int that it takes; label 0 is the entry's start
 abbrev recipe : ℕ → ℕ → List ℕ → List ℕ
-recipe e r code = fileIn e constants (function (3 ∷ []) 3 (LOAD 0 ++ (r ∷ [])) ∷ []) ((0xffffffff, 0) ∷ []) code
+recipe e r code = file_in e constants (function (3 ∷ []) 3 (LOAD 0 ++ (r ∷ [])) ∷ []) ((0xffffffff, 0) ∷ []) code
 
 -- what a check, and a run of the entry with allowance 10 and 4 slots, show: the check's answer; the run's number, its steps and
 -- the slots left, topmost first
@@ -29,16 +27,16 @@ pub record Shown : Type 0 where
 abbrev shows : CheckAnswer → ℕ → ℕ → List Slot → Shown
 shows a n k vs = record { answer = a; number = n; steps = k; left = vs }
 
-abbrev shownOf : CheckAnswer → RunAnswer → List ℕ → List ℕ → Shown
-shownOf a (Rejected n) p t = shows a n 0 []
-shownOf a (Stopped n k) p t = shows a n (k .steps) (slotsOf p t (k .height))
-shownOf a (Finished k) p t = shows a 0 (k .steps) (slotsOf p t (k .height))
+abbrev shown_of : CheckAnswer → RunAnswer → List ℕ → List ℕ → Shown
+shown_of a (Rejected n) p t = shows a n 0 []
+shown_of a (Stopped n k) p t = shows a n k.steps (slots_of p t k.height)
+shown_of a (Finished k) p t = shows a 0 k.steps (slots_of p t k.height)
 
 unfoldable pub shown : List ℕ → Shown
-unfolding checkNow runNow
+unfolding check_now run_now
 shown s =
-    let x : Ran = runNow s 0xffffffff (record { payloads = []; types = [] }) 10 (scratch 4) in
-    shownOf (checkNow s (scratch 8 .payloads) .answer) (x .answer) (x .stack .payloads) (x .stack .types)
+    let x : Ran = run_now s 0xffffffff (record { payloads = []; types = [] }) 10 (scratch 4) in
+    shown_of (check_now s (scratch 8).payloads).answer x.answer x.stack.payloads x.stack.types
 
 -- ---- one recipe in both editions: an opcode's number in edition 1 and in edition 3, the code before and after it, which has only
 -- opcodes that are the same in both, and what both editions show
@@ -93,11 +91,11 @@ rows =
 pub computed : List Row → List (Shown × Shown)
 unfolding shown
 computed [] = []
-computed (r ∷ rs) = (shown (recipe 1 0x22 (r .before ++ (r .first ∷ r .after))), shown (recipe 3 0x28 (r .before ++ (r .third ∷ r .after)))) ∷ computed rs
+computed (r ∷ rs) = (shown (recipe 1 0x22 (r.before ++ (r.first ∷ r.after))), shown (recipe 3 0x28 (r.before ++ (r.third ∷ r.after)))) ∷ computed rs
 
 pub expected : List Row → List (Shown × Shown)
 expected [] = []
-expected (r ∷ rs) = (r .gives, r .gives) ∷ expected rs
+expected (r ∷ rs) = (r.gives, r.gives) ∷ expected rs
 
 pub table : computed rows ≡ expected rows
 unfolding computed expected rows
@@ -112,8 +110,8 @@ counted i k v = (recipe 1 0x22 (PUSH k ++ (i ∷ [])), shows Accepted 0 2 (v ∷
 abbrev refused : ℕ → List ℕ → List ℕ × Shown
 refused n s = (s, shows (Refused n) n 0 [])
 
-pub old-rows : List (List ℕ × Shown)
-old-rows =
+pub old_rows : List (List ℕ × Shown)
+old_rows =
     -- "`inc` and `dec` change the top value itself": "by 1 wrapping or by 1.0 rounded once"
     counted 0x0e 2 (slot 3 6) ∷ counted 0x0e 3 (slot 3 0) ∷ counted 0x0f 2 (slot 3 4) ∷ counted 0x0f 0 (slot 3 0xffffffff)
     ∷ counted 0x0e 5 (slot 4 8) ∷ counted 0x0e 6 (slot 4 0) ∷ counted 0x0f 5 (slot 4 6) ∷ counted 0x0f 4 (slot 4 (2 ^ 64 - 1))
@@ -124,19 +122,19 @@ old-rows =
     ∷ (recipe 1 0x22 (PUSH 5 ++ (PUSH 5 ++ (0x0e ∷ 0x05 ∷ []))), shows Accepted 0 4 (slot 4 15 ∷ [])) ∷ (recipe 1 0x22 (PUSH 2 ++ (0x0e ∷ 0x21 ∷ bytes 4 0)), shows Accepted 0 5 (slot 3 6 ∷ []))
     ∷ (recipe 1 0x22 (PUSH 5 ++ (0x0e ∷ 0x21 ∷ bytes 4 0)), shows (Untyped 0xffffffff) 22 2 (slot 4 8 ∷ []))
     -- 26 hex is no opcode; a pointer parameter; no edition
-    ∷ refused 8 (recipe 1 0x22 (0x26 ∷ [])) ∷ refused 8 (recipe 1 0x28 []) ∷ refused 7 (fileIn 1 [] (function (131 ∷ []) 0 (0x22 ∷ []) ∷ []) [] [])
+    ∷ refused 8 (recipe 1 0x22 (0x26 ∷ [])) ∷ refused 8 (recipe 1 0x28 []) ∷ refused 7 (file_in 1 [] (function (131 ∷ []) 0 (0x22 ∷ []) ∷ []) [] [])
     ∷ refused 2 (recipe 0 0x22 POP) ∷ refused 2 (recipe 2 0x22 POP) ∷ refused 2 (recipe 5 0x22 POP)
     ∷ []
 
-pub old-computed : List (List ℕ × Shown) → List Shown
+pub old_computed : List (List ℕ × Shown) → List Shown
 unfolding shown
-old-computed [] = []
-old-computed (r ∷ rs) = shown (r .0) ∷ old-computed rs
+old_computed [] = []
+old_computed (r ∷ rs) = shown r.0 ∷ old_computed rs
 
-pub old-expected : List (List ℕ × Shown) → List Shown
-old-expected [] = []
-old-expected (r ∷ rs) = r .1 ∷ old-expected rs
+pub old_expected : List (List ℕ × Shown) → List Shown
+old_expected [] = []
+old_expected (r ∷ rs) = r.1 ∷ old_expected rs
 
-pub old-table : old-computed old-rows ≡ old-expected old-rows
-unfolding old-computed old-expected old-rows
-old-table = refl
+pub old_table : old_computed old_rows ≡ old_expected old_rows
+unfolding old_computed old_expected old_rows
+old_table = refl

@@ -1,18 +1,14 @@
 -- 02, A4: the module of a formula line, the value of its reading, and what compiling answers.
-use Prim.Native.Nat.{ℕ, suc, _+_, _/_, max}
-use mathlib.Core.Bool.{cond}
-use mathlib.Core.Option.{Option, none, some}
-use mathlib.Core.List.{List, [], _∷_, _++_}
-use lib.ListN.{length}
-use lib.Dec.{ltb, eqb}
-use Rattle·rules·specs.specs.Bytes.{maybe}
-use Rattle·rules·specs.specs.Words.{addOf, subOf, mulOf, negOf}
-use Rattle·rules·specs.specs.Numbers.{line-too-long, not-in-grammar, too-deep, too-many-operands}
-use Rattle·rules·specs.specs.Tables.{Tables, tables}
-use Rattle·rules·specs.specs.Writing.{Unwritten, fileOf, Wrote, wrote, delivered}
-use Rattle·rules·specs.specs.Files.{PUSH, LOAD, NEG, ADD, SUB, MUL, DIV, RET, constantBytes, function, functionBytes}
-use Rattle·rules·specs.specs.Grammar.{Sign, plus, dash, star, slash, Tree, number, name, minus, both, group, depth}
-use Rattle·rules·specs.specs.Reading.{reading}
+use Rattle.std.specs.Prelude.{ℕ, suc, ◌+◌, ◌/◌, max, cond, List, [], ◌∷◌, ◌++◌, length, ltb, eqb}
+use Rattle.std.proofs.Math.Option.{Option, none, some}
+use Rattle.rules.specs.Bytes.{maybe}
+use Rattle.rules.specs.Words.{add_of, sub_of, mul_of, neg_of}
+use Rattle.rules.specs.Numbers.{line_too_long, not_in_grammar, too_deep, too_many_operands}
+use Rattle.rules.specs.Tables.{Tables, tables}
+use Rattle.rules.specs.Writing.{Unwritten, file_of, Wrote, wrote, delivered}
+use Rattle.rules.specs.Files.{PUSH, LOAD, NEG, ADD, SUB, MUL, DIV, RET, constant_bytes, function, function_bytes}
+use Rattle.rules.specs.Grammar.{Sign, plus, dash, star, slash, Tree, number, name, minus, both, group, depth}
+use Rattle.rules.specs.Reading.{reading}
 
 -- ---- measures of a reading
 
@@ -52,22 +48,22 @@ postfix k (group t) = postfix k t
 abbrev pub steps : Tree → List Step
 steps t = postfix 0 t ++ (answer ∷ [])
 
-abbrev pub signBytes : Sign → List ℕ
-signBytes plus = ADD
-signBytes dash = SUB
-signBytes star = MUL
-signBytes slash = DIV
+abbrev pub sign_bytes : Sign → List ℕ
+sign_bytes plus = ADD
+sign_bytes dash = SUB
+sign_bytes star = MUL
+sign_bytes slash = DIV
 
-abbrev pub stepBytes : Step → List ℕ
-stepBytes (constant k) = PUSH k
-stepBytes (parameter i) = LOAD i
-stepBytes negate = NEG
-stepBytes (operate o) = signBytes o
-stepBytes answer = RET
+abbrev pub step_bytes : Step → List ℕ
+step_bytes (constant k) = PUSH k
+step_bytes (parameter i) = LOAD i
+step_bytes negate = NEG
+step_bytes (operate o) = sign_bytes o
+step_bytes answer = RET
 
 abbrev pub assembled : List Step → List ℕ
 assembled [] = []
-assembled (i ∷ is) = stepBytes i ++ assembled is
+assembled (i ∷ is) = step_bytes i ++ assembled is
 
 -- ---- the module: "an edition 3 module with one function of three ints returning an int, an empty entry and no labels: one constant
 -- per number in line order"
@@ -76,37 +72,37 @@ abbrev pub ints : List ℕ → List (ℕ × ℕ)
 ints [] = []
 ints (n ∷ ns) = (3, n) ∷ ints ns
 
-abbrev pub codeBytes : Tree → List ℕ
-codeBytes t = assembled (steps t)
+abbrev pub code_bytes : Tree → List ℕ
+code_bytes t = assembled (steps t)
 
-abbrev pub formulaTables : Tree → Tables
-formulaTables t =
-    tables 3 (constantBytes (ints (numbers t))) (functionBytes 0 (function (3 ∷ 3 ∷ 3 ∷ []) 3 (codeBytes t) ∷ [])) [] [] (codeBytes t) 0
+abbrev pub formula_tables : Tree → Tables
+formula_tables t =
+    tables 3 (constant_bytes (ints (numbers t))) (function_bytes 0 (function (3 ∷ 3 ∷ 3 ∷ []) 3 (code_bytes t) ∷ [])) [] [] (code_bytes t) 0
 
 -- ---- "the reading's value in wrapping unsigned ints"; none "where a quotient is by zero"
 
 abbrev pub applied : Sign → ℕ → ℕ → Option ℕ
-applied plus a b = some (addOf 32 a b)
-applied dash a b = some (subOf 32 a b)
-applied star a b = some (mulOf 32 a b)
+applied plus a b = some (add_of 32 a b)
+applied dash a b = some (sub_of 32 a b)
+applied star a b = some (mul_of 32 a b)
 applied slash a b = cond (eqb b 0) none (some (a / b))
 
 -- env gives the parameters
 abbrev pub value : (ℕ → ℕ) → Tree → Option ℕ
 value env (number n) = some n
 value env (name i) = some (env i)
-value env (minus t) = maybe (value env t) none (λ a. some (negOf 32 a))
+value env (minus t) = maybe (value env t) none (λ a. some (neg_of 32 a))
 value env (both o t u) = maybe (value env t) none (λ a. maybe (value env u) none (λ b. applied o a b))
 value env (group t) = value env t
 
 -- ---- the answer, a writer's
 
 abbrev pub compiling : Option Tree → List ℕ → Wrote
-compiling none out = wrote (Unwritten not-in-grammar) out
+compiling none out = wrote (Unwritten not_in_grammar) out
 compiling (some t) out =
-    cond (ltb 16 (depth t)) (wrote (Unwritten too-deep) out)
-    (cond (ltb 32 (need t)) (wrote (Unwritten too-many-operands) out) (delivered (fileOf (formulaTables t)) out))
+    cond (ltb 16 (depth t)) (wrote (Unwritten too_deep) out)
+    (cond (ltb 32 (need t)) (wrote (Unwritten too_many_operands) out) (delivered (file_of (formula_tables t)) out))
 
 -- "Refusals, in this order: 40 too long; 41 ..; 42 ..; 43 ..; then 16."
 unfoldable pub formula : List ℕ → List ℕ → Wrote
-formula line out = cond (ltb 256 (length line)) (wrote (Unwritten line-too-long) out) (compiling (reading line) out)
+formula line out = cond (ltb 256 (length line)) (wrote (Unwritten line_too_long) out) (compiling (reading line) out)

@@ -1,17 +1,15 @@
 -- A table that is not of the paper: formula lines and their trees, what compiling answers, and what its modules give, computed.
-use mathlib.Core.Path.{_≡_, refl}
-use Prim.Native.Nat.{ℕ, zero, suc, _-_, _≤_}
-use native.Mathlib.Omega.{arith}
-use mathlib.Core.Option.{Option, none, some}
-use mathlib.Core.List.{List, [], _∷_, _++_}
-use Rattle·rules·specs.specs.Stack.{Slot, slot}
-use Rattle·rules·specs.specs.Writing.{Unwritten, Written, fileOf}
-use Rattle·rules·specs.specs.Answers.{checkNumber, runNumber, valueOut}
-use Rattle·rules·specs.specs.Files.{PUSH, ADD, RET, function, file, scratch, nines}
-use Rattle·rules·specs.specs.Evaluate.{checkNow, runNow, readingNow, formulaNow}
-use Rattle·rules·specs.specs.Grammar.{plus, dash, star, slash, Tree, number, name, minus, both, group, is-star, is-slash, digit, factor, Spells, a-product, a-factor, product-more, a-number, negative, Line}
-use Rattle·rules·specs.specs.Formula.{formulaTables, value}
-use Rattle·rules·specs.specs.Compiled.{parameters, threeInts}
+use Rattle.std.specs.Prelude.{◌≡◌, refl, ℕ, zero, suc, ◌-◌, ◌≤◌, List, [], ◌∷◌, ◌++◌}
+use Rattle.std.proofs.Common.{arith}
+use Rattle.std.proofs.Math.Option.{Option, none, some}
+use Rattle.rules.specs.Stack.{Slot, slot}
+use Rattle.rules.specs.Writing.{Unwritten, Written, file_of}
+use Rattle.rules.specs.Answers.{check_number, run_number, value_out}
+use Rattle.rules.specs.Files.{PUSH, ADD, RET, function, file, scratch, nines}
+use Rattle.rules.specs.Evaluate.{check_now, run_now, reading_now, formula_now}
+use Rattle.rules.specs.Grammar.{plus, dash, star, slash, Tree, number, name, minus, both, group, is_star, is_slash, digit, factor, Spells, a_product, a_factor, product_more, a_number, negative, Line}
+use Rattle.rules.specs.Formula.{formula_tables, value}
+use Rattle.rules.specs.Compiled.{parameters, three_ints}
 
 pub record Row : Type 0 where
   pub line : List ℕ
@@ -59,13 +57,13 @@ rows =
     ∷ []
 
 pub lines : List Row → List (Option Tree)
-unfolding readingNow
+unfolding reading_now
 lines [] = []
-lines (r ∷ rs) = readingNow (r .line) ∷ lines rs
+lines (r ∷ rs) = reading_now r.line ∷ lines rs
 
 pub trees : List Row → List (Option Tree)
 trees [] = []
-trees (r ∷ rs) = r .tree ∷ trees rs
+trees (r ∷ rs) = r.tree ∷ trees rs
 
 pub table : lines rows ≡ trees rows
 unfolding lines trees rows
@@ -84,17 +82,17 @@ abbrev wide : ℕ → List ℕ
 wide n = times n (114 ∷ 43 ∷ 114 ∷ 42 ∷ 40 ∷ []) ++ (114 ∷ times n (41 ∷ []))
 
 -- line, length of the output, and what is answered
-pub answers : (formulaNow (nest 16) (nines 74) .answer ≡ Written 74) × (formulaNow (nest 16) (nines 73) .answer ≡ Unwritten 16) × (formulaNow (nest 17) [] .answer ≡ Unwritten 42)
-    × (formulaNow (nest 17 ++ (41 ∷ [])) [] .answer ≡ Unwritten 41) × (formulaNow (nest 40 ++ (43 ∷ [])) [] .answer ≡ Unwritten 41)
-    × (formulaNow (wide 15) [] .answer ≡ Unwritten 16) × (formulaNow (wide 16) [] .answer ≡ Unwritten 43) × (formulaNow (wide 17) [] .answer ≡ Unwritten 42)
-    × (formulaNow (times 256 (32 ∷ []) ++ (114 ∷ [])) [] .answer ≡ Unwritten 40) × (formulaNow (times 255 (32 ∷ []) ++ (114 ∷ [])) (nines 74) .answer ≡ Written 74)
+pub answers : ((formula_now (nest 16) (nines 74)).answer ≡ Written 74) × ((formula_now (nest 16) (nines 73)).answer ≡ Unwritten 16) × ((formula_now (nest 17) []).answer ≡ Unwritten 42)
+    × ((formula_now (nest 17 ++ (41 ∷ [])) []).answer ≡ Unwritten 41) × ((formula_now (nest 40 ++ (43 ∷ [])) []).answer ≡ Unwritten 41)
+    × ((formula_now (wide 15) []).answer ≡ Unwritten 16) × ((formula_now (wide 16) []).answer ≡ Unwritten 43) × ((formula_now (wide 17) []).answer ≡ Unwritten 42)
+    × ((formula_now (times 256 (32 ∷ []) ++ (114 ∷ [])) []).answer ≡ Unwritten 40) × ((formula_now (times 255 (32 ∷ []) ++ (114 ∷ [])) (nines 74)).answer ≡ Written 74)
     -- 40 before 41; minuses and brackets side by side are not deep; of r+r+.. one operand waits, and minuses need none
-    × (formulaNow (times 257 (32 ∷ [])) [] .answer ≡ Unwritten 40) × (formulaNow (times 17 (45 ∷ []) ++ (114 ∷ [])) [] .answer ≡ Unwritten 16)
-    × (formulaNow (times 17 (40 ∷ 114 ∷ 41 ∷ 43 ∷ []) ++ (114 ∷ [])) [] .answer ≡ Unwritten 16) × (formulaNow (times 33 (114 ∷ 43 ∷ []) ++ (114 ∷ [])) [] .answer ≡ Unwritten 16)
-    × (formulaNow (times 33 (45 ∷ []) ++ (114 ∷ [])) [] .answer ≡ Unwritten 16)
+    × ((formula_now (times 257 (32 ∷ [])) []).answer ≡ Unwritten 40) × ((formula_now (times 17 (45 ∷ []) ++ (114 ∷ [])) []).answer ≡ Unwritten 16)
+    × ((formula_now (times 17 (40 ∷ 114 ∷ 41 ∷ 43 ∷ []) ++ (114 ∷ [])) []).answer ≡ Unwritten 16) × ((formula_now (times 33 (114 ∷ 43 ∷ []) ++ (114 ∷ [])) []).answer ≡ Unwritten 16)
+    × ((formula_now (times 33 (45 ∷ []) ++ (114 ∷ [])) []).answer ≡ Unwritten 16)
     -- a refusal leaves the output
-    × (formulaNow (times 257 (32 ∷ [])) (nines 3) .output ≡ nines 3) × (formulaNow [] (nines 3) .output ≡ nines 3) × (formulaNow (nest 17) (nines 3) .output ≡ nines 3) × (formulaNow (wide 16) (nines 3) .output ≡ nines 3)
-unfolding formulaNow
+    × ((formula_now (times 257 (32 ∷ [])) (nines 3)).output ≡ nines 3) × ((formula_now [] (nines 3)).output ≡ nines 3) × ((formula_now (nest 17) (nines 3)).output ≡ nines 3) × ((formula_now (wide 16) (nines 3)).output ≡ nines 3)
+unfolding formula_now
 answers = (refl, refl, refl, refl, refl, refl, refl, refl, refl, refl, refl, refl, refl, refl, refl, refl, refl, refl, refl)
 
 -- ---- modules: (r*3+g)/4 on 100, 20, 5; r/(g-20) on the same; -b; 2-3; 6/-2
@@ -111,16 +109,16 @@ below = both dash (number 2) (number 3)
 abbrev unsigned : Tree
 unsigned = both slash (number 6) (minus (number 2))
 
-abbrev moduleOf : Tree → List ℕ
-moduleOf t = fileOf (formulaTables t)
+abbrev module_of : Tree → List ℕ
+module_of t = file_of (formula_tables t)
 
-abbrev valueFound : Tree → Option Slot
-valueFound t = let x = runNow (moduleOf t) 0 (threeInts 100 20 5) 257 (scratch 35) in valueOut (x .answer) (x .stack)
+abbrev value_found : Tree → Option Slot
+value_found t = let x = run_now (module_of t) 0 (three_ints 100 20 5) 257 (scratch 35) in value_out x.answer x.stack
 
-pub values : (checkNumber (checkNow (moduleOf quarter) [] .answer) ≡ 0) × (valueFound quarter ≡ some (slot 3 80))
-    × (runNumber (runNow (moduleOf broken) 0 (threeInts 100 20 5) 257 (scratch 35) .answer) ≡ 24)
-    × (valueFound (minus (name 2)) ≡ some (slot 3 4294967291)) × (valueFound below ≡ some (slot 3 4294967295)) × (valueFound unsigned ≡ some (slot 3 0))
-unfolding checkNow runNow fileOf
+pub values : (check_number (check_now (module_of quarter) []).answer ≡ 0) × (value_found quarter ≡ some (slot 3 80))
+    × (run_number (run_now (module_of broken) 0 (three_ints 100 20 5) 257 (scratch 35)).answer ≡ 24)
+    × (value_found (minus (name 2)) ≡ some (slot 3 4294967291)) × (value_found below ≡ some (slot 3 4294967295)) × (value_found unsigned ≡ some (slot 3 0))
+unfolding check_now run_now file_of
 values = (refl, refl, refl, refl, refl, refl)
 
 -- the values of the readings
@@ -131,18 +129,18 @@ pub readings : (evaluated quarter ≡ some 80) × (evaluated broken ≡ none) ×
 readings = (refl, refl, refl, refl, refl)
 
 -- 7+7 has a constant for each of its numbers, an empty entry and no labels
-pub its-file : moduleOf (both plus (number 7) (number 7)) ≡ file ((3, 7) ∷ (3, 7) ∷ []) (function (3 ∷ 3 ∷ 3 ∷ []) 3 (PUSH 0 ++ (PUSH 1 ++ (ADD ++ RET))) ∷ []) [] []
-unfolding fileOf
-its-file = refl
+pub its_file : module_of (both plus (number 7) (number 7)) ≡ file ((3, 7) ∷ (3, 7) ∷ []) (function (3 ∷ 3 ∷ 3 ∷ []) 3 (PUSH 0 ++ (PUSH 1 ++ (ADD ++ RET))) ∷ []) [] []
+unfolding file_of
+its_file = refl
 
 -- ---- derivations: -2*3, 8/4/2
 
 figure : (c : ℕ) → 48 ≤ c → c ≤ 57 → Spells factor (c ∷ []) (number (c - 48))
-figure c a b = a-number (digit (record { from = a; upto = b })) (omega arith)
+figure c a b = a_number (digit (record { from = a; upto = b })) (omega arith)
 
 pub derivations : Line (45 ∷ 50 ∷ 42 ∷ 51 ∷ []) (both star (minus (number 2)) (number 3))
     × Line (56 ∷ 47 ∷ 52 ∷ 47 ∷ 50 ∷ []) (both slash (both slash (number 8) (number 4)) (number 2))
 derivations = (
-  a-product (product-more (a-factor (negative (figure 50 (omega arith) (omega arith)))) is-star (figure 51 (omega arith) (omega arith))),
-  a-product (product-more (product-more (a-factor (figure 56 (omega arith) (omega arith))) is-slash (figure 52 (omega arith) (omega arith))) is-slash (figure 50 (omega arith) (omega arith))),
+  a_product (product_more (a_factor (negative (figure 50 (omega arith) (omega arith)))) is_star (figure 51 (omega arith) (omega arith))),
+  a_product (product_more (product_more (a_factor (figure 56 (omega arith) (omega arith))) is_slash (figure 52 (omega arith) (omega arith))) is_slash (figure 50 (omega arith) (omega arith))),
 )

@@ -1,8 +1,6 @@
 -- 02, A4: the grammar of a formula line, as derivations over bytes. "State the grammar without the reader": nothing here reads,
 -- a derivation says which bytes spell which tree.
-use Prim.Native.Nat.{ℕ, zero, suc, _+_, _*_, _-_, _≤_, _<_, max}
-use mathlib.Core.List.{List, [], _∷_, _++_}
-use lib.ListN.{length, take}
+use Rattle.std.specs.Prelude.{ℕ, suc, ◌+◌, ◌*◌, ◌-◌, ◌≤◌, ◌<◌, max, List, [], ◌∷◌, ◌++◌, length, take}
 
 -- `+ - * /`
 pub data Sign : Type 0 where
@@ -18,18 +16,18 @@ pub data Tree : Type 0 where
 
 -- "the names r, g, b for parameters 0 to 2"
 pub data Name : ℕ → ℕ → Type 0 where
-  is-r : Name 114 0
-  is-g : Name 103 1
-  is-b : Name 98 2
+  is_r : Name 114 0
+  is_g : Name 103 1
+  is_b : Name 98 2
 
 -- + and - make sums, * and / products
 pub data SumSign : ℕ → Sign → Type 0 where
-  is-plus : SumSign 43 plus
-  is-dash : SumSign 45 dash
+  is_plus : SumSign 43 plus
+  is_dash : SumSign 45 dash
 
 pub data ProductSign : ℕ → Sign → Type 0 where
-  is-star : ProductSign 42 star
-  is-slash : ProductSign 47 slash
+  is_star : ProductSign 42 star
+  is_slash : ProductSign 47 slash
 
 -- 0 to 9
 pub record Digit (c : ℕ) : Type 0 where
@@ -48,21 +46,21 @@ pub data Rank : Type 0 where
 -- the bytes s spell the tree t, as a sum, as a product, or as a factor
 pub data Spells : Rank → List ℕ → Tree → Type 0 where
   -- "equal ranks group from the left": left of a sign may stand a sum again, right of it only a product
-  a-product : {s : List ℕ} {t : Tree} → Spells product s t → Spells sum s t
-  sum-more : {s s′ : List ℕ} {c : ℕ} {o : Sign} {t u : Tree} → Spells sum s t → SumSign c o → Spells product s′ u → Spells sum (s ++ (c ∷ s′)) (both o t u)
+  a_product : {s : List ℕ} {t : Tree} → Spells product s t → Spells sum s t
+  sum_more : {s s' : List ℕ} {c : ℕ} {o : Sign} {t u : Tree} → Spells sum s t → SumSign c o → Spells product s' u → Spells sum (s ++ (c ∷ s')) (both o t u)
   -- "Products bind tighter than sums"
-  a-factor : {s : List ℕ} {t : Tree} → Spells factor s t → Spells product s t
-  product-more : {s s′ : List ℕ} {c : ℕ} {o : Sign} {t u : Tree} → Spells product s t → ProductSign c o → Spells factor s′ u → Spells product (s ++ (c ∷ s′)) (both o t u)
+  a_factor : {s : List ℕ} {t : Tree} → Spells factor s t → Spells product s t
+  product_more : {s s' : List ℕ} {c : ℕ} {o : Sign} {t u : Tree} → Spells product s t → ProductSign c o → Spells factor s' u → Spells product (s ++ (c ∷ s')) (both o t u)
   -- "unsigned decimal ints up to 4294967295"
-  a-number : {s : List ℕ} {n : ℕ} → Numeral s n → n ≤ 4294967295 → Spells factor s (number n)
-  a-name : {c i : ℕ} → Name c i → Spells factor (c ∷ []) (name i)
+  a_number : {s : List ℕ} {n : ℕ} → Numeral s n → n ≤ 4294967295 → Spells factor s (number n)
+  a_name : {c i : ℕ} → Name c i → Spells factor (c ∷ []) (name i)
   -- "unary minus binds tightest and may repeat"
   negative : {s : List ℕ} {t : Tree} → Spells factor s t → Spells factor (45 ∷ s) (minus t)
   -- "A bracketed part holds a whole line's grammar again"
   bracketed : {s : List ℕ} {t : Tree} → Spells sum s t → Spells factor (40 ∷ (s ++ (41 ∷ []))) (group t)
   -- "spaces may stand anywhere but inside a number": before and after every factor is every such place
-  space-before : {s : List ℕ} {t : Tree} → Spells factor s t → Spells factor (32 ∷ s) t
-  space-after : {s : List ℕ} {t : Tree} → Spells factor s t → Spells factor (s ++ (32 ∷ [])) t
+  space_before : {s : List ℕ} {t : Tree} → Spells factor s t → Spells factor (32 ∷ s) t
+  space_after : {s : List ℕ} {t : Tree} → Spells factor s t → Spells factor (s ++ (32 ∷ [])) t
 
 -- a line, "the grammar taken without the depth limit"
 abbrev pub Line : List ℕ → Tree → Type 0

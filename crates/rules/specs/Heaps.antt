@@ -1,19 +1,15 @@
 -- A table that is not of the paper: 02's A6 and A9, runs of edition 4 on a heap of four cells, each new exception, what has a typing, and files.
-use mathlib.Core.Path.{_≡_, refl}
-use Prim.Native.Nat.{ℕ, zero, suc, _+_, _-_, _*_, _^_}
-use mathlib.Core.Bool.{Bool, true, false}
-use mathlib.Core.List.{List, [], _∷_, _++_}
-use lib.ListN.{length, set, take}
-use Rattle·rules·specs.specs.Bytes.{bytes, zeros}
-use Rattle·rules·specs.specs.Instructions.{Instruction, two, cmp, tload, new, delete, flea}
-use Rattle·rules·specs.specs.Tables.{entry}
-use Rattle·rules·specs.specs.ModuleFile.{read}
-use Rattle·rules·specs.specs.Stack.{Slot, slot, Lent}
-use Rattle·rules·specs.specs.Heap.{Block, LentHeap, heapCapacity}
-use Rattle·rules·specs.specs.Machine.{Next, goes, stops, finishes, opened, execIn}
-use Rattle·rules·specs.specs.Answers.{CheckAnswer, Untyped, Accepted, runNumber, Ran, answered}
-use Rattle·rules·specs.specs.Files.{PUSH, POP, LOAD, STORE, LEA, TLOAD, TSTORE, COPY, SWAP, ADD, INC, DEC, CMP, ICMP, TOI, CALL, RET, FLEA, NULL, NEW, DELETE, GCNULL, GCNEW, Fn, function, file, file4, nines, payloadsUp, typesIn, lent, scratch, scratchHeap}
-use Rattle·rules·specs.specs.Evaluate.{refusalNow, checkNow, runHeapNow}
+use Rattle.std.specs.Prelude.{◌≡◌, refl, ℕ, ◌+◌, ◌-◌, ◌*◌, ◌^◌, true, false, List, [], ◌∷◌, ◌++◌, length, set, take}
+use Rattle.rules.specs.Bytes.{bytes, zeros}
+use Rattle.rules.specs.Instructions.{Instruction, two, cmp, tload, new, delete, flea}
+use Rattle.rules.specs.Tables.{entry}
+use Rattle.rules.specs.ModuleFile.{read}
+use Rattle.rules.specs.Stack.{Slot, slot}
+use Rattle.rules.specs.Heap.{Block, LentHeap, heap_capacity}
+use Rattle.rules.specs.Machine.{Next, goes, stops, finishes, opened, exec_in}
+use Rattle.rules.specs.Answers.{CheckAnswer, Untyped, Accepted, run_number, Ran, answered}
+use Rattle.rules.specs.Files.{PUSH, POP, LOAD, STORE, LEA, TLOAD, TSTORE, COPY, SWAP, ADD, INC, DEC, CMP, ICMP, TOI, CALL, RET, FLEA, NULL, NEW, DELETE, GCNULL, GCNEW, Fn, function, file, file4, nines, payloads_up, types_in, lent, scratch, scratch_heap}
+use Rattle.rules.specs.Evaluate.{refusal_now, check_now, run_heap_now}
 
 -- int 5, long 7, double 1.0, long -1
 abbrev constants : List (ℕ × ℕ)
@@ -134,29 +130,29 @@ rows =
     ∷ row (GCNEW 3 ++ TOI) 32 1 ((8, A 1) ∷ []) ((1, 0, 67) ∷ []) empty ∷ row (GCNEW 3 ++ (PUSH 0 ++ ADD)) 32 2 ((8, A 1) ∷ (3, 5) ∷ []) ((1, 0, 67) ∷ []) empty ∷ row (GCNEW 3 ++ (STORE 0 ++ (LEA 0 ++ INC))) 32 3 ((8, A 1) ∷ (7, 0) ∷ []) ((1, 0, 67) ∷ []) empty
     ∷ []
 
-abbrev entryBytes : List (ℕ × ℕ × ℕ) → List ℕ
-entryBytes [] = []
-entryBytes (e ∷ es) = bytes 8 (e .0) ++ (bytes 8 (e .1) ++ (bytes 8 (e .2) ++ entryBytes es))
+abbrev entry_bytes : List (ℕ × ℕ × ℕ) → List ℕ
+entry_bytes [] = []
+entry_bytes (e ∷ es) = bytes 8 e.0 ++ (bytes 8 e.1 ++ (bytes 8 e.2 ++ entry_bytes es))
 
-abbrev wordsUp : List ℕ → List ℕ
-wordsUp [] = []
-wordsUp (x ∷ xs) = bytes 8 x ++ wordsUp xs
+abbrev words_up : List ℕ → List ℕ
+words_up [] = []
+words_up (x ∷ xs) = bytes 8 x ++ words_up xs
 
 pub computed : List Row → List Ran
-unfolding runHeapNow
+unfolding run_heap_now
 computed [] = []
-computed (r ∷ rs) = runHeapNow (recipe (r .code)) 0xffffffff (record { payloads = []; types = [] }) 0 100 (scratch 6) (scratchHeap 4) ∷ computed rs
+computed (r ∷ rs) = run_heap_now (recipe r.code) 0xffffffff (record { payloads = []; types = [] }) 0 100 (scratch 6) (scratch_heap 4) ∷ computed rs
 
 pub expected : List Row → List Ran
 expected [] = []
 expected (r ∷ rs) =
     record {
-      answer = answered (r .outcome) (record { steps = r .steps; height = length (r .left) });
+      answer = answered r.outcome (record { steps = r.steps; height = length r.left });
       stack = record {
-        payloads = payloadsUp (r .left) ++ (zeros (48 - 8 * length (r .left)) ++ (9 ∷ []));
-        types = typesIn (r .left) ++ (zeros (6 - length (r .left)) ++ (9 ∷ []));
+        payloads = payloads_up r.left ++ (zeros (48 - 8 * length r.left) ++ (9 ∷ []));
+        types = types_in r.left ++ (zeros (6 - length r.left) ++ (9 ∷ []));
       };
-      heap = record { cells = wordsUp (r .cells) ++ (9 ∷ []); table = entryBytes (r .blocks) ++ (zeros (96 - 24 * length (r .blocks)) ++ (9 ∷ [])) };
+      heap = record { cells = words_up r.cells ++ (9 ∷ []); table = entry_bytes r.blocks ++ (zeros (96 - 24 * length r.blocks) ++ (9 ∷ [])) };
     }
     ∷ expected rs
 
@@ -186,9 +182,9 @@ untyped =
     ∷ []
 
 pub answers : List (List ℕ) → List CheckAnswer
-unfolding checkNow
+unfolding check_now
 answers [] = []
-answers (c ∷ cs) = checkNow (recipe c) [] .answer ∷ answers cs
+answers (c ∷ cs) = (check_now (recipe c) []).answer ∷ answers cs
 
 pub every : CheckAnswer → List (List ℕ) → List CheckAnswer
 every a [] = []
@@ -207,10 +203,10 @@ comparing = file ((3, 5) ∷ (4, 7) ∷ []) [] [] (PUSH 0 ++ (STORE 0 ++ (PUSH 1
 
 pub typing-table :
     (answers typed ≡ every Accepted typed) × (answers untyped ≡ every (Untyped 0xffffffff) untyped)
-    × (checkNow labelled (nines 64) .room ≡ (1 ∷ 2 ∷ 5 ∷ zeros 13) ++ ((0x80 ∷ 0xc0 ∷ zeros 14) ++ (0x8a ∷ 0x8b ∷ 0x83 ∷ 0xca ∷ 0xc3 ∷ zeros 27)))
-    × (checkNow (returning (NEW 10)) [] .answer ≡ Accepted) × (checkNow (returning (NEW 11)) [] .answer ≡ Untyped 0) × (checkNow (returning NULL) [] .answer ≡ Untyped 0)
-    × (checkNow comparing [] .answer ≡ Untyped 0xffffffff)
-unfolding answers every typed untyped checkNow
+    × ((check_now labelled (nines 64)).room ≡ (1 ∷ 2 ∷ 5 ∷ zeros 13) ++ ((0x80 ∷ 0xc0 ∷ zeros 14) ++ (0x8a ∷ 0x8b ∷ 0x83 ∷ 0xca ∷ 0xc3 ∷ zeros 27)))
+    × ((check_now (returning (NEW 10)) []).answer ≡ Accepted) × ((check_now (returning (NEW 11)) []).answer ≡ Untyped 0) × ((check_now (returning NULL) []).answer ≡ Untyped 0)
+    × ((check_now comparing []).answer ≡ Untyped 0xffffffff)
+unfolding answers every typed untyped check_now
 typing-table = (refl, refl, refl, refl, refl, refl, refl)
 
 -- the ends that edition 4 adds are met: accepted modules that end in 33 and 36
@@ -218,59 +214,59 @@ pub ends : List (List ℕ)
 ends = (NEW 3 ++ (COPY ++ (DELETE ++ TLOAD))) ∷ (NEW 10 ++ (NEW 10 ++ (NEW 10 ++ FLEA 0))) ∷ (CALL 0 ++ (CALL 0 ++ (CALL 0 ++ (FLEA 1 ++ TLOAD)))) ∷ (local ++ (LEA 0 ++ DELETE)) ∷ []
 
 pub numbers : List (List ℕ) → List ℕ
-unfolding runHeapNow
+unfolding run_heap_now
 numbers [] = []
-numbers (c ∷ cs) = runNumber (runHeapNow (recipe c) 0xffffffff (record { payloads = []; types = [] }) 0 100 (scratch 6) (scratchHeap 4) .answer) ∷ numbers cs
+numbers (c ∷ cs) = run_number (run_heap_now (recipe c) 0xffffffff (record { payloads = []; types = [] }) 0 100 (scratch 6) (scratch_heap 4)).answer ∷ numbers cs
 
-pub ends-table : (answers ends ≡ every Accepted ends) × (numbers ends ≡ 33 ∷ 36 ∷ 36 ∷ 33 ∷ [])
+pub ends_table : (answers ends ≡ every Accepted ends) × (numbers ends ≡ 33 ∷ 36 ∷ 36 ∷ 33 ∷ [])
 unfolding answers every numbers ends
-ends-table = (refl, refl)
+ends_table = (refl, refl)
 
 -- structure 25, of eight ints, takes eight cells; 26 is not there
 abbrev eight : List (List ℕ)
 eight = let one : List ℕ = 3 ∷ [] in one ∷ one ∷ one ∷ one ∷ one ∷ one ∷ one ∷ one ∷ one ∷ one ∷ one ∷ one ∷ one ∷ one ∷ one ∷ (3 ∷ 3 ∷ 3 ∷ 3 ∷ 3 ∷ 3 ∷ 3 ∷ 3 ∷ []) ∷ []
 
 abbrev largest : List ℕ → Ran
-largest c = runHeapNow (file4 [] [] [] c eight) 0xffffffff (lent []) 0 9 (scratch 2) (scratchHeap 9)
+largest c = run_heap_now (file4 [] [] [] c eight) 0xffffffff (lent []) 0 9 (scratch 2) (scratch_heap 9)
 
 pub largest-table :
-    (largest (NEW 25 ++ NEW 10) .heap .table ≡ entryBytes ((1, 0, 25) ∷ (2, 8, 10) ∷ []) ++ (zeros 168 ++ (9 ∷ []))) × (runNumber (largest (NEW 26) .answer) ≡ 37)
-unfolding runHeapNow
+    ((largest (NEW 25 ++ NEW 10)).heap.table ≡ entry_bytes ((1, 0, 25) ∷ (2, 8, 10) ∷ []) ++ (zeros 168 ++ (9 ∷ []))) × (run_number (largest (NEW 26)).answer ≡ 37)
+unfolding run_heap_now
 largest-table = (refl, refl)
 
 -- ---- the lent heap: "capacity is the smaller count, at most 4,096, the rest untouched"
 
 -- these cells and this table, all 9, after `new` of a long and of structure 10
 abbrev after : ℕ → ℕ → Ran
-after n k = runHeapNow (recipe (NEW 4 ++ NEW 10)) 0xffffffff (lent []) 0 9 (scratch 6) (record { cells = nines n; table = nines k })
+after n k = run_heap_now (recipe (NEW 4 ++ NEW 10)) 0xffffffff (lent []) 0 9 (scratch 6) (record { cells = nines n; table = nines k })
 
 abbrev holding : List ℕ → List ℕ → LentHeap
 holding cs ts = record { cells = cs; table = ts }
 
 pub lent-table :
     -- no cell; 2 cells of 23 bytes and more entries; 3 entries of 80 bytes and more cells
-    (after 7 999 .heap ≡ holding (nines 7) (nines 999)) × (after 999 23 .heap ≡ holding (nines 999) (nines 23))
-    × (after 23 99 .heap ≡ holding (zeros 16 ++ nines 7) (bytes 8 1 ++ (bytes 8 0 ++ (bytes 8 4 ++ (zeros 24 ++ nines 51)))))
-    × (after 41 80 .heap ≡ holding (zeros 24 ++ nines 17) (bytes 8 1 ++ (bytes 8 0 ++ (bytes 8 4 ++ (bytes 8 2 ++ (bytes 8 1 ++ (bytes 8 10 ++ (zeros 24 ++ nines 8))))))))
+    ((after 7 999).heap ≡ holding (nines 7) (nines 999)) × ((after 999 23).heap ≡ holding (nines 999) (nines 23))
+    × ((after 23 99).heap ≡ holding (zeros 16 ++ nines 7) (bytes 8 1 ++ (bytes 8 0 ++ (bytes 8 4 ++ (zeros 24 ++ nines 51)))))
+    × ((after 41 80).heap ≡ holding (zeros 24 ++ nines 17) (bytes 8 1 ++ (bytes 8 0 ++ (bytes 8 4 ++ (bytes 8 2 ++ (bytes 8 1 ++ (bytes 8 10 ++ (zeros 24 ++ nines 8))))))))
     -- other editions clear it too; a refused run changes nothing; one whose arguments don't fit clears it
-    × (runHeapNow (file [] [] [] []) 0xffffffff (lent []) 0 0 (scratch 1) (scratchHeap 2) .heap ≡ holding (zeros 16 ++ nines 1) (zeros 48 ++ nines 1))
-    × (runHeapNow (recipe []) 9 (lent []) 0 9 (scratch 1) (scratchHeap 1) .heap ≡ scratchHeap 1)
-    × (runHeapNow (recipe []) 2 (lent ((7, 0) ∷ [])) 0 9 (scratch 1) (scratchHeap 1) .heap ≡ scratchHeap 1)
-    × (runHeapNow (file4 [] (function (3 ∷ []) 0 RET ∷ []) [] [] []) 0 (lent ((3, 1) ∷ [])) 0 9 (scratch 0) (scratchHeap 1) .heap ≡ holding (zeros 8 ++ nines 1) (zeros 24 ++ nines 1))
-unfolding runHeapNow
+    × ((run_heap_now (file [] [] [] []) 0xffffffff (lent []) 0 0 (scratch 1) (scratch_heap 2)).heap ≡ holding (zeros 16 ++ nines 1) (zeros 48 ++ nines 1))
+    × ((run_heap_now (recipe []) 9 (lent []) 0 9 (scratch 1) (scratch_heap 1)).heap ≡ scratch_heap 1)
+    × ((run_heap_now (recipe []) 2 (lent ((7, 0) ∷ [])) 0 9 (scratch 1) (scratch_heap 1)).heap ≡ scratch_heap 1)
+    × ((run_heap_now (file4 [] (function (3 ∷ []) 0 RET ∷ []) [] [] []) 0 (lent ((3, 1) ∷ [])) 0 9 (scratch 0) (scratch_heap 1)).heap ≡ holding (zeros 8 ++ nines 1) (zeros 24 ++ nines 1))
+unfolding run_heap_now
 lent-table = (refl, refl, refl, refl, refl, refl, refl, refl)
 
 pub capacity-table :
-    (heapCapacity (record { cells = nines 32776; table = nines 98328 }) ≡ 4096) × (heapCapacity (record { cells = nines 32767; table = nines 98328 }) ≡ 4095) × (heapCapacity (record { cells = nines 32776; table = nines 98303 }) ≡ 4095)
+    (heap_capacity (record { cells = nines 32776; table = nines 98328 }) ≡ 4096) × (heap_capacity (record { cells = nines 32767; table = nines 98328 }) ≡ 4095) × (heap_capacity (record { cells = nines 32776; table = nines 98303 }) ≡ 4095)
 capacity-table = (refl, refl, refl)
 
 -- ---- states that no file comes to in a few steps
 
 -- an instruction in the entry, on this stack, with these blocks and this next serial, of 4 cells
 pub on : Instruction → List Slot → List Block → ℕ → Next
-unfolding runHeapNow
+unfolding run_heap_now
 on i st bs n =
-    execIn (read (recipe [])) 9 i (record { memory = record { stack = st; heap = record { size = 4; blocks = bs; next = n } }; top = opened entry 0 99 0 0; callers = [] })
+    exec_in (read (recipe [])) 9 i (record { memory = record { stack = st; heap = record { size = 4; blocks = bs; next = n } }; top = opened entry 0 99 0 0; callers = [] })
 
 -- an int of serial 2, from cell 3 on
 abbrev int2 : List Block
@@ -284,35 +280,35 @@ abbrev ints : ℕ → ℕ → List Block
 ints a b = record { serial = 2; from = b; type = 3; managed = false; cells = 8 ∷ [] } ∷ record { serial = 1; from = a; type = 3; managed = false; cells = 7 ∷ [] } ∷ []
 
 -- what is left on the stack, and the next serial
-abbrev shownIn : Next → List Slot × ℕ
-shownIn (goes s) = (s .memory .stack, s .memory .heap .next)
-shownIn (stops e) = ([], e)
-shownIn (finishes M) = ([], 0)
+abbrev shown_in : Next → List Slot × ℕ
+shown_in (goes s) = (s.memory.stack, s.memory.heap.next)
+shown_in (stops e) = ([], e)
+shown_in (finishes M) = ([], 0)
 
 -- the blocks that are left
-abbrev blocksIn : Next → List Block
-blocksIn (goes s) = s .memory .heap .blocks
-blocksIn (stops e) = []
-blocksIn (finishes M) = []
+abbrev blocks_in : Next → List Block
+blocks_in (goes s) = s.memory.heap.blocks
+blocks_in (stops e) = []
+blocks_in (finishes M) = []
 
 pub states-table :
     -- "serials (to 2^48 - 2)"
-    (shownIn (on (new false 3) [] [] (2 ^ 48 - 2)) ≡ (slot 7 (A (2 ^ 48 - 2)) ∷ [], 2 ^ 48 - 1)) × (shownIn (on (new false 3) [] [] (2 ^ 48 - 1)) ≡ (slot 7 N ∷ [], 2 ^ 48 - 1))
+    (shown_in (on (new false 3) [] [] (2 ^ 48 - 2)) ≡ (slot 7 (A (2 ^ 48 - 2)) ∷ [], 2 ^ 48 - 1)) × (shown_in (on (new false 3) [] [] (2 ^ 48 - 1)) ≡ (slot 7 N ∷ [], 2 ^ 48 - 1))
     -- a number's block has no field; offset 0 is the number
-    × (shownIn (on tload (slot 7 (F 2 0) ∷ []) int2 3) ≡ ([], 33)) × (shownIn (on tload (slot 7 (A 2) ∷ []) int2 3) ≡ (slot 3 8 ∷ [], 3)) × (shownIn (on tload (slot 7 (A 1) ∷ []) int2 3) ≡ ([], 33))
-    × (shownIn (on delete (slot 7 (F 2 0) ∷ []) int2 3) ≡ ([], 33))
+    × (shown_in (on tload (slot 7 (F 2 0) ∷ []) int2 3) ≡ ([], 33)) × (shown_in (on tload (slot 7 (A 2) ∷ []) int2 3) ≡ (slot 3 8 ∷ [], 3)) × (shown_in (on tload (slot 7 (A 1) ∷ []) int2 3) ≡ ([], 33))
+    × (shown_in (on delete (slot 7 (F 2 0) ∷ []) int2 3) ≡ ([], 33))
     -- "an address not below the height left .. is 33", of `flea` too: 0 is the pointer's own slot
-    × (shownIn (on (flea 0) (slot 7 0 ∷ []) [] 1) ≡ ([], 33)) × (shownIn (on (flea 0) (slot 7 1 ∷ slot 3 5 ∷ []) [] 1) ≡ ([], 33)) × (shownIn (on (flea 0) (slot 7 0 ∷ slot 3 5 ∷ []) [] 1) ≡ ([], 39))
-    × (shownIn (on tload (slot 7 65535 ∷ []) [] 1) ≡ ([], 33)) × (shownIn (on tload (slot 7 N ∷ []) [] 1) ≡ ([], 36))
+    × (shown_in (on (flea 0) (slot 7 0 ∷ []) [] 1) ≡ ([], 33)) × (shown_in (on (flea 0) (slot 7 1 ∷ slot 3 5 ∷ []) [] 1) ≡ ([], 33)) × (shown_in (on (flea 0) (slot 7 0 ∷ slot 3 5 ∷ []) [] 1) ≡ ([], 39))
+    × (shown_in (on tload (slot 7 65535 ∷ []) [] 1) ≡ ([], 33)) × (shown_in (on tload (slot 7 N ∷ []) [] 1) ≡ ([], 36))
     -- by the whole payload: serial 1 is below serial 65536
-    × (shownIn (on (two (cmp false)) (slot 7 (A 65536) ∷ slot 7 (A 1) ∷ []) [] 1) ≡ (slot 3 0xffffffff ∷ [], 1)) × (shownIn (on (two (cmp true)) (slot 7 (A 65536) ∷ slot 7 (A 1) ∷ []) [] 1) ≡ (slot 3 0xffffffff ∷ [], 1))
+    × (shown_in (on (two (cmp false)) (slot 7 (A 65536) ∷ slot 7 (A 1) ∷ []) [] 1) ≡ (slot 3 0xffffffff ∷ [], 1)) × (shown_in (on (two (cmp true)) (slot 7 (A 65536) ∷ slot 7 (A 1) ∷ []) [] 1) ≡ (slot 3 0xffffffff ∷ [], 1))
     -- where serials have run out `gcnew` frees and packs all the same, then gives null; a slot of type 7 holds no block
-    × (shownIn (on (new true 3) [] managed2 (2 ^ 48 - 1)) ≡ (slot 8 N ∷ [], 2 ^ 48 - 1)) × (blocksIn (on (new true 3) [] managed2 (2 ^ 48 - 1)) ≡ [])
-    × (blocksIn (on (new true 3) (slot 8 (A 2) ∷ []) managed2 (2 ^ 48 - 1)) ≡ managed2) × (blocksIn (on (new true 3) (slot 7 (A 2) ∷ []) managed2 (2 ^ 48 - 1)) ≡ [])
-    × (blocksIn (on (new true 10) [] (ints 1 3) (2 ^ 48 - 1)) ≡ ints 0 1)
+    × (shown_in (on (new true 3) [] managed2 (2 ^ 48 - 1)) ≡ (slot 8 N ∷ [], 2 ^ 48 - 1)) × (blocks_in (on (new true 3) [] managed2 (2 ^ 48 - 1)) ≡ [])
+    × (blocks_in (on (new true 3) (slot 8 (A 2) ∷ []) managed2 (2 ^ 48 - 1)) ≡ managed2) × (blocks_in (on (new true 3) (slot 7 (A 2) ∷ []) managed2 (2 ^ 48 - 1)) ≡ [])
+    × (blocks_in (on (new true 10) [] (ints 1 3) (2 ^ 48 - 1)) ≡ ints 0 1)
     -- a payload means the same in both types; `delete` of what `new` did not give is 33
-    × (shownIn (on tload (slot 8 (A 2) ∷ []) int2 3) ≡ (slot 3 8 ∷ [], 3)) × (shownIn (on tload (slot 7 (A 2) ∷ []) managed2 3) ≡ (slot 3 8 ∷ [], 3)) × (shownIn (on tload (slot 8 0 ∷ slot 3 5 ∷ []) [] 1) ≡ (slot 3 5 ∷ slot 3 5 ∷ [], 1))
-    × (shownIn (on delete (slot 7 (A 2) ∷ []) managed2 3) ≡ ([], 33)) × (shownIn (on delete (slot 8 (A 2) ∷ []) managed2 3) ≡ ([], 31))
+    × (shown_in (on tload (slot 8 (A 2) ∷ []) int2 3) ≡ (slot 3 8 ∷ [], 3)) × (shown_in (on tload (slot 7 (A 2) ∷ []) managed2 3) ≡ (slot 3 8 ∷ [], 3)) × (shown_in (on tload (slot 8 0 ∷ slot 3 5 ∷ []) [] 1) ≡ (slot 3 5 ∷ slot 3 5 ∷ [], 1))
+    × (shown_in (on delete (slot 7 (A 2) ∷ []) managed2 3) ≡ ([], 33)) × (shown_in (on delete (slot 8 (A 2) ∷ []) managed2 3) ≡ ([], 31))
 unfolding on
 states-table = (refl, refl, refl, refl, refl, refl, refl, refl, refl, refl, refl, refl, refl, refl, refl, refl, refl, refl, refl, refl, refl, refl, refl)
 
@@ -328,8 +324,8 @@ abbrev sixteen : List (List ℕ)
 sixteen = let pair : List (List ℕ) = (3 ∷ 6 ∷ []) ∷ (4 ∷ []) ∷ [] in pair ++ (pair ++ (pair ++ (pair ++ (pair ++ (pair ++ (pair ++ pair))))))
 
 -- where the structures are: the header, 4 constants, 5 functions, 5 bytes of the entry, 6 + 1 + 6 + 6 + 6 of the functions
-abbrev at-structures : ℕ
-at-structures = 56 + 48 + 120 + 5 + 25
+abbrev at_structures : ℕ
+at_structures = 56 + 48 + 120 + 5 + 25
 
 pub files : List (List ℕ × ℕ)
 files =
@@ -339,10 +335,10 @@ files =
     -- a label of function 1
     ∷ (file4 [] (function [] 0 (POP ++ RET) ∷ function [] 0 (POP ++ RET) ∷ []) ((1, 3) ∷ []) [] [], 0) ∷ (file4 [] (function [] 0 (POP ++ RET) ∷ function [] 0 (POP ++ RET) ∷ []) ((1, 1) ∷ []) [] [], 9)
     -- 6: field count, types, unused, the zeros
-    ∷ (set whole at-structures 0, 6) ∷ (set whole at-structures 9, 6) ∷ (set whole at-structures 1, 6) ∷ (set whole at-structures 3, 6) ∷ (set whole (at-structures + 1) 7, 6) ∷ (set whole (at-structures + 1) 4, 0)
-    ∷ (set whole (at-structures + 9) 1, 6) ∷ (set whole (at-structures + 11) 1, 6)
+    ∷ (set whole at_structures 0, 6) ∷ (set whole at_structures 9, 6) ∷ (set whole at_structures 1, 6) ∷ (set whole at_structures 3, 6) ∷ (set whole (at_structures + 1) 7, 6) ∷ (set whole (at_structures + 1) 4, 0)
+    ∷ (set whole (at_structures + 9) 1, 6) ∷ (set whole (at_structures + 11) 1, 6)
     -- the second record; 6 before 7
-    ∷ (set whole (at-structures + 12) 0, 6) ∷ (set whole (at-structures + 13) 5, 6) ∷ (set (set whole (at-structures + 10) 1) 113 141, 6) ∷ (set whole (at-structures + 8) 3, 6) ∷ (file4 [] [] [] [] ((3 ∷ 4 ∷ 6 ∷ 3 ∷ 4 ∷ 6 ∷ 3 ∷ 4 ∷ []) ∷ []), 0)
+    ∷ (set whole (at_structures + 12) 0, 6) ∷ (set whole (at_structures + 13) 5, 6) ∷ (set (set whole (at_structures + 10) 1) 113 141, 6) ∷ (set whole (at_structures + 8) 3, 6) ∷ (file4 [] [] [] [] ((3 ∷ 4 ∷ 6 ∷ 3 ∷ 4 ∷ 6 ∷ 3 ∷ 4 ∷ []) ∷ []), 0)
     -- 7: return types and parameters; structure 13 is not declared
     ∷ (set whole 113 139, 0) ∷ (set whole 113 141, 7) ∷ (set whole 113 137, 7) ∷ (set whole 113 131, 7) ∷ (set whole 113 128, 7) ∷ (set whole 113 6, 0)
     ∷ (set whole 138 139, 0) ∷ (set whole 138 141, 7) ∷ (set whole 138 137, 7) ∷ (set whole 138 128, 7) ∷ (set whole 138 134, 0)
@@ -356,14 +352,14 @@ files =
     ∷ []
 
 pub refusals : List (List ℕ × ℕ) → List ℕ
-unfolding refusalNow
+unfolding refusal_now
 refusals [] = []
-refusals (r ∷ rs) = refusalNow (r .0) ∷ refusals rs
+refusals (r ∷ rs) = refusal_now r.0 ∷ refusals rs
 
 pub given : List (List ℕ × ℕ) → List ℕ
 given [] = []
-given (r ∷ rs) = r .1 ∷ given rs
+given (r ∷ rs) = r.1 ∷ given rs
 
-pub refusals-table : refusals files ≡ given files
+pub refusals_table : refusals files ≡ given files
 unfolding refusals given files
-refusals-table = refl
+refusals_table = refl

@@ -15,6 +15,9 @@ pub mod Typing
 pub mod Check
 pub mod Answers
 pub mod Recording
+pub mod Need
+pub mod Heights
+pub mod Reporting
 pub mod Host
 pub mod Program
 pub mod Demand3
@@ -25,6 +28,7 @@ pub mod Converting
 pub mod Converted
 pub mod Mapping
 pub mod Rechecked
+pub mod Suffices
 pub mod Files
 pub mod Grammar
 pub mod Reading
@@ -41,6 +45,7 @@ pub mod Writings
 pub mod Profiles
 pub mod Maps
 pub mod Recordings
+pub mod Reports
 pub mod Formulas
 pub mod Typings
 pub mod Values

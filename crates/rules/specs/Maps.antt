@@ -1,14 +1,10 @@
 -- A table that is not of the paper: calls for rows, with the outputs and all lent memory after.
-use mathlib.Core.Path.{_≡_, refl}
-use Prim.Native.Nat.{ℕ, _+_, _-_, _*_, _^_}
-use mathlib.Core.List.{List, [], _∷_, _++_}
-use lib.ListN.{length, set}
-use Rattle·rules·specs.specs.Bytes.{bytes, zeros}
-use Rattle·rules·specs.specs.Stack.{Lent}
-use Rattle·rules·specs.specs.Heap.{LentHeap}
-use Rattle·rules·specs.specs.Mapping.{Mapped, mapped}
-use Rattle·rules·specs.specs.Files.{PUSH, POP, LOAD, TLOAD, DIV, RET, NEW, Fn, function, functionFor, file, file4, nines, leaving, scratch, scratchHeap}
-use Rattle·rules·specs.specs.Evaluate.{mapNow}
+use Rattle.std.specs.Prelude.{◌≡◌, refl, ℕ, ◌+◌, ◌-◌, ◌*◌, ◌^◌, List, [], ◌∷◌, ◌++◌, length, set}
+use Rattle.rules.specs.Bytes.{bytes, zeros}
+use Rattle.rules.specs.Heap.{LentHeap}
+use Rattle.rules.specs.Mapping.{Mapped, mapped}
+use Rattle.rules.specs.Files.{PUSH, LOAD, TLOAD, DIV, RET, NEW, function, function_for, file, file4, nines, leaving, scratch, scratch_heap}
+use Rattle.rules.specs.Evaluate.{map_now}
 
 -- 0 (int, int) to int, their quotient; 1 (int) none; 2 (pointer to int) to int; 3 () to int, 5; 4 (long, int) to long, the first, made for
 -- profile 7; 5 (int) to a pointer to a structure, a new one;
@@ -17,7 +13,7 @@ abbrev recipes : List ℕ
 recipes =
     file4 ((3, 5) ∷ [])
     (function (3 ∷ 3 ∷ []) 3 (LOAD 0 ++ (LOAD 1 ++ (DIV ++ RET))) ∷ function (3 ∷ []) 0 RET ∷ function (131 ∷ []) 3 (LOAD 0 ++ (TLOAD ++ RET)) ∷ function [] 3 (PUSH 0 ++ RET)
-    ∷ functionFor 7 (4 ∷ 3 ∷ []) 4 (LOAD 0 ++ RET) ∷ function (3 ∷ []) 138 (NEW 10 ++ RET) ∷ function (131 ∷ 3 ∷ []) 3 (LOAD 1 ++ RET) ∷ [])
+    ∷ function_for 7 (4 ∷ 3 ∷ []) 4 (LOAD 0 ++ RET) ∷ function (3 ∷ []) 138 (NEW 10 ++ RET) ∷ function (131 ∷ 3 ∷ []) 3 (LOAD 1 ++ RET) ∷ [])
     [] [] ((3 ∷ []) ∷ [])
 
 abbrev plain : List ℕ
@@ -34,7 +30,7 @@ blank n = record { cells = zeros (8 * n) ++ (9 ∷ []); table = zeros (24 * n) +
 
 -- the function, the scan's profile, the arguments, the bytes of outputs lent, the allowance, slots and cells lent; what comes of it
 pub record Row : Type 0 where
-  pub function-number : ℕ
+  pub function_number : ℕ
   pub scan : ℕ
   pub arguments : List ℕ
   pub outputs : ℕ
@@ -43,11 +39,11 @@ pub record Row : Type 0 where
   pub cells : ℕ
   pub gives : Mapped
 
-abbrev rowFor : ℕ → ℕ → List ℕ → ℕ → ℕ → ℕ → ℕ → Mapped → Row
-rowFor scan f a o n c k r = record { function-number = f; scan = scan; arguments = longs a; outputs = o; allowance = n; slots = c; cells = k; gives = r }
+abbrev row_for : ℕ → ℕ → List ℕ → ℕ → ℕ → ℕ → ℕ → Mapped → Row
+row_for scan f a o n c k r = record { function_number = f; scan = scan; arguments = longs a; outputs = o; allowance = n; slots = c; cells = k; gives = r }
 
 abbrev row : ℕ → List ℕ → ℕ → ℕ → ℕ → ℕ → Mapped → Row
-row = rowFor 0
+row = row_for 0
 
 -- these rows were done before the answer; o bytes of outputs, c slots and k cells were lent, and the last run left these slots
 abbrev ended : ℕ → List ℕ → ℕ → ℕ → List (ℕ × ℕ) → ℕ → Mapped
@@ -55,7 +51,7 @@ ended n vs o c st k = mapped n (length vs) (longs vs ++ nines (o - 8 * length vs
 
 -- nothing was changed
 abbrev untouched : ℕ → ℕ → ℕ → ℕ → Mapped
-untouched n o c k = mapped n 0 (nines o) (scratch c) (scratchHeap k)
+untouched n o c k = mapped n 0 (nines o) (scratch c) (scratch_heap k)
 
 pub rows : List Row
 rows =
@@ -82,18 +78,18 @@ rows =
     -- each row starts without blocks
     ∷ row 5 (1 ∷ 2 ∷ []) 16 9 2 1 (mapped 0 2 (longs (65536 ∷ 65536 ∷ [])) (leaving 2 ((7, 65536) ∷ [])) (record { cells = zeros 8 ++ (9 ∷ []); table = longs (1 ∷ 0 ∷ 10 ∷ []) ++ (9 ∷ []) }))
     -- 17, after 13 and before upper bits; a long may have them
-    ∷ rowFor 7 4 (2 ^ 40 ∷ 1 ∷ 3 ∷ 2 ∷ []) 16 9 3 1 (ended 0 (2 ^ 40 ∷ 3 ∷ []) 16 3 ((4, 3) ∷ []) 1)
+    ∷ row_for 7 4 (2 ^ 40 ∷ 1 ∷ 3 ∷ 2 ∷ []) 16 9 3 1 (ended 0 (2 ^ 40 ∷ 3 ∷ []) 16 3 ((4, 3) ∷ []) 1)
     ∷ row 4 (2 ^ 40 ∷ 1 ∷ []) 8 9 3 1 (untouched 17 8 3 1) ∷ row 4 (1 ∷ 2 ^ 32 ∷ []) 8 9 1 1 (untouched 17 8 1 1) ∷ row 4 (1 ∷ []) 8 9 3 1 (untouched 13 8 3 1) ∷ row 4 [] 0 9 3 1 (untouched 17 0 3 1)
     ∷ []
 
 pub computed : List Row → List Mapped
-unfolding mapNow
+unfolding map_now
 computed [] = []
-computed (r ∷ rs) = mapNow recipes (r .function-number) (r .scan) (r .arguments) (nines (r .outputs)) (r .allowance) (scratch (r .slots)) (scratchHeap (r .cells)) ∷ computed rs
+computed (r ∷ rs) = map_now recipes r.function_number r.scan r.arguments (nines r.outputs) r.allowance (scratch r.slots) (scratch_heap r.cells) ∷ computed rs
 
 pub expected : List Row → List Mapped
 expected [] = []
-expected (r ∷ rs) = r .gives ∷ expected rs
+expected (r ∷ rs) = r.gives ∷ expected rs
 
 pub table : computed rows ≡ expected rows
 unfolding computed expected rows
@@ -101,7 +97,7 @@ table = refl
 
 -- what can't be read is refused first; edition 3
 pub refused-table :
-    (mapNow [] 9 0 [] (nines 9) 9 (scratch 1) (scratchHeap 1) ≡ untouched 1 9 1 1) × (mapNow (set plain 4 0) 9 0 [] (nines 9) 9 (scratch 1) (scratchHeap 1) ≡ untouched 3 9 1 1)
-    × (mapNow plain 0 7 (longs (5 ∷ 6 ∷ [])) (nines 16) 9 (scratch 2) (scratchHeap 1) ≡ ended 0 (5 ∷ 6 ∷ []) 16 2 ((3, 6) ∷ []) 1) × (mapNow plain 1 7 [] (nines 8) 9 (scratch 2) (scratchHeap 1) ≡ untouched 13 8 2 1)
-unfolding mapNow
+    (map_now [] 9 0 [] (nines 9) 9 (scratch 1) (scratch_heap 1) ≡ untouched 1 9 1 1) × (map_now (set plain 4 0) 9 0 [] (nines 9) 9 (scratch 1) (scratch_heap 1) ≡ untouched 3 9 1 1)
+    × (map_now plain 0 7 (longs (5 ∷ 6 ∷ [])) (nines 16) 9 (scratch 2) (scratch_heap 1) ≡ ended 0 (5 ∷ 6 ∷ []) 16 2 ((3, 6) ∷ []) 1) × (map_now plain 1 7 [] (nines 8) 9 (scratch 2) (scratch_heap 1) ≡ untouched 13 8 2 1)
+unfolding map_now
 refused-table = (refl, refl, refl, refl)

@@ -1,14 +1,11 @@
 -- A table that is not of the paper: checks that write a record, and checks of one body beside one, with all lent memory after.
-use mathlib.Core.Path.{_≡_, refl}
-use Prim.Native.Nat.{ℕ}
-use mathlib.Core.List.{List, [], _∷_, _++_}
-use lib.ListN.{set, take}
-use Rattle·rules·specs.specs.Bytes.{zeros}
-use Rattle·rules·specs.specs.Answers.{CheckAnswer, Refused, Untyped, Accepted}
-use Rattle·rules·specs.specs.Recording.{RecordingAnswer, Unrecorded, RecordedUntyped, Recorded, Recording, recording, Rechecked, rechecked}
-use Rattle·rules·specs.specs.Files.{PUSH, POP, ADD, RET, function, functionFor, fileIn, file, file4, nines}
-use Rattle·rules·specs.specs.Samples.{w1}
-use Rattle·rules·specs.specs.Evaluate.{recordingNow, recheckNow}
+use Rattle.std.specs.Prelude.{◌≡◌, refl, ℕ, List, [], ◌∷◌, ◌++◌, set, take}
+use Rattle.rules.specs.Bytes.{zeros}
+use Rattle.rules.specs.Answers.{CheckAnswer, Refused, Untyped, Accepted}
+use Rattle.rules.specs.Recording.{Unrecorded, RecordedUntyped, Recorded, Recording, recording, Rechecked, rechecked}
+use Rattle.rules.specs.Files.{PUSH, POP, ADD, RET, function, function_for, file_in, file, file4, nines}
+use Rattle.rules.specs.Samples.{w1}
+use Rattle.rules.specs.Evaluate.{recording_now, recheck_now}
 
 -- a module of three bodies: the entry with this code and a label at its start, functions 0 () to int and 1 () with this code
 abbrev three : List ℕ → List ℕ → List ℕ → List ℕ
@@ -30,8 +27,8 @@ without0 = three (PUSH 0 ++ POP) short RET
 abbrev without01 : List ℕ
 without01 = three (PUSH 0 ++ POP) short short
 
-abbrev withoutEntry : List ℕ
-withoutEntry = three ADD five RET
+abbrev without_entry : List ℕ
+without_entry = three ADD five RET
 
 -- a record of three bodies with these bytes
 abbrev flags : ℕ → ℕ → ℕ → List ℕ
@@ -45,13 +42,13 @@ reached = 1 ∷ zeros 63
 
 -- a module, the bytes of room and of record lent; what comes of it
 pub record Row : Type 0 where
-  pub module-file : List ℕ
+  pub module_file : List ℕ
   pub room : ℕ
   pub beside : ℕ
   pub gives : Recording
 
 abbrev row : List ℕ → ℕ → ℕ → Recording → Row
-row s n k g = record { module-file = s; room = n; beside = k; gives = g }
+row s n k g = record { module_file = s; room = n; beside = k; gives = g }
 
 -- nothing was changed
 abbrev unchanged : List ℕ → ℕ → ℕ → ℕ → Row
@@ -64,25 +61,25 @@ rows =
     ∷ row good 65 13 (recording (Recorded 11) (reached ++ nines 1) (flags 1 1 1 ++ nines 2))
     -- 11: the record is whole, bodies after the first without typing are judged too
     ∷ row without0 64 11 (recording (RecordedUntyped 0) (zeros 64) (flags 1 0 1)) ∷ row without01 65 12 (recording (RecordedUntyped 0) (zeros 64 ++ nines 1) (flags 1 0 0 ++ nines 1))
-    ∷ row withoutEntry 64 11 (recording (RecordedUntyped 0xffffffff) (zeros 64) (flags 0 1 1)) ∷ row (three (PUSH 0 ++ POP) five short) 64 11 (recording (RecordedUntyped 1) (zeros 64) (flags 1 1 0))
+    ∷ row without_entry 64 11 (recording (RecordedUntyped 0xffffffff) (zeros 64) (flags 0 1 1)) ∷ row (three (PUSH 0 ++ POP) five short) 64 11 (recording (RecordedUntyped 1) (zeros 64) (flags 1 1 0))
     -- 16, before 0 and before 11
-    ∷ unchanged good 64 10 16 ∷ unchanged good 64 0 16 ∷ unchanged without0 64 10 16 ∷ unchanged withoutEntry 64 8 16
+    ∷ unchanged good 64 10 16 ∷ unchanged good 64 0 16 ∷ unchanged without0 64 10 16 ∷ unchanged without_entry 64 8 16
     -- 10, before 16 and before 11
     ∷ unchanged good 63 11 10 ∷ unchanged good 63 10 10 ∷ unchanged without0 63 11 10 ∷ unchanged without0 0 0 10
     -- no function; editions 1 and 4
     ∷ row (file [] [] [] []) 0 9 (recording (Recorded 9) [] (1 ∷ 0 ∷ 0 ∷ 0 ∷ 8 ∷ 0 ∷ 0 ∷ 0 ∷ 1 ∷ [])) ∷ unchanged (file [] [] [] []) 0 8 16
-    ∷ row (fileIn 1 [] [] [] POP) 0 9 (recording (RecordedUntyped 0xffffffff) [] (1 ∷ 0 ∷ 0 ∷ 0 ∷ 8 ∷ 0 ∷ 0 ∷ 0 ∷ 0 ∷ []))
-    ∷ row (file4 [] (functionFor 7 [] 0 RET ∷ []) [] [] []) 1 10 (recording (Recorded 10) (nines 1) (2 ∷ 0 ∷ 0 ∷ 0 ∷ 8 ∷ 0 ∷ 0 ∷ 0 ∷ 1 ∷ 1 ∷ []))
+    ∷ row (file_in 1 [] [] [] POP) 0 9 (recording (RecordedUntyped 0xffffffff) [] (1 ∷ 0 ∷ 0 ∷ 0 ∷ 8 ∷ 0 ∷ 0 ∷ 0 ∷ 0 ∷ []))
+    ∷ row (file4 [] (function_for 7 [] 0 RET ∷ []) [] [] []) 1 10 (recording (Recorded 10) (nines 1) (2 ∷ 0 ∷ 0 ∷ 0 ∷ 8 ∷ 0 ∷ 0 ∷ 0 ∷ 1 ∷ 1 ∷ []))
     ∷ []
 
 pub computed : List Row → List Recording
-unfolding recordingNow
+unfolding recording_now
 computed [] = []
-computed (r ∷ rs) = recordingNow (r .module-file) (nines (r .room)) (nines (r .beside)) ∷ computed rs
+computed (r ∷ rs) = recording_now r.module_file (nines r.room) (nines r.beside) ∷ computed rs
 
 pub expected : List Row → List Recording
 expected [] = []
-expected (r ∷ rs) = r .gives ∷ expected rs
+expected (r ∷ rs) = r.gives ∷ expected rs
 
 pub table : computed rows ≡ expected rows
 unfolding computed expected rows
@@ -92,13 +89,13 @@ table = refl
 
 -- a module, the body named, the record lent; the answer, and the record after
 pub record Update : Type 0 where
-  pub module-file : List ℕ
+  pub module_file : List ℕ
   pub body : ℕ
   pub beside : List ℕ
   pub gives : Rechecked
 
 abbrev update : List ℕ → ℕ → List ℕ → CheckAnswer → List ℕ → Update
-update s f r a r′ = record { module-file = s; body = f; beside = r; gives = rechecked a r′ }
+update s f r a r' = record { module_file = s; body = f; beside = r; gives = rechecked a r' }
 
 abbrev refused : List ℕ → ℕ → List ℕ → ℕ → Update
 refused s f r e = update s f r (Refused e) r
@@ -108,7 +105,7 @@ updates =
     update good 0xffffffff (flags 1 1 1) Accepted (flags 1 1 1) ∷ update good 1 (flags 1 1 1) Accepted (flags 1 1 1)
     -- the named body's own byte is not believed, whichever it is
     ∷ update good 0xffffffff (flags 0 1 1) Accepted (flags 1 1 1) ∷ update good 0 (flags 1 0 1) Accepted (flags 1 1 1) ∷ update good 1 (flags 1 1 0) Accepted (flags 1 1 1)
-    ∷ update withoutEntry 0xffffffff (flags 1 1 1) (Untyped 0xffffffff) (flags 0 1 1) ∷ update without0 0 (flags 1 1 1) (Untyped 0) (flags 1 0 1) ∷ update without01 1 (flags 1 1 1) (Untyped 1) (flags 1 1 0)
+    ∷ update without_entry 0xffffffff (flags 1 1 1) (Untyped 0xffffffff) (flags 0 1 1) ∷ update without0 0 (flags 1 1 1) (Untyped 0) (flags 1 0 1) ∷ update without01 1 (flags 1 1 1) (Untyped 1) (flags 1 1 0)
     -- the others are believed, and no other byte is set: 11 names the first of them
     ∷ update good 1 (flags 1 0 1) (Untyped 0) (flags 1 0 1) ∷ update good 0 (flags 0 0 1) (Untyped 0xffffffff) (flags 0 1 1) ∷ update without01 1 (flags 1 0 1) (Untyped 0) (flags 1 0 0)
     ∷ update without01 0 (flags 1 1 0) (Untyped 0) (flags 1 0 0) ∷ update good 0xffffffff (flags 0 1 0) (Untyped 1) (flags 1 1 0) ∷ update without0 1 (flags 1 1 0) Accepted (flags 1 1 1)
@@ -124,22 +121,22 @@ updates =
     ∷ refused without0 0 (flags 2 1 1) 45 ∷ refused (file [] [] [] []) 0xffffffff (flags 1 1 1) 45
     -- no function; editions 1 and 4
     ∷ update (file [] [] [] []) 0xffffffff (1 ∷ 0 ∷ 0 ∷ 0 ∷ 8 ∷ 0 ∷ 0 ∷ 0 ∷ 0 ∷ []) Accepted (1 ∷ 0 ∷ 0 ∷ 0 ∷ 8 ∷ 0 ∷ 0 ∷ 0 ∷ 1 ∷ [])
-    ∷ update (fileIn 1 [] [] [] POP) 0xffffffff (1 ∷ 0 ∷ 0 ∷ 0 ∷ 8 ∷ 0 ∷ 0 ∷ 0 ∷ 1 ∷ []) (Untyped 0xffffffff) (1 ∷ 0 ∷ 0 ∷ 0 ∷ 8 ∷ 0 ∷ 0 ∷ 0 ∷ 0 ∷ [])
-    ∷ update (file4 [] (functionFor 7 [] 0 RET ∷ []) [] [] []) 0 (2 ∷ 0 ∷ 0 ∷ 0 ∷ 8 ∷ 0 ∷ 0 ∷ 0 ∷ 1 ∷ 0 ∷ []) Accepted (2 ∷ 0 ∷ 0 ∷ 0 ∷ 8 ∷ 0 ∷ 0 ∷ 0 ∷ 1 ∷ 1 ∷ [])
+    ∷ update (file_in 1 [] [] [] POP) 0xffffffff (1 ∷ 0 ∷ 0 ∷ 0 ∷ 8 ∷ 0 ∷ 0 ∷ 0 ∷ 1 ∷ []) (Untyped 0xffffffff) (1 ∷ 0 ∷ 0 ∷ 0 ∷ 8 ∷ 0 ∷ 0 ∷ 0 ∷ 0 ∷ [])
+    ∷ update (file4 [] (function_for 7 [] 0 RET ∷ []) [] [] []) 0 (2 ∷ 0 ∷ 0 ∷ 0 ∷ 8 ∷ 0 ∷ 0 ∷ 0 ∷ 1 ∷ 0 ∷ []) Accepted (2 ∷ 0 ∷ 0 ∷ 0 ∷ 8 ∷ 0 ∷ 0 ∷ 0 ∷ 1 ∷ 1 ∷ [])
     ∷ []
 
 pub rechecks : List Update → List Rechecked
-unfolding recheckNow
+unfolding recheck_now
 rechecks [] = []
-rechecks (u ∷ us) = recheckNow (u .module-file) (u .beside) (u .body) ∷ rechecks us
+rechecks (u ∷ us) = recheck_now u.module_file u.beside u.body ∷ rechecks us
 
 pub wanted : List Update → List Rechecked
 wanted [] = []
-wanted (u ∷ us) = u .gives ∷ wanted us
+wanted (u ∷ us) = u.gives ∷ wanted us
 
-pub update-table : rechecks updates ≡ wanted updates
+pub update_table : rechecks updates ≡ wanted updates
 unfolding rechecks wanted updates
-update-table = refl
+update_table = refl
 
 -- ---- what cannot be read: its number first, and nothing is changed
 
@@ -149,14 +146,14 @@ unreadable =
     ∷ (file [] [] [] (6 ∷ []), 8) ∷ (file [] [] ((9, 0) ∷ []) [], 9) ∷ []
 
 pub attempts : List (List ℕ × ℕ) → List (Recording × Rechecked)
-unfolding recordingNow recheckNow
+unfolding recording_now recheck_now
 attempts [] = []
-attempts (r ∷ rs) = (recordingNow (r .0) [] (nines 1), recheckNow (r .0) (nines 1) 7) ∷ attempts rs
+attempts (r ∷ rs) = (recording_now r.0 [] (nines 1), recheck_now r.0 (nines 1) 7) ∷ attempts rs
 
 pub refusals : List (List ℕ × ℕ) → List (Recording × Rechecked)
 refusals [] = []
-refusals (r ∷ rs) = (recording (Unrecorded (r .1)) [] (nines 1), rechecked (Refused (r .1)) (nines 1)) ∷ refusals rs
+refusals (r ∷ rs) = (recording (Unrecorded r.1) [] (nines 1), rechecked (Refused r.1) (nines 1)) ∷ refusals rs
 
-pub unreadable-table : attempts unreadable ≡ refusals unreadable
+pub unreadable_table : attempts unreadable ≡ refusals unreadable
 unfolding attempts refusals
-unreadable-table = refl
+unreadable_table = refl

@@ -1,22 +1,17 @@
 -- A table that is not of the paper: refusals 1 to 9, each limit from both sides, and which of two comes first.
-use mathlib.Core.Path.{_≡_, refl}
-use Prim.Native.Nat.{ℕ, zero, suc}
-use mathlib.Core.Bool.{true, false}
-use mathlib.Core.List.{List, [], _∷_, _++_}
-use lib.Dec.{eqb}
-use lib.ListN.{take, set}
-use Rattle·rules·specs.specs.Bytes.{words}
-use Rattle·rules·specs.specs.Files.{PUSH, POP, LOAD, RET, function, fileIn, file, file4}
-use Rattle·rules·specs.specs.Samples.{w1}
-use Rattle·rules·specs.specs.Evaluate.{refusalNow}
+use Rattle.std.specs.Prelude.{◌≡◌, refl, ℕ, zero, suc, true, false, List, [], ◌∷◌, ◌++◌, eqb, take, set}
+use Rattle.rules.specs.Bytes.{words}
+use Rattle.rules.specs.Files.{PUSH, POP, LOAD, RET, function, file_in, file, file4}
+use Rattle.rules.specs.Samples.{w1}
+use Rattle.rules.specs.Evaluate.{refusal_now}
 
 -- a header alone: total, counts of constants, functions, labels, code length, entry length, word 44
 abbrev bare : ℕ → ℕ → ℕ → ℕ → ℕ → ℕ → ℕ → List ℕ
 bare t c f l n e z = words (3 ∷ t ∷ c ∷ 48 ∷ f ∷ 48 ∷ l ∷ 48 ∷ n ∷ 48 ∷ e ∷ z ∷ [])
 
 -- a header alone of an edition, of 56 bytes: counts of constants, functions, labels, code length
-abbrev bareIn : ℕ → ℕ → ℕ → ℕ → ℕ → List ℕ
-bareIn w c f l n = words (w ∷ 56 ∷ c ∷ 56 ∷ f ∷ 56 ∷ l ∷ 56 ∷ n ∷ 56 ∷ 0 ∷ 0 ∷ 0 ∷ 56 ∷ [])
+abbrev bare_in : ℕ → ℕ → ℕ → ℕ → ℕ → List ℕ
+bare_in w c f l n = words (w ∷ 56 ∷ c ∷ 56 ∷ f ∷ 56 ∷ l ∷ 56 ∷ n ∷ 56 ∷ 0 ∷ 0 ∷ 0 ∷ 56 ∷ [])
 
 -- one function of one int to int after an empty entry: its record is at bytes 48 to 67, its code at 68
 abbrev one : List ℕ
@@ -27,7 +22,7 @@ eight = file [] (function (3 ∷ 4 ∷ 6 ∷ 131 ∷ 132 ∷ 134 ∷ 3 ∷ 3 ∷
 
 -- one function of edition 1, with this parameter type byte and this return type: `load` 0, `ret`
 abbrev old : ℕ → ℕ → List ℕ
-old p r = fileIn 1 [] (function (p ∷ []) r (LOAD 0 ++ (0x22 ∷ [])) ∷ []) [] []
+old p r = file_in 1 [] (function (p ∷ []) r (LOAD 0 ++ (0x22 ∷ [])) ∷ []) [] []
 
 -- an entry of 5 bytes; function 0 from 5 on, of 2 ^ 32 - 3 bytes; function 1 from 2 on, of 3 bytes: up to 5, the code's length
 abbrev wrapping : List ℕ
@@ -48,8 +43,8 @@ rows =
     ∷ (bare 48 0 0 0 0 0 0, 0) ∷ (bare 48 1025 0 0 0 0 0, 4) ∷ (bare 48 1024 0 0 0 0 0, 5) ∷ (bare 48 0 129 0 0 0 0, 4) ∷ (bare 48 0 128 0 0 0 0, 5)
     ∷ (bare 48 0 0 257 0 0 0, 4) ∷ (bare 48 0 0 256 0 0 0, 5) ∷ (bare 48 0 0 0 16385 0 0, 4) ∷ (bare 48 0 0 0 16384 0 0, 5) ∷ (bare 48 0 0 0 0 0 1, 4) ∷ (bare 48 0 0 0 0 99999 0, 5)
     -- the same limits in editions 1 and 4
-    ∷ (bareIn 1 1024 0 0 0, 5) ∷ (bareIn 1 1025 0 0 0, 4) ∷ (bareIn 1 0 128 0 0, 5) ∷ (bareIn 1 0 129 0 0, 4) ∷ (bareIn 1 0 0 256 0, 5) ∷ (bareIn 1 0 0 257 0, 4) ∷ (bareIn 1 0 0 0 16384, 5) ∷ (bareIn 1 0 0 0 16385, 4)
-    ∷ (bareIn 4 1024 0 0 0, 5) ∷ (bareIn 4 1025 0 0 0, 4) ∷ (bareIn 4 0 128 0 0, 5) ∷ (bareIn 4 0 129 0 0, 4) ∷ (bareIn 4 0 0 256 0, 5) ∷ (bareIn 4 0 0 257 0, 4) ∷ (bareIn 4 0 0 0 16384, 5) ∷ (bareIn 4 0 0 0 16385, 4)
+    ∷ (bare_in 1 1024 0 0 0, 5) ∷ (bare_in 1 1025 0 0 0, 4) ∷ (bare_in 1 0 128 0 0, 5) ∷ (bare_in 1 0 129 0 0, 4) ∷ (bare_in 1 0 0 256 0, 5) ∷ (bare_in 1 0 0 257 0, 4) ∷ (bare_in 1 0 0 0 16384, 5) ∷ (bare_in 1 0 0 0 16385, 4)
+    ∷ (bare_in 4 1024 0 0 0, 5) ∷ (bare_in 4 1025 0 0 0, 4) ∷ (bare_in 4 0 128 0 0, 5) ∷ (bare_in 4 0 129 0 0, 4) ∷ (bare_in 4 0 0 256 0, 5) ∷ (bare_in 4 0 0 257 0, 4) ∷ (bare_in 4 0 0 0 16384, 5) ∷ (bare_in 4 0 0 0 16385, 4)
     -- 5: each offset, also of an empty section; the sum; the entry longer than the code
     ∷ (set w1 12 0x31, 5) ∷ (set w1 20 0x49, 5) ∷ (set w1 28 0x49, 5) ∷ (set w1 36 0x49, 5) ∷ (set w1 14 1, 5) ∷ (set w1 22 1, 5) ∷ (set w1 30 1, 5) ∷ (set w1 38 1, 5) ∷ (set w1 42 1, 5) ∷ (set w1 32 0x0a, 5) ∷ (set w1 40 0x0c, 5)
     -- 6: type words and upper bytes; a long and a double may have these
@@ -62,7 +57,7 @@ rows =
     ∷ (set one 58 134, 0) ∷ (set one 58 5, 7) ∷ (set one 58 133, 7) ∷ (set one 58 0, 7) ∷ (set one 59 3, 7) ∷ (set one 65 1, 7) ∷ (set one 66 1, 7) ∷ (set one 67 1, 7)
     ∷ (file [] (function [] 0 [] ∷ []) [] RET, 7)
     -- a label of an empty entry in edition 1
-    ∷ (fileIn 1 [] (function [] 0 (0x22 ∷ []) ∷ []) ((0xffffffff, 0) ∷ []) [], 9)
+    ∷ (file_in 1 [] (function [] 0 (0x22 ∷ []) ∷ []) ((0xffffffff, 0) ∷ []) [], 9)
     -- in edition 1 no pointer parameter; 28 hex is none of its opcodes
     ∷ (set one 0 1, 8) ∷ (old 3 6, 0) ∷ (old 4 6, 0) ∷ (old 6 6, 0) ∷ (old 131 6, 7) ∷ (old 132 6, 7) ∷ (old 134 6, 7) ∷ (old 3 131, 7) ∷ (old 3 5, 7) ∷ (old 3 0, 0)
     -- lengths that fill the code only if their sum wraps at 32 bits
@@ -80,13 +75,13 @@ rows =
     ∷ []
 
 pub computed : List (List ℕ × ℕ) → List ℕ
-unfolding refusalNow
+unfolding refusal_now
 computed [] = []
-computed (r ∷ rs) = refusalNow (r .0) ∷ computed rs
+computed (r ∷ rs) = refusal_now r.0 ∷ computed rs
 
 pub expected : List (List ℕ × ℕ) → List ℕ
 expected [] = []
-expected (r ∷ rs) = r .1 ∷ expected rs
+expected (r ∷ rs) = r.1 ∷ expected rs
 
 pub table : computed rows ≡ expected rows
 unfolding computed expected rows
@@ -95,27 +90,27 @@ table = refl
 -- ---- the opcodes of edition e: the bytes below n with which an entry can begin, four more after them
 
 beginning : ℕ → List ℕ → List ℕ
-beginning e code = elim (eqb e 4) [ true ↦ file4 [] [] [] code [] | false ↦ fileIn e [] [] [] code ]
+beginning e code = elim (eqb e 4) [ true ↦ file4 [] [] [] code [] | false ↦ file_in e [] [] [] code ]
 
 pub before : ℕ → ℕ → List ℕ → List ℕ
 before e zero bs = bs
-before e (suc b) bs = elim (refusalNow (beginning e (b ∷ 2 ∷ 2 ∷ 2 ∷ 2 ∷ []))) [ zero ↦ before e b (b ∷ bs) | suc r ↦ before e b bs ]
+before e (suc b) bs = elim (refusal_now (beginning e (b ∷ 2 ∷ 2 ∷ 2 ∷ 2 ∷ []))) [ zero ↦ before e b (b ∷ bs) | suc r ↦ before e b bs ]
 
-abbrev from-to : ℕ → ℕ → List ℕ
-from-to b zero = []
-from-to b (suc n) = b ∷ from-to (suc b) n
+abbrev from_to : ℕ → ℕ → List ℕ
+from_to b zero = []
+from_to b (suc n) = b ∷ from_to (suc b) n
 
 -- "opcodes 01 to 05, 07 to 28, 2B, 2C, 2E (hex), 42 in all"
-pub opcodes-table : before 3 256 [] ≡ from-to 0x01 5 ++ (from-to 0x07 34 ++ (0x2b ∷ 0x2c ∷ 0x2e ∷ []))
-unfolding refusalNow beginning before
-opcodes-table = refl
+pub opcodes_table : before 3 256 [] ≡ from_to 0x01 5 ++ (from_to 0x07 34 ++ (0x2b ∷ 0x2c ∷ 0x2e ∷ []))
+unfolding refusal_now beginning before
+opcodes_table = refl
 
 -- 02, A6: "It adds `null`, `new`, `delete`, `flea`"; A9: "Add .. `gcnull` and `gcnew`"
-pub fourth-opcodes-table : before 4 256 [] ≡ from-to 0x01 40 ++ (0x2b ∷ 0x2c ∷ 0x2e ∷ 0x30 ∷ 0x31 ∷ 0x32 ∷ 0x33 ∷ 0x34 ∷ [])
-unfolding refusalNow beginning before
-fourth-opcodes-table = refl
+pub fourth_opcodes_table : before 4 256 [] ≡ from_to 0x01 40 ++ (0x2b ∷ 0x2c ∷ 0x2e ∷ 0x30 ∷ 0x31 ∷ 0x32 ∷ 0x33 ∷ 0x34 ∷ [])
+unfolding refusal_now beginning before
+fourth_opcodes_table = refl
 
 -- 02, A5: "01 to 25 (hex)"
-pub old-opcodes-table : before 1 256 [] ≡ from-to 0x01 37
-unfolding refusalNow beginning before
-old-opcodes-table = refl
+pub old_opcodes_table : before 1 256 [] ≡ from_to 0x01 37
+unfolding refusal_now beginning before
+old_opcodes_table = refl

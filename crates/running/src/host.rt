@@ -1,13 +1,14 @@
 // The same for C: the number is the answer, and what else an answer holds goes through pointers.
-ghost use Rattle·promises.specs.Promises.{lentOf, lentHeapOf, HostRunKeeps};
-ghost use mathlib.Core.Path.{_≡_};
-ghost use Rattle·rules.specs.Answers.{runNumber};
-ghost use Rattle·rules.specs.Host.{stepsAfter, heightAfter};
+ghost use Rattle.promises.specs.Promises.{lent_of, lent_heap_of, HostRunKeeps};
+ghost use Rattle.std.specs.Prelude.{◌≡◌};
+ghost use Rattle.rules.specs.Answers.{run_number};
+ghost use Rattle.rules.specs.Host.{steps_after, height_after};
+
 use rules::RunAnswer;
 
 // The number of a run that did not finish; of one that did, 0. A refusal writes nothing.
 pub fn stop(answer: RunAnswer, steps: &mut u64, height: &mut u64) -> u32
-    ensures { λ r. ⌜ (r ≡ runNumber answer) × (now (steps .exit) ≡ stepsAfter answer (now (steps .entry))) × (now (height .exit) ≡ heightAfter answer (now (height .entry))) ⌝ }
+    ensures { (result ≡ run_number answer) × (steps.new ≡ steps_after answer steps.old) × (height.new ≡ height_after answer height.old) }
 {
     match answer {
         RunAnswer::Rejected(n) => n,
@@ -39,7 +40,7 @@ pub fn host_run(
     steps: &mut u64,
     height: &mut u64,
 ) -> u32
-    ensures { λ r. ⌜ HostRunKeeps (now (file .entry)) function (lentOf (now («arg_payloads» .entry)) (now («arg_types» .entry))) profile allowance (lentOf (now (payloads .entry)) (now (types .entry))) (lentHeapOf (now (heap .entry)) (now (blocks .entry))) (now (steps .entry)) (now (height .entry)) r (lentOf (now (payloads .exit)) (now (types .exit))) (lentHeapOf (now (heap .exit)) (now (blocks .exit))) (now (steps .exit)) (now (height .exit)) ⌝ }
+    ensures { HostRunKeeps file.now function (lent_of arg_payloads.now arg_types.now) profile allowance (lent_of payloads.old types.old) (lent_heap_of heap.old blocks.old) steps.old height.old result (lent_of payloads.new types.new) (lent_heap_of heap.new blocks.new) steps.new height.new }
 {
     let answer = crate::run(
         file,

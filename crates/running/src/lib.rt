@@ -1,5 +1,8 @@
 // The public call `run`, with its promise.
-ghost use Rattle·promises.specs.Promises.{lentOf, lentHeapOf, RunKeeps};
+#![tactic(auto)]
+
+ghost use Rattle.promises.specs.Promises.{lent_of, lent_heap_of, RunKeeps};
+
 use rules::RunAnswer;
 
 pub mod host;
@@ -18,7 +21,7 @@ pub fn run(
     heap: &mut [u8],
     blocks: &mut [u8],
 ) -> RunAnswer
-    ensures { λ r. ⌜ RunKeeps (now (file .entry)) function (lentOf (now («arg_payloads» .entry)) (now («arg_types» .entry))) profile allowance (lentOf (now (payloads .entry)) (now (types .entry))) (lentHeapOf (now (heap .entry)) (now (blocks .entry))) r (lentOf (now (payloads .exit)) (now (types .exit))) (lentHeapOf (now (heap .exit)) (now (blocks .exit))) ⌝ }
+    ensures { RunKeeps file.now function (lent_of arg_payloads.now arg_types.now) profile allowance (lent_of payloads.old types.old) (lent_heap_of heap.old blocks.old) result (lent_of payloads.new types.new) (lent_heap_of heap.new blocks.new) }
 {
     runs::run(
         file,

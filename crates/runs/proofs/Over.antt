@@ -1,218 +1,218 @@
 -- A run over the heap: the loop's invariant, and what each way out of a turn gives.
-use Prim.Native.Nat.{ℕ, suc, _+_, _*_, _-_, _≤_, _<_}
+use Prim.Native.Nat.{ℕ, suc, ◌+◌, ◌*◌, ◌-◌, ◌≤◌, ◌<◌}
 use native.Mathlib.Omega.{arith}
-use mathlib.Core.Path.{_≡_, refl, sym, ap, _∙_, subst}
+use mathlib.Core.Path.{◌≡◌, refl, sym, ap, ◌∙◌, subst}
 use mathlib.Core.Logic.{inr}
 use mathlib.Core.Bool.{true, false}
 use mathlib.Core.Option.{some}
 use mathlib.Core.List.{List}
 use lib.ListN.{length, drop}
-use Rattle·rules.specs.declared.Instruction.{Instruction}
-use Rattle·rules.specs.Tables.{Module}
-use Rattle·rules.specs.ModuleFile.{structuresIn, read, refusal}
-use Rattle·rules.specs.Heap.{Heap, emptyHeap}
-use Rattle·rules.specs.Machine.{State, Next, keeping, outcome, execIn, run}
-use Rattle·soundness.specs.Framed.{withHeap, onto}
-use Rattle·soundness.specs.Heaps.{HeapOk}
-use Rattle·soundness.specs.Started.{Fit, NextFit, fit-over, fit-heap, heap-empty}
-use Rattle·soundness.specs.Kinds.{OfKind, kinds-closed}
-use Rattle·soundness.specs.Placed.{step-fit}
-use Rattle·heap.specs.declared.Shelf.{Shelf}
-use Rattle·heap.specs.Blocks.{bare, blocksOf, heapOf, Sane}
-use Rattle·heap.specs.Targets.{Plain}
-use Rattle·heap.proofs.Lent.{Small, cells-left, table-left}
-use Rattle·state.specs.State.{memoryOf, stateOf, nextOf}
-use Rattle·state.specs.declared.Registers.{Registers}
-use Rattle·state.specs.declared.Progress.{Progress}
-use Rattle·state.specs.declared.Progress.the-variants.{Goes, Finishes, Stops}
-use Rattle·machine.specs.declared.Ended.{Ended}
-use Rattle·machine.specs.Ends.{Fits, Resumes, Deferred, left, RunsTo}
-use Rattle·machine.proofs.Arms.{step-is}
-use Rattle·machine.proofs.Turns.{turned, run-turn, advance-step}
-use Rattle·access.specs.Access.{shelfOf, heapIn, HeapReady, Accessed}
-use Rattle·runs·specs.specs.Runs.{Empty, restOf, RunsOver}
+use Rattle.rules.specs.declared.Instruction.{Instruction}
+use Rattle.rules.specs.Tables.{Module}
+use Rattle.rules.specs.ModuleFile.{structures_in, read, refusal}
+use Rattle.rules.specs.Heap.{Heap, empty_heap}
+use Rattle.rules.specs.Machine.{State, Next, keeping, outcome, exec_in, run}
+use Rattle.soundness.specs.Framed.{with_heap, onto}
+use Rattle.soundness.specs.Heaps.{HeapOk}
+use Rattle.soundness.specs.Started.{Fit, NextFit, fit_over, fit_heap, heap_empty}
+use Rattle.soundness.specs.Kinds.{OfKind, kinds_closed}
+use Rattle.soundness.specs.Placed.{step_fit}
+use Rattle.heap.specs.declared.Shelf.{Shelf}
+use Rattle.heap.specs.Blocks.{bare, blocks_of, heap_of, Sane}
+use Rattle.heap.specs.Targets.{Plain}
+use Rattle.heap.proofs.Lent.{Small, cells_left, table_left}
+use Rattle.state.specs.State.{memory_of, state_of, next_of}
+use Rattle.state.specs.declared.Registers.{Registers}
+use Rattle.state.specs.declared.Progress.{Progress}
+use Rattle.state.specs.declared.Progress.TheVariants.{Goes, Finishes, Stops}
+use Rattle.machine.specs.declared.Ended.{Ended}
+use Rattle.machine.specs.Ends.{Fits, Resumes, Deferred, left, RunsTo}
+use Rattle.machine.proofs.Arms.{step_is}
+use Rattle.machine.proofs.Turns.{turned, run_turn, advance_step}
+use Rattle.access.specs.Access.{shelf_of, heap_in, HeapReady, Accessed}
+use Rattle.runs.specs.Runs.{Empty, rest_of, RunsOver}
 
 -- ---- one turn of `run`
 
 -- the instruction i at the place does x
-turn : (m : Module) (cap : ℕ) (s : State) (i : Instruction) → s .top .place < s .top .stop → m .code (s .top .place) ≡ some i → (n k : ℕ) (x : Next) → x ≡ execIn m cap i s
+turn : (m : Module) (cap : ℕ) (s : State) (i : Instruction) → s.top.place < s.top.stop → m.code s.top.place ≡ some i → (n k : ℕ) (x : Next) → x ≡ exec_in m cap i s
     → turned m cap s n k x ≡ run m cap (suc n) k s
-turn m cap s i inside found n k x e = sym (run-turn m cap s n k x (advance-step m cap s inside ∙ sym (e ∙ step-is m cap s i found)))
+turn m cap s i inside found n k x e = sym (run_turn m cap s n k x (advance_step m cap s inside ∙ sym (e ∙ step_is m cap s i found)))
 
 -- ---- the loop's invariant: r₀ is where the run stood, with n₀ steps left, p₀, t₀, f₀, c₀ and b₀ the lent words and bytes then; g are the
 -- shelf's words
 
 pub record Under (s : List ℕ) (cap n : ℕ) (r₀ : Registers) (n₀ : ℕ) (p₀ t₀ f₀ c₀ b₀ g p t f c b : List ℕ) (r : Registers) (rest : ℕ) : Type 0 where
-  pub heap-ready : HeapReady n (structuresIn s) g c b
-  pub heap-ok : HeapOk (read s) OfKind (heapIn n (structuresIn s) g c b)
-  pub small-cells : Small c
-  pub small-table : Small b
+  pub heap_ready : HeapReady n (structures_in s) g c b
+  pub heap_ok : HeapOk (read s) OfKind (heap_in n (structures_in s) g c b)
+  pub small_cells : Small c
+  pub small_table : Small b
   pub fits : Fits (read s) cap r p t f
   pub left : rest ≤ n₀
-  pub same : (k : ℕ) → run (read s) cap rest (k + (n₀ - rest)) (withHeap (heapIn n (structuresIn s) g c b) (stateOf r p t f)) ≡ restOf s cap n r₀ n₀ k p₀ t₀ f₀
-  pub rest-payloads : drop (cap * 8) p ≡ drop (cap * 8) p₀
-  pub rest-types : drop cap t ≡ drop cap t₀
-  pub rest-cells : drop (n * 8) c ≡ drop (n * 8) c₀
-  pub rest-table : drop (n * 24) b ≡ drop (n * 24) b₀
-  pub same-payloads : length p ≡ length p₀
-  pub same-types : length t ≡ length t₀
-  pub same-words : length f ≡ length f₀
-  pub same-cells : length c ≡ length c₀
-  pub same-table : length b ≡ length b₀
+  pub same : (k : ℕ) → run (read s) cap rest (k + (n₀ - rest)) (with_heap (heap_in n (structures_in s) g c b) (state_of r p t f)) ≡ rest_of s cap n r₀ n₀ k p₀ t₀ f₀
+  pub rest_payloads : drop (cap * 8) p ≡ drop (cap * 8) p₀
+  pub rest_types : drop cap t ≡ drop cap t₀
+  pub rest_cells : drop (n * 8) c ≡ drop (n * 8) c₀
+  pub rest_table : drop (n * 24) b ≡ drop (n * 24) b₀
+  pub same_payloads : length p ≡ length p₀
+  pub same_types : length t ≡ length t₀
+  pub same_words : length f ≡ length f₀
+  pub same_cells : length c ≡ length c₀
+  pub same_table : length b ≡ length b₀
 
-pub begins : (s : List ℕ) (cap n : ℕ) (r : Registers) (i : ℕ) (p t f c b g : List ℕ) → Plain (structuresIn s) → Fits (read s) cap r p t f → Empty n c b → Small c → Small b
-    → length g ≡ 4 → shelfOf g ≡ bare → Under s cap n r i p t f c b g p t f c b r i
-unfolding blocksOf
+pub begins : (s : List ℕ) (cap n : ℕ) (r : Registers) (i : ℕ) (p t f c b g : List ℕ) → Plain (structures_in s) → Fits (read s) cap r p t f → Empty n c b → Small c → Small b
+    → length g ≡ 4 → shelf_of g ≡ bare → Under s cap n r i p t f c b g p t f c b r i
+unfolding blocks_of
 begins s cap n r i p t f c b g plain fits empty sc sb four new =
-    let d : List ℕ = structuresIn s in
-    let is : heapIn n d g c b ≡ emptyHeap n = ap (λ (k : Shelf). heapOf n k d c b) new in
+    let d : List ℕ = structures_in s in
+    let is : heap_in n d g c b ≡ empty_heap n = ap (λ (k : Shelf). heap_of n k d c b) new in
     record {
-      heap-ready = record { four = four; plain = plain; sane = subst (λ (k : Shelf). Sane n k d c b) (sym new) (empty d) };
-      heap-ok = subst (HeapOk (read s) OfKind) (sym is) (heap-empty (read s) OfKind n);
-      small-cells = sc;
-      small-table = sb;
+      heap_ready = record { four = four; plain = plain; sane = subst (λ (k : Shelf). Sane n k d c b) (sym new) (empty d) };
+      heap_ok = subst (HeapOk (read s) OfKind) (sym is) (heap_empty (read s) OfKind n);
+      small_cells = sc;
+      small_table = sb;
       fits = fits;
       left = omega arith;
       same = λ k. let z : k + (i - i) ≡ k = omega arith in
-          rw z (ap (λ (h : Heap). run (read s) cap i k (withHeap h (stateOf r p t f))) is);
-      rest-payloads = refl;
-      rest-types = refl;
-      rest-cells = refl;
-      rest-table = refl;
-      same-payloads = refl;
-      same-types = refl;
-      same-words = refl;
-      same-cells = refl;
-      same-table = refl;
+          rw z (ap (λ (h : Heap). run (read s) cap i k (with_heap h (state_of r p t f))) is);
+      rest_payloads = refl;
+      rest_types = refl;
+      rest_cells = refl;
+      rest_table = refl;
+      same_payloads = refl;
+      same_types = refl;
+      same_words = refl;
+      same_cells = refl;
+      same_table = refl;
     }
 
 module _ (s : List ℕ) (readable : refusal s ≡ 0) (cap n : ℕ) (r₀ : Registers) (n₀ : ℕ) (p₀ t₀ f₀ c₀ b₀ g p t f c b : List ℕ) (r : Registers) (rest : ℕ)
     (u : Under s cap n r₀ n₀ p₀ t₀ f₀ c₀ b₀ g p t f c b r rest) (x : Ended) (p₂ t₂ f₂ : List ℕ)
-    (d : RunsTo (read s) cap rest (stateOf r p t f) x p t f p₂ t₂ f₂) where
+    (d : RunsTo (read s) cap rest (state_of r p t f) x p t f p₂ t₂ f₂) where
   abbrev m : Module
   m = read s
 
   abbrev h : Heap
-  h = heapIn n (structuresIn s) g c b
+  h = heap_in n (structures_in s) g c b
 
-  -- the run ended with the number z, on the slots p′ and t′ and the heap of c′ and b′, with this rest
-  over : (z rest′ : ℕ) (last : Registers) (g′ p′ t′ c′ b′ : List ℕ) → HeapReady n (structuresIn s) g′ c′ b′ → Small c′ → Small b′
-      → ((k : ℕ) → outcome z (k + (n₀ - rest′)) (keeping (memoryOf p′ t′ (last .height)) (heapIn n (structuresIn s) g′ c′ b′)) ≡ restOf s cap n r₀ n₀ k p₀ t₀ f₀)
-      → rest′ ≤ n₀ → last .height ≤ cap → drop (cap * 8) p′ ≡ drop (cap * 8) p₀ → drop cap t′ ≡ drop cap t₀ → drop (n * 8) c′ ≡ drop (n * 8) c₀
-      → drop (n * 24) b′ ≡ drop (n * 24) b₀ → length p′ ≡ length p₀ → length t′ ≡ length t₀
-      → RunsOver s cap n r₀ n₀ (record { number = z; rest = rest′; last = last }) p₀ t₀ f₀ c₀ b₀ p′ t′ c′ b′
-  over z rest′ last g′ p′ t′ c′ b′ ready sc sb exact le high rp rt rc rb lp lt =
+  -- the run ended with the number z, on the slots p' and t' and the heap of c' and b', with this rest
+  over : (z rest' : ℕ) (last : Registers) (g' p' t' c' b' : List ℕ) → HeapReady n (structures_in s) g' c' b' → Small c' → Small b'
+      → ((k : ℕ) → outcome z (k + (n₀ - rest')) (keeping (memory_of p' t' last.height) (heap_in n (structures_in s) g' c' b')) ≡ rest_of s cap n r₀ n₀ k p₀ t₀ f₀)
+      → rest' ≤ n₀ → last.height ≤ cap → drop (cap * 8) p' ≡ drop (cap * 8) p₀ → drop cap t' ≡ drop cap t₀ → drop (n * 8) c' ≡ drop (n * 8) c₀
+      → drop (n * 24) b' ≡ drop (n * 24) b₀ → length p' ≡ length p₀ → length t' ≡ length t₀
+      → RunsOver s cap n r₀ n₀ (record { number = z; rest = rest'; last = last }) p₀ t₀ f₀ c₀ b₀ p' t' c' b'
+  over z rest' last g' p' t' c' b' ready sc sb exact le high rp rt rc rb lp lt =
       record {
-        heap = heapIn n (structuresIn s) g′ c′ b′;
+        heap = heap_in n (structures_in s) g' c' b';
         exact = exact;
-        cells-are = cells-left n (shelfOf g′) (structuresIn s) c′ b′ (ready .sane) sc c₀ rc;
-        table-is = table-left n (shelfOf g′) (structuresIn s) c′ b′ (ready .sane) sb b₀ rb;
+        cells_are = cells_left n (shelf_of g') (structures_in s) c' b' ready.sane sc c₀ rc;
+        table_is = table_left n (shelf_of g') (structures_in s) c' b' ready.sane sb b₀ rb;
         left = le;
         high = high;
-        rest-payloads = rp;
-        rest-types = rt;
-        same-payloads = lp;
-        same-types = lt;
+        rest_payloads = rp;
+        rest_types = rt;
+        same_payloads = lp;
+        same_types = lt;
       }
 
   -- steps counted in all
-  sums : (k : ℕ) → k + (n₀ - rest) + (rest - x .rest) ≡ k + (n₀ - x .rest)
-  sums k = omega (arith, u .left, d .left)
+  sums : (k : ℕ) → k + (n₀ - rest) + (rest - x.rest) ≡ k + (n₀ - x.rest)
+  sums k = omega (arith, u.left, d.left)
 
   -- the machine has ended it
-  pub ended : length f₀ ≡ 1536 → left (x .number) ≡ false → RunsOver s cap n r₀ n₀ x p₀ t₀ f₀ c₀ b₀ p₂ t₂ c b
+  pub ended : length f₀ ≡ 1536 → left x.number ≡ false → RunsOver s cap n r₀ n₀ x p₀ t₀ f₀ c₀ b₀ p₂ t₂ c b
   ended all over-it =
-      over (x .number) (x .rest) (x .last) g p₂ t₂ c b (u .heap-ready) (u .small-cells) (u .small-table)
-      (λ k. ap (λ (i : ℕ). outcome (x .number) i (keeping (memoryOf p₂ t₂ (x .last .height)) h)) (sym (sums k))
-      ∙ d .exact (λ q. omega (arith, u .same-words)) over-it h (k + (n₀ - rest)) ∙ u .same k)
-      (omega (arith, u .left, d .left)) (d .high) (d .rest-payloads ∙ u .rest-payloads) (d .rest-types ∙ u .rest-types) (u .rest-cells) (u .rest-table)
-      (d .same-payloads ∙ u .same-payloads) (d .same-types ∙ u .same-types)
+      over x.number x.rest x.last g p₂ t₂ c b u.heap_ready u.small_cells u.small_table
+      (λ k. ap (λ (i : ℕ). outcome x.number i (keeping (memory_of p₂ t₂ x.last.height) h)) (sym (sums k))
+      ∙ d.exact (λ q. omega (arith, u.same_words)) over-it h (k + (n₀ - rest)) ∙ u.same k)
+      (omega (arith, u.left, d.left)) d.high (d.rest_payloads ∙ u.rest_payloads) (d.rest_types ∙ u.rest_types) u.rest_cells u.rest_table
+      (d.same_payloads ∙ u.same_payloads) (d.same_types ∙ u.same_types)
 
   -- it has left an instruction
-  module _ (yes : left (x .number) ≡ true) where
-    abbrev resumed : Resumes m cap rest (stateOf r p t f) x p₂ t₂ f₂
-    resumed = d .resumes (inr yes)
+  module _ (yes : left x.number ≡ true) where
+    abbrev resumed : Resumes m cap rest (state_of r p t f) x p₂ t₂ f₂
+    resumed = d.resumes (inr yes)
 
     abbrev waits : Deferred m x
-    waits = d .deferred yes
+    waits = d.deferred yes
 
     abbrev i : Instruction
-    i = waits .instruction .instruction
+    i = waits.instruction.instruction
 
     -- the state there
     abbrev st : State
-    st = withHeap h (stateOf (x .last) p₂ t₂ f₂)
+    st = with_heap h (state_of x.last p₂ t₂ f₂)
 
-    from-there : (k : ℕ) → run m cap (x .rest) (k + (n₀ - x .rest)) st ≡ restOf s cap n r₀ n₀ k p₀ t₀ f₀
-    from-there k = ap (λ (j : ℕ). run m cap (x .rest) j st) (sym (sums k)) ∙ resumed .same h (k + (n₀ - rest)) ∙ u .same k
+    from_there : (k : ℕ) → run m cap x.rest (k + (n₀ - x.rest)) st ≡ rest_of s cap n r₀ n₀ k p₀ t₀ f₀
+    from_there k = ap (λ (j : ℕ). run m cap x.rest j st) (sym (sums k)) ∙ resumed.same h (k + (n₀ - rest)) ∙ u.same k
 
     -- which was done over the heap
-    module _ (a : Progress) (g′ p′ t′ c′ b′ : List ℕ) (done : Accessed (execIn m cap i) cap n (x .last) a (structuresIn s) f₂ p₂ t₂ g c b p′ t′ g′ c′ b′)
-        (sc : Small c′) (sb : Small b′) where
-      abbrev h′ : Heap
-      h′ = heapIn n (structuresIn s) g′ c′ b′
+    module _ (a : Progress) (g' p' t' c' b' : List ℕ) (done : Accessed (exec_in m cap i) cap n x.last a (structures_in s) f₂ p₂ t₂ g c b p' t' g' c' b')
+        (sc : Small c') (sb : Small b') where
+      abbrev h' : Heap
+      h' = heap_in n (structures_in s) g' c' b'
 
-      more : suc (x .rest - 1) ≡ x .rest
-      more = omega (arith, waits .more)
+      more : suc (x.rest - 1) ≡ x.rest
+      more = omega (arith, waits.more)
 
-      counted : (k : ℕ) → suc (k + (n₀ - x .rest)) ≡ k + (n₀ - (x .rest - 1))
-      counted k = omega (arith, waits .more, u .left, d .left)
+      counted : (k : ℕ) → suc (k + (n₀ - x.rest)) ≡ k + (n₀ - (x.rest - 1))
+      counted k = omega (arith, waits.more, u.left, d.left)
 
-      next-fit : NextFit m OfKind cap (onto h′ (nextOf a p′ t′ f₂))
-      next-fit =
-          subst (NextFit m OfKind cap) (sym (done .result ∙ step-is m cap st i (waits .instruction .found)))
-          (step-fit s readable OfKind (kinds-closed s readable) cap st (fit-over m OfKind cap h (stateOf (x .last) p₂ t₂ f₂) (resumed .fits .fit) (u .heap-ok)) (waits .inside))
+      next_fit : NextFit m OfKind cap (onto h' (next_of a p' t' f₂))
+      next_fit =
+          subst (NextFit m OfKind cap) (sym (done.result ∙ step_is m cap st i waits.instruction.found))
+          (step_fit s readable OfKind (kinds_closed s readable) cap st (fit_over m OfKind cap h (state_of x.last p₂ t₂ f₂) resumed.fits.fit u.heap_ok) waits.inside)
 
-    module _ (g′ p′ t′ c′ b′ : List ℕ) (sc : Small c′) (sb : Small b′) where
-      pub goes-on : (q : Registers) → Accessed (execIn m cap i) cap n (x .last) (Goes q) (structuresIn s) f₂ p₂ t₂ g c b p′ t′ g′ c′ b′
-          → Under s cap n r₀ n₀ p₀ t₀ f₀ c₀ b₀ g′ p′ t′ f₂ c′ b′ q (x .rest - 1)
+    module _ (g' p' t' c' b' : List ℕ) (sc : Small c') (sb : Small b') where
+      pub goes_on : (q : Registers) → Accessed (exec_in m cap i) cap n x.last (Goes q) (structures_in s) f₂ p₂ t₂ g c b p' t' g' c' b'
+          → Under s cap n r₀ n₀ p₀ t₀ f₀ c₀ b₀ g' p' t' f₂ c' b' q (x.rest - 1)
       unfolding turned
-      goes-on q done =
-          let fit : Fit m OfKind cap (withHeap (heapIn n (structuresIn s) g′ c′ b′) (stateOf q p′ t′ f₂)) = next-fit (Goes q) g′ p′ t′ c′ b′ done sc sb in
+      goes_on q done =
+          let fit : Fit m OfKind cap (with_heap (heap_in n (structures_in s) g' c' b') (state_of q p' t' f₂)) = next_fit (Goes q) g' p' t' c' b' done sc sb in
           record {
-            heap-ready = done .heap-ready;
-            heap-ok = fit-heap m OfKind cap (heapIn n (structuresIn s) g′ c′ b′) (stateOf q p′ t′ f₂) fit;
-            small-cells = sc;
-            small-table = sb;
+            heap_ready = done.heap_ready;
+            heap_ok = fit_heap m OfKind cap (heap_in n (structures_in s) g' c' b') (state_of q p' t' f₂) fit;
+            small_cells = sc;
+            small_table = sb;
             fits = record {
-              ready = done .ready;
-              fit = fit-over m OfKind cap (emptyHeap 0) (withHeap (heapIn n (structuresIn s) g′ c′ b′) (stateOf q p′ t′ f₂)) fit (heap-empty m OfKind 0);
+              ready = done.ready;
+              fit = fit_over m OfKind cap (empty_heap 0) (with_heap (heap_in n (structures_in s) g' c' b') (state_of q p' t' f₂)) fit (heap_empty m OfKind 0);
             };
-            left = omega (arith, u .left, d .left);
-            same = λ k. ap (λ (j : ℕ). run m cap (x .rest - 1) j (withHeap (heapIn n (structuresIn s) g′ c′ b′) (stateOf q p′ t′ f₂))) (sym (counted (Goes q) g′ p′ t′ c′ b′ done sc sb k))
-                ∙ turn m cap st i (waits .inside) (waits .instruction .found) (x .rest - 1) (k + (n₀ - x .rest)) _ (done .result)
-                ∙ ap (λ (j : ℕ). run m cap j (k + (n₀ - x .rest)) st) (more (Goes q) g′ p′ t′ c′ b′ done sc sb) ∙ from-there k;
-            rest-payloads = done .rest-payloads ∙ d .rest-payloads ∙ u .rest-payloads;
-            rest-types = done .rest-types ∙ d .rest-types ∙ u .rest-types;
-            rest-cells = done .rest-cells ∙ u .rest-cells;
-            rest-table = done .rest-table ∙ u .rest-table;
-            same-payloads = done .same-payloads ∙ d .same-payloads ∙ u .same-payloads;
-            same-types = done .same-types ∙ d .same-types ∙ u .same-types;
-            same-words = d .same-words ∙ u .same-words;
-            same-cells = done .same-cells ∙ u .same-cells;
-            same-table = done .same-table ∙ u .same-table;
+            left = omega (arith, u.left, d.left);
+            same = λ k. ap (λ (j : ℕ). run m cap (x.rest - 1) j (with_heap (heap_in n (structures_in s) g' c' b') (state_of q p' t' f₂))) (sym (counted (Goes q) g' p' t' c' b' done sc sb k))
+                ∙ turn m cap st i waits.inside waits.instruction.found (x.rest - 1) (k + (n₀ - x.rest)) _ done.result
+                ∙ ap (λ (j : ℕ). run m cap j (k + (n₀ - x.rest)) st) (more (Goes q) g' p' t' c' b' done sc sb) ∙ from_there k;
+            rest_payloads = done.rest_payloads ∙ d.rest_payloads ∙ u.rest_payloads;
+            rest_types = done.rest_types ∙ d.rest_types ∙ u.rest_types;
+            rest_cells = done.rest_cells ∙ u.rest_cells;
+            rest_table = done.rest_table ∙ u.rest_table;
+            same_payloads = done.same_payloads ∙ d.same_payloads ∙ u.same_payloads;
+            same_types = done.same_types ∙ d.same_types ∙ u.same_types;
+            same_words = d.same_words ∙ u.same_words;
+            same_cells = done.same_cells ∙ u.same_cells;
+            same_table = done.same_table ∙ u.same_table;
           }
 
-      pub returned : (q : Registers) → Accessed (execIn m cap i) cap n (x .last) (Finishes q) (structuresIn s) f₂ p₂ t₂ g c b p′ t′ g′ c′ b′
-          → RunsOver s cap n r₀ n₀ (record { number = 0; rest = x .rest - 1; last = q }) p₀ t₀ f₀ c₀ b₀ p′ t′ c′ b′
+      pub returned : (q : Registers) → Accessed (exec_in m cap i) cap n x.last (Finishes q) (structures_in s) f₂ p₂ t₂ g c b p' t' g' c' b'
+          → RunsOver s cap n r₀ n₀ (record { number = 0; rest = x.rest - 1; last = q }) p₀ t₀ f₀ c₀ b₀ p' t' c' b'
       unfolding turned
       returned q done =
-          over 0 (x .rest - 1) q g′ p′ t′ c′ b′ (done .heap-ready) sc sb
-          (λ k. ap (λ (j : ℕ). outcome 0 j (keeping (memoryOf p′ t′ (q .height)) (heapIn n (structuresIn s) g′ c′ b′))) (sym (counted (Finishes q) g′ p′ t′ c′ b′ done sc sb k))
-          ∙ turn m cap st i (waits .inside) (waits .instruction .found) (x .rest - 1) (k + (n₀ - x .rest)) _ (done .result)
-          ∙ ap (λ (j : ℕ). run m cap j (k + (n₀ - x .rest)) st) (more (Finishes q) g′ p′ t′ c′ b′ done sc sb) ∙ from-there k)
-          (omega (arith, u .left, d .left)) (done .ready) (done .rest-payloads ∙ d .rest-payloads ∙ u .rest-payloads) (done .rest-types ∙ d .rest-types ∙ u .rest-types)
-          (done .rest-cells ∙ u .rest-cells) (done .rest-table ∙ u .rest-table) (done .same-payloads ∙ d .same-payloads ∙ u .same-payloads)
-          (done .same-types ∙ d .same-types ∙ u .same-types)
+          over 0 (x.rest - 1) q g' p' t' c' b' done.heap_ready sc sb
+          (λ k. ap (λ (j : ℕ). outcome 0 j (keeping (memory_of p' t' q.height) (heap_in n (structures_in s) g' c' b'))) (sym (counted (Finishes q) g' p' t' c' b' done sc sb k))
+          ∙ turn m cap st i waits.inside waits.instruction.found (x.rest - 1) (k + (n₀ - x.rest)) _ done.result
+          ∙ ap (λ (j : ℕ). run m cap j (k + (n₀ - x.rest)) st) (more (Finishes q) g' p' t' c' b' done sc sb) ∙ from_there k)
+          (omega (arith, u.left, d.left)) done.ready (done.rest_payloads ∙ d.rest_payloads ∙ u.rest_payloads) (done.rest_types ∙ d.rest_types ∙ u.rest_types)
+          (done.rest_cells ∙ u.rest_cells) (done.rest_table ∙ u.rest_table) (done.same_payloads ∙ d.same_payloads ∙ u.same_payloads)
+          (done.same_types ∙ d.same_types ∙ u.same_types)
 
-      pub stopped : (z : ℕ) → Accessed (execIn m cap i) cap n (x .last) (Stops z) (structuresIn s) f₂ p₂ t₂ g c b p′ t′ g′ c′ b′
-          → RunsOver s cap n r₀ n₀ (record { number = z; rest = x .rest; last = x .last }) p₀ t₀ f₀ c₀ b₀ p′ t′ c′ b′
+      pub stopped : (z : ℕ) → Accessed (exec_in m cap i) cap n x.last (Stops z) (structures_in s) f₂ p₂ t₂ g c b p' t' g' c' b'
+          → RunsOver s cap n r₀ n₀ (record { number = z; rest = x.rest; last = x.last }) p₀ t₀ f₀ c₀ b₀ p' t' c' b'
       unfolding turned
       stopped z done =
-          over z (x .rest) (x .last) g′ p′ t′ c′ b′ (done .heap-ready) sc sb
-          (λ k. ap (λ (y : State). outcome z (k + (n₀ - x .rest)) (y .memory)) (done .unchanged)
-          ∙ turn m cap st i (waits .inside) (waits .instruction .found) (x .rest - 1) (k + (n₀ - x .rest)) _ (done .result)
-          ∙ ap (λ (j : ℕ). run m cap j (k + (n₀ - x .rest)) st) (more (Stops z) g′ p′ t′ c′ b′ done sc sb) ∙ from-there k)
-          (omega (arith, u .left, d .left)) (d .high) (done .rest-payloads ∙ d .rest-payloads ∙ u .rest-payloads) (done .rest-types ∙ d .rest-types ∙ u .rest-types)
-          (done .rest-cells ∙ u .rest-cells) (done .rest-table ∙ u .rest-table) (done .same-payloads ∙ d .same-payloads ∙ u .same-payloads)
-          (done .same-types ∙ d .same-types ∙ u .same-types)
+          over z x.rest x.last g' p' t' c' b' done.heap_ready sc sb
+          (λ k. ap (λ (y : State). outcome z (k + (n₀ - x.rest)) y.memory) done.unchanged
+          ∙ turn m cap st i waits.inside waits.instruction.found (x.rest - 1) (k + (n₀ - x.rest)) _ done.result
+          ∙ ap (λ (j : ℕ). run m cap j (k + (n₀ - x.rest)) st) (more (Stops z) g' p' t' c' b' done sc sb) ∙ from_there k)
+          (omega (arith, u.left, d.left)) d.high (done.rest_payloads ∙ d.rest_payloads ∙ u.rest_payloads) (done.rest_types ∙ d.rest_types ∙ u.rest_types)
+          (done.rest_cells ∙ u.rest_cells) (done.rest_table ∙ u.rest_table) (done.same_payloads ∙ d.same_payloads ∙ u.same_payloads)
+          (done.same_types ∙ d.same_types ∙ u.same_types)

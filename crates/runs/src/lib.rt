@@ -1,26 +1,24 @@
 // The run of a body by number on lent arguments: refusals, the arguments in their slots, the first frame, the heap, the answer.
-ghost use mathlib.Core.Path.{_≡_};
-ghost use Prim.Native.Nat.{_+_, _-_, _*_, _<_, _≤_, min};
-ghost use lib.ListN.{length, replicate};
-ghost use Rattle·rules.specs.Answers as Answers;
-ghost use Rattle·rules.specs.Instructions.{tyOf};
-ghost use Rattle·rules.specs.Machine.{outcome};
-ghost use Rattle·rules.specs.Tables.{bodyOf, functionAt, paramsFrom};
-ghost use Rattle·rules.specs.ModuleFile.{edition, read, refusal, functionsIn};
-ghost use Rattle·format.specs.Layout.{Packed};
-ghost use Rattle·keys.specs.Keys.{Keyed};
-ghost use Rattle·state.specs.State.{memoryOf};
-ghost use Rattle·machine.specs.Ends.{endWith, Fits};
-ghost use Rattle·runs·specs.specs.Runs.{lentOf, slotsIn, cellsIn, clearedTo, ClosedAs, RunIs, Empty, Emptied, Standing, RestIs, RunsOver, isOver, suits, Copied, FoundIs, Named, Begins};
+#![tactic(auto)]
+
+ghost use Rattle.std.specs.Prelude.{◌≡◌, ◌+◌, ◌-◌, ◌*◌, ◌<◌, ◌≤◌, min, length, replicate};
+ghost use Rattle.rules.specs.Answers as Answers;
+ghost use Rattle.rules.specs.Instructions.{ty_of};
+ghost use Rattle.rules.specs.Machine.{outcome};
+ghost use Rattle.rules.specs.Tables.{body_of, function_at, params_from};
+ghost use Rattle.rules.specs.ModuleFile.{edition, read, refusal, functions_in};
+ghost use Rattle.format.specs.Layout.{Packed};
+ghost use Rattle.keys.specs.Keys.{Keyed};
+ghost use Rattle.state.specs.State.{memory_of};
+ghost use Rattle.machine.specs.Ends.{end_with, Fits};
+ghost use Rattle.runs.specs.Runs.{lent_of, slots_in, cells_in, cleared_to, ClosedAs, RunIs, Empty, Emptied, Standing, RestIs, RunsOver, is_over, suits, Copied, FoundIs, Named, Begins};
+
 use format::Sections;
 use machine::Ended;
 use reader::Opened;
 use reader::entries::FoundFunction;
-use rules::RunAnswer;
-use rules::Slot;
-use rules::Tally;
-use state::Progress;
-use state::Registers;
+use rules::{RunAnswer, Slot, Tally};
+use state::{Progress, Registers};
 
 const ENTRY: u32 = 0xffff_ffff;
 
@@ -35,7 +33,7 @@ const STACK_OVERFLOW: u32 = 20;
 // ---- lent slots
 
 fn least(a: usize, b: usize) -> usize
-    ensures { λ r. ⌜ r ≡ min a b ⌝ }
+    ensures { result ≡ min a b }
 {
     if b < a {
         return b;
@@ -45,7 +43,7 @@ fn least(a: usize, b: usize) -> usize
 
 // The smaller number of whole slots, at most 4,096.
 pub fn capacity(p: &[u8], t: &[u8]) -> usize
-    ensures { λ r. ⌜ r ≡ slotsIn (now (p .entry)) (now (t .entry)) ⌝ }
+    ensures { result ≡ slots_in p.now t.now }
 {
     let whole = least(p.len() / 8, t.len());
     least(whole, 4096)
@@ -53,14 +51,14 @@ pub fn capacity(p: &[u8], t: &[u8]) -> usize
 
 // The smaller number of whole cells and entries, at most 4,096.
 pub fn heap_capacity(cells: &[u8], table: &[u8]) -> usize
-    ensures { λ r. ⌜ r ≡ cellsIn (now (cells .entry)) (now (table .entry)) ⌝ }
+    ensures { result ≡ cells_in cells.now table.now }
 {
     let whole = least(cells.len() / 8, table.len() / 24);
     least(whole, 4096)
 }
 
 fn clear(s: &mut [u8])
-    ensures { λ r. ⌜ now (s .exit) ≡ replicate (length (now (s .entry))) 0 ⌝ }
+    ensures { s.new ≡ replicate (length s.old) 0 }
 {
     let mut i = 0;
     while i < s.len() {
@@ -71,8 +69,8 @@ fn clear(s: &mut [u8])
 
 // Zeros from a to e.
 fn clear_part(s: &mut [u8], a: usize, e: usize)
-    requires { ⌜ (a ≤ e) × (e ≤ length (now s)) ⌝ }
-    ensures { λ r. ⌜ now (s .exit) ≡ clearedTo (now (s .entry)) a e ⌝ }
+    requires { (a ≤ e) × (e ≤ length s.old) }
+    ensures { s.new ≡ cleared_to s.old a e }
 {
     clear(&mut s[a..e]);
 }
@@ -86,8 +84,8 @@ pub fn close(
     p: &mut [u8],
     t: &mut [u8],
 ) -> RunAnswer
-    requires { ⌜ (cap ≡ slotsIn (now p) (now t)) × (height ≤ cap) ⌝ }
-    ensures { λ r. ⌜ ClosedAs (outcome number steps (memoryOf (now (p .entry)) (now (t .entry)) height)) (now (p .entry)) (now (t .entry)) (now (p .exit)) (now (t .exit)) r ⌝ }
+    requires { (cap ≡ slots_in p.old t.old) × (height ≤ cap) }
+    ensures { ClosedAs (outcome number steps (memory_of p.old t.old height)) p.old t.old p.new t.new result }
 {
     clear_part(p, height * 8, cap * 8);
     clear_part(t, height, cap);
@@ -103,7 +101,7 @@ pub fn close(
 
 // Clears the lent heap, up to its capacity.
 pub fn clear_heap(cells: &mut [u8], table: &mut [u8])
-    ensures { λ r. ⌜ Emptied (now (cells .entry)) (now (table .entry)) (now (cells .exit)) (now (table .exit)) ⌝ }
+    ensures { Emptied cells.old table.old cells.new table.new }
 {
     let size = heap_capacity(cells, table);
     heap::blocks::start(cells, table, size);
@@ -113,7 +111,7 @@ pub fn clear_heap(cells: &mut [u8], table: &mut [u8])
 
 // Whether v is a value for a parameter with this type byte. None is for a pointer.
 fn takes(b: u8, v: Slot) -> bool
-    ensures { λ r. ⌜ r ≡ suits (tyOf b) v ⌝ }
+    ensures { result ≡ suits (ty_of b) v }
 {
     if v.kind != b {
         return false;
@@ -129,8 +127,8 @@ fn takes(b: u8, v: Slot) -> bool
 
 // Whether these are arguments for the n parameters of function k.
 fn admits(file: &[u8], c: Sections, k: usize, n: usize, args: &[u8], kinds: &[u8]) -> bool
-    requires { ⌜ Packed (now file) c × (n ≤ 8) × (0 < n → k < c .functions) ⌝ }
-    ensures { λ r. ⌜ r ≡ Answers.admitted (paramsFrom (functionsIn (now (file .entry))) (functionAt (edition (now (file .entry))) k + 10) n) (lentOf (now (args .entry)) (now (kinds .entry))) ⌝ }
+    requires { Packed file.now c × (n ≤ 8) × (0 < n → k < c.functions) }
+    ensures { result ≡ Answers.admitted (params_from (functions_in file.now) (function_at (edition file.now) k + 10) n) (lent_of args.now kinds.now) }
 {
     if kinds.len() != n {
         return false;
@@ -153,8 +151,8 @@ fn admits(file: &[u8], c: Sections, k: usize, n: usize, args: &[u8], kinds: &[u8
 
 // Puts n arguments into the first slots.
 pub fn copy_arguments(args: &[u8], kinds: &[u8], n: usize, p: &mut [u8], t: &mut [u8])
-    requires { ⌜ (n * 8 ≤ length (now args)) × (n ≤ length (now kinds)) × (n * 8 ≤ length (now p)) × (n ≤ length (now t)) ⌝ }
-    ensures { λ r. ⌜ Copied (now (args .entry)) (now (kinds .entry)) (now (p .entry)) (now (t .entry)) n (now (p .exit)) (now (t .exit)) ⌝ }
+    requires { (n * 8 ≤ length args.now) × (n ≤ length kinds.now) × (n * 8 ≤ length p.old) × (n ≤ length t.old) }
+    ensures { Copied args.now kinds.now p.old t.old n p.new t.new }
 {
     let mut i = 0;
     while i < n {
@@ -167,6 +165,7 @@ pub fn copy_arguments(args: &[u8], kinds: &[u8], n: usize, p: &mut [u8], t: &mut
 // ---- bodies
 
 // A body's places go from start up to end. body is the function's number, 65535 for the entry.
+#[derive(Clone, Copy)]
 struct BodyRecord {
     body: usize,
     start: usize,
@@ -174,6 +173,7 @@ struct BodyRecord {
     params: usize,
 }
 
+#[derive(Clone, Copy)]
 enum FoundBody {
     Record(BodyRecord),
     Nothing,
@@ -181,8 +181,8 @@ enum FoundBody {
 
 // The body that the host names.
 fn find(file: &[u8], c: Sections, function: u32) -> FoundBody
-    requires { ⌜ Packed (now file) c × (refusal (now file) ≡ 0) ⌝ }
-    ensures { λ r. ⌜ FoundIs (now (file .entry)) c function r ⌝ }
+    requires { Packed file.now c × (refusal file.now ≡ 0) }
+    ensures { FoundIs file.now c function result }
 {
     if function == ENTRY {
         return FoundBody::Record(BodyRecord {
@@ -207,8 +207,8 @@ fn find(file: &[u8], c: Sections, function: u32) -> FoundBody
 
 // Whether a body is made for another profile than the scan's. Only functions of edition 4 name one, in their last word.
 pub fn other_profile(file: &[u8], c: Sections, function: u32, profile: u32) -> bool
-    requires { ⌜ Packed (now file) c × (refusal (now file) ≡ 0) × Named (now file) function ⌝ }
-    ensures { λ r. ⌜ r ≡ Answers.otherProfile (Answers.madeFor (read (now (file .entry))) (bodyOf function)) profile ⌝ }
+    requires { Packed file.now c × (refusal file.now ≡ 0) × Named file.now function }
+    ensures { result ≡ Answers.other_profile (Answers.made_for (read file.now) (body_of function)) profile }
 {
     if c.stride != 24 {
         return false;
@@ -225,7 +225,7 @@ pub fn other_profile(file: &[u8], c: Sections, function: u32, profile: u32) -> b
 
 // Whether a run for which few words and no heap were at hand is over.
 fn is_over(number: u32) -> bool
-    ensures { λ r. ⌜ r ≡ isOver number ⌝ }
+    ensures { result ≡ is_over number }
 {
     if number == STACK_OVERFLOW {
         return false;
@@ -235,15 +235,15 @@ fn is_over(number: u32) -> bool
 }
 
 fn ended(number: u32, rest: u64, last: Registers) -> Ended
-    ensures { λ e. ⌜ e ≡ endWith number rest last ⌝ }
+    ensures { result ≡ end_with number rest last }
 {
     Ended { number, rest, last }
 }
 
 // Copies words, so that frames go on where more are lent.
 fn copy_words(from: &[u16], to: &mut [u16])
-    requires { ⌜ length (now from) ≤ length (now to) ⌝ }
-    ensures { λ r. ⌜ Begins (now (to .exit)) (now (from .entry)) ⌝ }
+    requires { length from.now ≤ length to.old }
+    ensures { Begins to.new from.now }
 {
     let mut i = 0;
     while i < from.len() {
@@ -268,9 +268,9 @@ pub fn run_over(
     cells: &mut [u8],
     table: &mut [u8],
 ) -> Ended
-    requires { ⌜ Packed (now file) c × (refusal (now file) ≡ 0) × Keyed (now file) (now source) from ⌝ }
-    requires { ⌜ Fits (read (now file)) cap (e .last) (now p) (now t) (now f) × Empty size (now cells) (now table) × (length (now f) ≡ 1536) ⌝ }
-    ensures { λ g. ⌜ RunsOver (now (file .entry)) cap size (e .last) (e .rest) g (now (p .entry)) (now (t .entry)) (now (f .entry)) (now (cells .entry)) (now (table .entry)) (now (p .exit)) (now (t .exit)) (now (cells .exit)) (now (table .exit)) ⌝ }
+    requires packed { Packed file.now c × (refusal file.now ≡ 0) × Keyed file.now source.now from }
+    requires fits { Fits (read file.now) cap e.last p.old t.old f.old × Empty size cells.old table.old × (length f.old ≡ 1536) }
+    ensures { RunsOver file.now cap size e.last e.rest result p.old t.old f.old cells.old table.old p.new t.new cells.new table.new }
 {
     let mut shelf = [0u64; 4];
     shelf[1] = 1;
@@ -315,9 +315,9 @@ fn finish(
     cells: &mut [u8],
     table: &mut [u8],
 ) -> RunAnswer
-    requires { ⌜ Packed (now file) c × (refusal (now file) ≡ 0) × Keyed (now file) (now source) from ⌝ }
-    requires { ⌜ Standing (now file) cap e allowance (now p) (now t) (now f) (now cells) (now table) × (length (now f) ≡ 1536) ⌝ }
-    ensures { λ r. ⌜ RestIs (now (file .entry)) cap e allowance (now (p .entry)) (now (t .entry)) (now (f .entry)) (now (cells .entry)) (now (table .entry)) (now (p .exit)) (now (t .exit)) (now (cells .exit)) (now (table .exit)) r ⌝ }
+    requires packed { Packed file.now c × (refusal file.now ≡ 0) × Keyed file.now source.now from }
+    requires standing { Standing file.now cap e allowance p.old t.old f.old cells.old table.old × (length f.old ≡ 1536) }
+    ensures { RestIs file.now cap e allowance p.old t.old f.old cells.old table.old p.new t.new cells.new table.new result }
 {
     let size = heap_capacity(cells, table);
     let g = run_over(file, c, cap, size, e, p, t, f, source, from, cells, table);
@@ -337,9 +337,9 @@ fn finish_old(
     cells: &mut [u8],
     table: &mut [u8],
 ) -> RunAnswer
-    requires { ⌜ Packed (now file) c × (refusal (now file) ≡ 0) × (edition (now file) ≡ 1) ⌝ }
-    requires { ⌜ Standing (now file) cap e allowance (now p) (now t) (now f) (now cells) (now table) × (length (now f) ≡ 1536) ⌝ }
-    ensures { λ r. ⌜ RestIs (now (file .entry)) cap e allowance (now (p .entry)) (now (t .entry)) (now (f .entry)) (now (cells .entry)) (now (table .entry)) (now (p .exit)) (now (t .exit)) (now (cells .exit)) (now (table .exit)) r ⌝ }
+    requires packed { Packed file.now c × (refusal file.now ≡ 0) × (edition file.now ≡ 1) }
+    requires standing { Standing file.now cap e allowance p.old t.old f.old cells.old table.old × (length f.old ≡ 1536) }
+    ensures { RestIs file.now cap e allowance p.old t.old f.old cells.old table.old p.new t.new cells.new table.new result }
 {
     let mut own = [0u8; 16384];
     let at = c.code;
@@ -360,9 +360,9 @@ fn deeper(
     cells: &mut [u8],
     table: &mut [u8],
 ) -> RunAnswer
-    requires { ⌜ Packed (now file) c × (refusal (now file) ≡ 0) ⌝ }
-    requires { ⌜ Standing (now file) cap e allowance (now p) (now t) (now few) (now cells) (now table) ⌝ }
-    ensures { λ r. ⌜ RestIs (now (file .entry)) cap e allowance (now (p .entry)) (now (t .entry)) (now (few .entry)) (now (cells .entry)) (now (table .entry)) (now (p .exit)) (now (t .exit)) (now (cells .exit)) (now (table .exit)) r ⌝ }
+    requires packed { Packed file.now c × (refusal file.now ≡ 0) }
+    requires standing { Standing file.now cap e allowance p.old t.old few.now cells.old table.old }
+    ensures { RestIs file.now cap e allowance p.old t.old few.now cells.old table.old p.new t.new cells.new table.new result }
 {
     let mut f = [0u16; 1536];
     copy_words(few, &mut f);
@@ -372,18 +372,7 @@ fn deeper(
     }
     let from = c.code;
     finish(
-        file,
-        c,
-        cap,
-        e,
-        allowance,
-        p,
-        t,
-        &mut f,
-        file,
-        from,
-        cells,
-        table,
+        file, c, cap, e, allowance, p, t, &mut f, file, from, cells, table,
     )
 }
 
@@ -400,9 +389,9 @@ fn run_old(
     cells: &mut [u8],
     table: &mut [u8],
 ) -> RunAnswer
-    requires { ⌜ Packed (now file) c × (refusal (now file) ≡ 0) × (edition (now file) ≡ 1) × (c .extent ≤ 512) ⌝ }
-    requires { ⌜ Standing (now file) cap e allowance (now p) (now t) (now few) (now cells) (now table) ⌝ }
-    ensures { λ r. ⌜ RestIs (now (file .entry)) cap e allowance (now (p .entry)) (now (t .entry)) (now (few .entry)) (now (cells .entry)) (now (table .entry)) (now (p .exit)) (now (t .exit)) (now (cells .exit)) (now (table .exit)) r ⌝ }
+    requires packed { Packed file.now c × (refusal file.now ≡ 0) × (edition file.now ≡ 1) × (c.extent ≤ 512) }
+    requires standing { Standing file.now cap e allowance p.old t.old few.old cells.old table.old }
+    ensures { RestIs file.now cap e allowance p.old t.old few.old cells.old table.old p.new t.new cells.new table.new result }
 {
     let mut own = [0u8; 512];
     let at = c.code;
@@ -430,9 +419,9 @@ fn run_rest(
     cells: &mut [u8],
     table: &mut [u8],
 ) -> RunAnswer
-    requires { ⌜ Packed (now file) c × (refusal (now file) ≡ 0) ⌝ }
-    requires { ⌜ Standing (now file) cap e allowance (now p) (now t) (now few) (now cells) (now table) ⌝ }
-    ensures { λ r. ⌜ RestIs (now (file .entry)) cap e allowance (now (p .entry)) (now (t .entry)) (now (few .entry)) (now (cells .entry)) (now (table .entry)) (now (p .exit)) (now (t .exit)) (now (cells .exit)) (now (table .exit)) r ⌝ }
+    requires packed { Packed file.now c × (refusal file.now ≡ 0) }
+    requires standing { Standing file.now cap e allowance p.old t.old few.old cells.old table.old }
+    ensures { RestIs file.now cap e allowance p.old t.old few.old cells.old table.old p.new t.new cells.new table.new result }
 {
     let edition = format::word(file, 0);
     if edition == 1 {
@@ -457,8 +446,8 @@ fn run_opened(
     cells: &mut [u8],
     table: &mut [u8],
 ) -> RunAnswer
-    requires { ⌜ Packed (now file) c × (refusal (now file) ≡ 0) ⌝ }
-    ensures { λ r. ⌜ RunIs (now (file .entry)) function (now (args .entry)) (now (kinds .entry)) profile allowance (now (p .entry)) (now (t .entry)) (now (cells .entry)) (now (table .entry)) (now (p .exit)) (now (t .exit)) (now (cells .exit)) (now (table .exit)) r ⌝ }
+    requires { Packed file.now c × (refusal file.now ≡ 0) }
+    ensures { RunIs file.now function args.now kinds.now profile allowance p.old t.old cells.old table.old p.new t.new cells.new table.new result }
 {
     let found = find(file, c, function);
     let FoundBody::Record(b) = found else {
@@ -512,7 +501,7 @@ pub fn run(
     heap: &mut [u8],
     blocks: &mut [u8],
 ) -> RunAnswer
-    ensures { λ r. ⌜ RunIs (now (file .entry)) function (now («arg_payloads» .entry)) (now («arg_types» .entry)) profile allowance (now (payloads .entry)) (now (types .entry)) (now (heap .entry)) (now (blocks .entry)) (now (payloads .exit)) (now (types .exit)) (now (heap .exit)) (now (blocks .exit)) r ⌝ }
+    ensures { RunIs file.now function arg_payloads.now arg_types.now profile allowance payloads.old types.old heap.old blocks.old payloads.new types.new heap.new blocks.new result }
 {
     let opened = reader::open(file);
     match opened {

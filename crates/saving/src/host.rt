@@ -1,14 +1,15 @@
 // The same for C: the number is the answer, and what else an answer holds goes through pointers.
-ghost use Rattle·rules.specs.Tables.{tables};
-ghost use mathlib.Core.Path.{_≡_};
-ghost use Rattle·rules.specs.Writing.{writeNumber};
-ghost use Rattle·rules.specs.Host.{writtenAfter};
-ghost use Rattle·promises.specs.WritePromises.{HostWriteKeeps};
+ghost use Rattle.rules.specs.Tables.{tables};
+ghost use Rattle.std.specs.Prelude.{◌≡◌};
+ghost use Rattle.rules.specs.Writing.{write_number};
+ghost use Rattle.rules.specs.Host.{written_after};
+ghost use Rattle.promises.specs.WritePromises.{HostWriteKeeps};
+
 use rules::WriteAnswer;
 
 // An answer's number. The length is written with 0 only.
 pub fn write_number(answer: WriteAnswer, written: &mut u64) -> u32
-    ensures { λ r. ⌜ (r ≡ writeNumber answer) × (now (written .exit) ≡ writtenAfter answer (now (written .entry))) ⌝ }
+    ensures { (result ≡ write_number answer) × (written.new ≡ written_after answer written.old) }
 {
     match answer {
         WriteAnswer::Unwritten(n) => n,
@@ -31,7 +32,7 @@ pub fn host_write(
     out: &mut [u8],
     written: &mut u64,
 ) -> u32
-    ensures { λ r. ⌜ HostWriteKeeps (tables edition (now (constants .entry)) (now (functions .entry)) (now (labels .entry)) (now (structures .entry)) (now (code .entry)) «entry_length») (now (out .entry)) (now (written .entry)) r (now (out .exit)) (now (written .exit)) ⌝ }
+    ensures { HostWriteKeeps (tables edition constants.now functions.now labels.now structures.now code.now entry_length) out.old written.old result out.new written.new }
 {
     let answer = crate::write(
         edition as usize,

@@ -1,6 +1,9 @@
 // The public call `write`, with its promise.
-ghost use Rattle·rules.specs.Tables.{tables};
-ghost use Rattle·promises.specs.WritePromises.{WriteKeeps};
+#![tactic(auto)]
+
+ghost use Rattle.rules.specs.Tables.{tables};
+ghost use Rattle.promises.specs.WritePromises.{WriteKeeps};
+
 use rules::WriteAnswer;
 
 pub mod host;
@@ -16,16 +19,9 @@ pub fn write(
     entry: usize,
     out: &mut [u8],
 ) -> WriteAnswer
-    ensures { λ r. ⌜ WriteKeeps (tables edition (now (constants .entry)) (now (functions .entry)) (now (labels .entry)) (now (structures .entry)) (now (code .entry)) entry) (now (out .entry)) r (now (out .exit)) ⌝ }
+    ensures { WriteKeeps (tables edition constants.now functions.now labels.now structures.now code.now entry) out.old result out.new }
 {
     writer::write(
-        edition,
-        constants,
-        functions,
-        labels,
-        structures,
-        code,
-        entry,
-        out,
+        edition, constants, functions, labels, structures, code, entry, out,
     )
 }

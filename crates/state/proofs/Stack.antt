@@ -1,119 +1,119 @@
 -- Laws of the stack that lent memory holds: length, push, pop, at, put, under; and of operands taken from it.
-use Prim.Native.Nat.{ℕ, zero, suc, _+_, _*_, _-_, _^_, _≤_, _<_}
+use Prim.Native.Nat.{ℕ, zero, suc, ◌+◌, ◌*◌, ◌-◌, ◌^◌, ◌≤◌, ◌<◌}
 use native.Mathlib.Omega.{arith}
 use native.Mathlib.Numerals.{add-one}
 use mathlib.Core.Bool.{Bool, true, false}
 use mathlib.Core.Option.{none, some}
-use mathlib.Core.Path.{_≡_, refl, sym, ap, _∙_}
-use mathlib.Core.Logic.{_⊎_, inl, inr, ⊎-elim}
-use mathlib.Core.List.{List, _∷_}
+use mathlib.Core.Path.{◌≡◌, refl, sym, ap, ◌∙◌}
+use mathlib.Core.Logic.{◌⊎◌, inl, inr, ⊎_elim}
+use mathlib.Core.List.{List, ◌∷◌}
 use lib.Dec.{ltb}
 use lib.ListN.{length}
-use lib.Seq.{getD-set-same, getD-set-other}
-use borrow.Author.Tests.{ltb-true, ltb-false, lt-ltb, le-ltb, le-leb, lt-leb, eq-eqb, ne-eqb}
-use Rattle·rules.specs.declared.Slot.{Slot}
-use Rattle·rules.specs.Stack.{slotAt, slotsOf, at, put, under}
-use Rattle·rules.specs.Machine.{Next, stops, take1, take2}
-use Rattle·memory.proofs.Words.{word-written-same, word-written-below, word-written-above}
-use Rattle·state·specs.specs.Slots.{payloadsWith, typesWith}
+use lib.Seq.{get_or-set_same, get_or-set_other}
+use borrow.Author.Tests.{ltb-true, ltb-false, lt-ltb, le-ltb, le-leb, lt-leb, eq-eqb, ne_eqb}
+use Rattle.rules.specs.declared.Slot.{Slot}
+use Rattle.rules.specs.Stack.{slot_at, slots_of, at, put, under}
+use Rattle.rules.specs.Machine.{Next, stops, take1, take2}
+use Rattle.memory.proofs.Words.{word_written_same, word_written_below, word_written_above}
+use Rattle.state.specs.Slots.{payloads_with, types_with}
 
-pub split-lt : (i n : ℕ) → (i < n) ⊎ (n ≤ i)
-split-lt i n = go (ltb i n) refl
+pub split_lt : (i n : ℕ) → (i < n) ⊎ (n ≤ i)
+split_lt i n = go (ltb i n) refl
   where
     go : (b : Bool) → ltb i n ≡ b → (i < n) ⊎ (n ≤ i)
     go true e = inl (ltb-true i n e)
     go false e = inr (ltb-false i n e)
 
 module _ (p t : List ℕ) where
-  pub length-slots : (n : ℕ) → length (slotsOf p t n) ≡ n
-  unfolding slotsOf
-  length-slots zero = refl
-  length-slots (suc n) = ap suc (length-slots n)
+  pub length_slots : (n : ℕ) → length (slots_of p t n) ≡ n
+  unfolding slots_of
+  length_slots zero = refl
+  length_slots (suc n) = ap suc (length_slots n)
 
   -- a stack that is not empty
-  pub slots-top : (n : ℕ) → 0 < n → slotsOf p t n ≡ slotAt p t (n - 1) ∷ slotsOf p t (n - 1)
-  unfolding slotsOf
-  slots-top zero h = absurd (omega arith)
-  slots-top (suc n) h = let e : suc n - 1 ≡ n = omega arith in rw e refl
+  pub slots_top : (n : ℕ) → 0 < n → slots_of p t n ≡ slot_at p t (n - 1) ∷ slots_of p t (n - 1)
+  unfolding slots_of
+  slots_top zero h = absurd (omega arith)
+  slots_top (suc n) h = let e : suc n - 1 ≡ n = omega arith in rw e refl
 
-  pub at-slots : (n i : ℕ) → i < n → at (slotsOf p t n) i ≡ some (slotAt p t i)
-  unfolding slotsOf
-  at-slots zero i h = absurd (omega arith)
-  at-slots (suc n) i h =
-      ⊎-elim
-      (λ (l : i < n). rw (length-slots n, ne-eqb i n (λ e. omega arith)) (at-slots n i l))
-      (λ (l : n ≤ i). let e : i ≡ n = omega arith in rw (length-slots n, eq-eqb i n e) (ap (λ (j : ℕ). some (slotAt p t j)) (sym e)))
-      (split-lt i n)
+  pub at_slots : (n i : ℕ) → i < n → at (slots_of p t n) i ≡ some (slot_at p t i)
+  unfolding slots_of
+  at_slots zero i h = absurd (omega arith)
+  at_slots (suc n) i h =
+      ⊎_elim
+      (λ (l : i < n). rw (length_slots n, ne_eqb i n (λ e. omega arith)) (at_slots n i l))
+      (λ (l : n ≤ i). let e : i ≡ n = omega arith in rw (length_slots n, eq-eqb i n e) (ap (λ (j : ℕ). some (slot_at p t j)) (sym e)))
+      (split_lt i n)
 
-  pub at-slots-out : (n i : ℕ) → n ≤ i → at (slotsOf p t n) i ≡ none
-  unfolding slotsOf
-  at-slots-out zero i h = refl
-  at-slots-out (suc n) i h = rw (length-slots n, ne-eqb i n (λ e. omega arith)) (at-slots-out n i (omega arith))
+  pub at_slots_out : (n i : ℕ) → n ≤ i → at (slots_of p t n) i ≡ none
+  unfolding slots_of
+  at_slots_out zero i h = refl
+  at_slots_out (suc n) i h = rw (length_slots n, ne_eqb i n (λ e. omega arith)) (at_slots_out n i (omega arith))
 
-  pub under-slots : (n b : ℕ) → b ≤ n → under b (slotsOf p t n) ≡ slotsOf p t b
-  unfolding slotsOf
-  under-slots zero b h = let e : b ≡ 0 = omega arith in rw e refl
-  under-slots (suc n) b h =
-      ⊎-elim
-      (λ (l : n < b). let e : b ≡ suc n = omega arith in rw (length-slots n, lt-ltb n b l) (rw e refl))
-      (λ (l : b ≤ n). rw (length-slots n, le-ltb n b l) (under-slots n b l))
-      (split-lt n b)
+  pub under_slots : (n b : ℕ) → b ≤ n → under b (slots_of p t n) ≡ slots_of p t b
+  unfolding slots_of
+  under_slots zero b h = let e : b ≡ 0 = omega arith in rw e refl
+  under_slots (suc n) b h =
+      ⊎_elim
+      (λ (l : n < b). let e : b ≡ suc n = omega arith in rw (length_slots n, lt-ltb n b l) (rw e refl))
+      (λ (l : b ≤ n). rw (length_slots n, le-ltb n b l) (under_slots n b l))
+      (split_lt n b)
 
   -- one operand: too few, or the top slot with the stack under it
-  pub take1-short : (fl n : ℕ) (k : Slot → List Slot → Next) → n < fl + 1 → take1 fl (slotsOf p t n) k ≡ stops 21
-  unfolding slotsOf
-  take1-short fl zero k h = refl
-  take1-short fl (suc n) k h = rw (length-slots n, lt-leb fl n (omega arith)) refl
+  pub take1_short : (fl n : ℕ) (k : Slot → List Slot → Next) → n < fl + 1 → take1 fl (slots_of p t n) k ≡ stops 21
+  unfolding slots_of
+  take1_short fl zero k h = refl
+  take1_short fl (suc n) k h = rw (length_slots n, lt-leb fl n (omega arith)) refl
 
-  pub take1-has : (fl n : ℕ) (k : Slot → List Slot → Next) → fl + 1 ≤ n → take1 fl (slotsOf p t n) k ≡ k (slotAt p t (n - 1)) (slotsOf p t (n - 1))
-  unfolding slotsOf
-  take1-has fl zero k h = absurd (omega arith)
-  take1-has fl (suc n) k h = let e : suc n - 1 ≡ n = omega arith in rw (length-slots n, le-leb fl n (omega arith), e) refl
+  pub take1_has : (fl n : ℕ) (k : Slot → List Slot → Next) → fl + 1 ≤ n → take1 fl (slots_of p t n) k ≡ k (slot_at p t (n - 1)) (slots_of p t (n - 1))
+  unfolding slots_of
+  take1_has fl zero k h = absurd (omega arith)
+  take1_has fl (suc n) k h = let e : suc n - 1 ≡ n = omega arith in rw (length_slots n, le-leb fl n (omega arith), e) refl
 
   -- two operands
-  pub take2-short : (fl n : ℕ) (k : Slot → Slot → List Slot → Next) → n < fl + 2 → take2 fl (slotsOf p t n) k ≡ stops 21
-  take2-short fl n k h =
-      ⊎-elim
-      (λ (l : n < fl + 1). take1-short fl n _ l)
-      (λ (l : fl + 1 ≤ n). take1-has fl n _ l ∙ take1-short fl (n - 1) _ (omega arith))
-      (split-lt n (fl + 1))
+  pub take2_short : (fl n : ℕ) (k : Slot → Slot → List Slot → Next) → n < fl + 2 → take2 fl (slots_of p t n) k ≡ stops 21
+  take2_short fl n k h =
+      ⊎_elim
+      (λ (l : n < fl + 1). take1_short fl n _ l)
+      (λ (l : fl + 1 ≤ n). take1_has fl n _ l ∙ take1_short fl (n - 1) _ (omega arith))
+      (split_lt n (fl + 1))
 
-  pub take2-has : (fl n : ℕ) (k : Slot → Slot → List Slot → Next) → fl + 2 ≤ n
-      → take2 fl (slotsOf p t n) k ≡ k (slotAt p t (n - 2)) (slotAt p t (n - 1)) (slotsOf p t (n - 2))
-  take2-has fl n k h =
+  pub take2_has : (fl n : ℕ) (k : Slot → Slot → List Slot → Next) → fl + 2 ≤ n
+      → take2 fl (slots_of p t n) k ≡ k (slot_at p t (n - 2)) (slot_at p t (n - 1)) (slots_of p t (n - 2))
+  take2_has fl n k h =
       let e : n - 1 - 1 ≡ n - 2 = omega arith in
-      take1-has fl n _ (omega arith) ∙ take1-has fl (n - 1) _ (omega arith) ∙ rw e refl
+      take1_has fl n _ (omega arith) ∙ take1_has fl (n - 1) _ (omega arith) ∙ rw e refl
 
 -- v written to slot i
 module _ (p t : List ℕ) (i : ℕ) (v : Slot) (hp : i * 8 + 8 ≤ length p) (ht : i < length t) where
-  slotAt-other : (j : ℕ) → (j ≡ i → ⊥) → slotAt (payloadsWith p i v) (typesWith t i v) j ≡ slotAt p t j
-  unfolding slotAt payloadsWith typesWith
-  slotAt-other j ne =
-      ⊎-elim
-      (λ (l : j < i). rw (getD-set-other t i j (v .kind) 0 ne, word-written-below 8 8 p (i * 8) (v .payload) (j * 8) (omega arith) (omega arith)))
-      (λ (l : i ≤ j). rw (getD-set-other t i j (v .kind) 0 ne, word-written-above 8 8 p (i * 8) (v .payload) (j * 8) (omega arith) (omega arith)))
-      (split-lt j i)
+  slot_at_other : (j : ℕ) → (j ≡ i → ⊥) → slot_at (payloads_with p i v) (types_with t i v) j ≡ slot_at p t j
+  unfolding slot_at payloads_with types_with
+  slot_at_other j ne =
+      ⊎_elim
+      (λ (l : j < i). rw (get_or-set_other t i j v.kind 0 ne, word_written_below 8 8 p (i * 8) v.payload (j * 8) (omega arith) (omega arith)))
+      (λ (l : i ≤ j). rw (get_or-set_other t i j v.kind 0 ne, word_written_above 8 8 p (i * 8) v.payload (j * 8) (omega arith) (omega arith)))
+      (split_lt j i)
 
-  slotAt-same : v .payload < 2 ^ 64 → slotAt (payloadsWith p i v) (typesWith t i v) i ≡ v
-  unfolding slotAt payloadsWith typesWith
-  slotAt-same f = rw (getD-set-same t i (v .kind) 0 ht, word-written-same 8 p (i * 8) (v .payload) hp f)
+  slot_at_same : v.payload < 2 ^ 64 → slot_at (payloads_with p i v) (types_with t i v) i ≡ v
+  unfolding slot_at payloads_with types_with
+  slot_at_same f = rw (get_or-set_same t i v.kind 0 ht, word_written_same 8 p (i * 8) v.payload hp f)
 
-  pub slots-keep : (n : ℕ) → n ≤ i → slotsOf (payloadsWith p i v) (typesWith t i v) n ≡ slotsOf p t n
-  unfolding slotsOf
-  slots-keep zero h = refl
-  slots-keep (suc n) h = let ne : n ≡ i → ⊥ = λ e. omega arith in rw (slots-keep n (omega arith), slotAt-other n ne)
+  pub slots_keep : (n : ℕ) → n ≤ i → slots_of (payloads_with p i v) (types_with t i v) n ≡ slots_of p t n
+  unfolding slots_of
+  slots_keep zero h = refl
+  slots_keep (suc n) h = let ne : n ≡ i → ⊥ = λ e. omega arith in rw (slots_keep n (omega arith), slot_at_other n ne)
 
-  pub slots-push : v .payload < 2 ^ 64 → slotsOf (payloadsWith p i v) (typesWith t i v) (i + 1) ≡ v ∷ slotsOf p t i
-  unfolding slotsOf
-  slots-push f = rw (add-one, slots-keep i (omega arith), slotAt-same f)
+  pub slots_push : v.payload < 2 ^ 64 → slots_of (payloads_with p i v) (types_with t i v) (i + 1) ≡ v ∷ slots_of p t i
+  unfolding slots_of
+  slots_push f = rw (add-one, slots_keep i (omega arith), slot_at_same f)
 
-  pub slots-put : v .payload < 2 ^ 64 → (n : ℕ) → i < n → slotsOf (payloadsWith p i v) (typesWith t i v) n ≡ put (slotsOf p t n) i v
-  unfolding slotsOf
-  slots-put f zero h = absurd (omega arith)
-  slots-put f (suc n) h =
-      ⊎-elim
+  pub slots_put : v.payload < 2 ^ 64 → (n : ℕ) → i < n → slots_of (payloads_with p i v) (types_with t i v) n ≡ put (slots_of p t n) i v
+  unfolding slots_of
+  slots_put f zero h = absurd (omega arith)
+  slots_put f (suc n) h =
+      ⊎_elim
       (λ (l : i < n). let ne : n ≡ i → ⊥ = λ e. omega arith in
-      rw (length-slots p t n, ne-eqb i n (λ e. omega arith)) (rw (slots-put f n l, slotAt-other n ne) refl))
+      rw (length_slots p t n, ne_eqb i n (λ e. omega arith)) (rw (slots_put f n l, slot_at_other n ne) refl))
       (λ (l : n ≤ i). let e : i ≡ n = omega arith in
-      rw (length-slots p t n, eq-eqb i n e) (rw (slots-keep n (omega arith), ← e, slotAt-same f) refl))
-      (split-lt i n)
+      rw (length_slots p t n, eq-eqb i n e) (rw (slots_keep n (omega arith), ← e, slot_at_same f) refl))
+      (split_lt i n)

@@ -1,14 +1,16 @@
 // The machine's state as the code keeps it: registers, frames as words, slots in lent bytes.
-ghost use mathlib.Core.Path.{_≡_};
-ghost use Prim.Native.Nat.{_+_, _*_, _<_, _≤_};
-ghost use lib.ListN.{length};
-ghost use Rattle·rules.specs.Stack.{slotAt};
-ghost use Rattle·state·specs.specs.Slots.{payloadsWith, typesWith};
-ghost use Rattle·state·specs.specs.State.{movedTo, boundTo};
+#![tactic(auto)]
+
+ghost use Rattle.std.specs.Prelude.{◌≡◌, ◌+◌, ◌*◌, ◌<◌, ◌≤◌, length};
+ghost use Rattle.rules.specs.Stack.{slot_at};
+ghost use Rattle.state.specs.Slots.{payloads_with, types_with};
+ghost use Rattle.state.specs.State.{moved_to, bound_to};
+
 use rules::Slot;
 
 // The running frame, and the slots in use. stop is its body's end, floor where its operands begin, frame where its words begin.
 // The words have its body, first slot, count of locals and locals.
+#[derive(Clone, Copy)]
 pub struct Registers {
     pub place: usize,
     pub stop: usize,
@@ -18,6 +20,7 @@ pub struct Registers {
 }
 
 // What an instruction does: the run goes on, the host's own call has returned, or the run is over with a number.
+#[derive(Clone, Copy)]
 pub enum Progress {
     Goes(Registers),
     Finishes(Registers),
@@ -25,8 +28,8 @@ pub enum Progress {
 }
 
 pub fn slot_at(p: &[u8], t: &[u8], i: usize) -> Slot
-    requires { ⌜ (i * 8 + 8 ≤ length (now p)) × (i < length (now t)) ⌝ }
-    ensures { λ r. ⌜ r ≡ slotAt (now (p .entry)) (now (t .entry)) i ⌝ }
+    requires { (i * 8 + 8 ≤ length p.now) × (i < length t.now) }
+    ensures { result ≡ slot_at p.now t.now i }
 {
     let payload = memory::load64(p, i * 8);
     Slot {
@@ -36,8 +39,8 @@ pub fn slot_at(p: &[u8], t: &[u8], i: usize) -> Slot
 }
 
 pub fn put_slot(p: &mut [u8], t: &mut [u8], i: usize, v: Slot)
-    requires { ⌜ (i * 8 + 8 ≤ length (now p)) × (i < length (now t)) ⌝ }
-    ensures { λ r. ⌜ (now (p .exit) ≡ payloadsWith (now (p .entry)) i v) × (now (t .exit) ≡ typesWith (now (t .entry)) i v) ⌝ }
+    requires { (i * 8 + 8 ≤ length p.old) × (i < length t.old) }
+    ensures { (p.new ≡ payloads_with p.old i v) × (t.new ≡ types_with t.old i v) }
 {
     memory::store64(p, i * 8, v.payload);
     t[i] = v.kind;
@@ -45,7 +48,7 @@ pub fn put_slot(p: &mut [u8], t: &mut [u8], i: usize, v: Slot)
 
 // The registers at another place, with another height.
 pub fn moved(r: Registers, place: usize, height: usize) -> Registers
-    ensures { λ q. ⌜ q ≡ movedTo r place height ⌝ }
+    ensures { result ≡ moved_to r place height }
 {
     let mut q = r;
     q.place = place;
@@ -55,7 +58,7 @@ pub fn moved(r: Registers, place: usize, height: usize) -> Registers
 
 // The registers past a binding store.
 pub fn bound(r: Registers, place: usize) -> Registers
-    ensures { λ q. ⌜ q ≡ boundTo r place ⌝ }
+    ensures { result ≡ bound_to r place }
 {
     let mut q = r;
     q.place = place;

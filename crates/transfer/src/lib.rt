@@ -1,28 +1,25 @@
 // One instruction judged by types alone, on the lists of a record: the checker's transfer function.
-ghost use mathlib.Core.Path.{_≡_};
-ghost use mathlib.Core.Bool.{Bool};
-ghost use mathlib.Core.List.{List};
-ghost use Prim.Native.Nat.{ℕ, _+_, _^_, _<_, _≤_};
-ghost use lib.Dec.{eqb};
-ghost use Rattle·rules.specs.declared.Condition.{Condition};
-ghost use Rattle·rules.specs.declared.Instruction.the-variants.{Push, Jmp, Branch, Call, Ret, New, Flea};
-ghost use Rattle·rules.specs.Bytes.{byte, word};
-ghost use Rattle·rules.specs.Instructions.{pointerByte};
-ghost use Rattle·rules.specs.Tables.{Body, Module, bodyOf, functionAt, paramsFrom};
-ghost use Rattle·rules.specs.ModuleFile.{edition, structures, read, refusal, functionsIn};
-ghost use Rattle·rules.specs.Machine.{owned};
-ghost use Rattle·format.specs.Layout.{Packed};
-ghost use Rattle·records.specs.Record.{Holds, IsType};
-ghost use Rattle·keys.specs.Keys.{Known, Outside};
-ghost use Rattle·transfer·specs.specs.Transfers.{Judges, Pushes, placeOf, Stripped, KeyAt, Moves, made, Numbered, fieldType, firsts, seconds};
+#![tactic(auto)]
+
+ghost use Rattle.std.specs.Prelude.{◌≡◌, Bool, List, ℕ, ◌+◌, ◌^◌, ◌<◌, ◌≤◌, eqb};
+ghost use Rattle.rules.specs.declared.Condition.{Condition};
+ghost use Rattle.rules.specs.declared.Instruction.TheVariants.{Push, Jmp, Branch, Call, Ret, New, Flea};
+ghost use Rattle.rules.specs.Bytes.{byte, word};
+ghost use Rattle.rules.specs.Instructions.{pointer_byte};
+ghost use Rattle.rules.specs.Tables.{Body, Module, body_of, function_at, params_from};
+ghost use Rattle.rules.specs.ModuleFile.{edition, structures, read, refusal, functions_in};
+ghost use Rattle.rules.specs.Machine.{owned};
+ghost use Rattle.format.specs.Layout.{Packed};
+ghost use Rattle.records.specs.Record.{Holds, IsType};
+ghost use Rattle.keys.specs.Keys.{Known, Outside};
+ghost use Rattle.transfer.specs.Transfers.{Judges, Pushes, place_of, Stripped, KeyAt, Moves, made, Numbered, field_type, firsts, seconds};
+
 use format::Sections;
-use reader::entries::FoundConstant;
-use reader::entries::FoundFunction;
-use reader::entries::FoundLabel;
+use reader::entries::{FoundConstant, FoundFunction, FoundLabel};
 use records::Transfer;
 
 fn wide(x: u8) -> usize
-    ensures { λ r. ⌜ (r ≡ x) × (r < 256) ⌝ }
+    ensures { (result ≡ x) × (result < 256) }
 {
     x as usize
 }
@@ -31,8 +28,8 @@ fn wide(x: u8) -> usize
 
 // Puts the type t on top of the operands, where there are not 32 yet.
 fn push_type(t: u8, q: usize, st: &mut [u8]) -> Transfer
-    requires { ⌜ Holds (now st) × IsType t ⌝ }
-    ensures { λ a. ⌜ Pushes t q (now (st .entry)) a (now (st .exit)) ⌝ }
+    requires { Holds st.old × IsType t }
+    ensures { Pushes t q st.old result st.new }
 {
     if 32 <= st[2] {
         return Transfer::Breaks;
@@ -43,9 +40,9 @@ fn push_type(t: u8, q: usize, st: &mut [u8]) -> Transfer
 
 // `push`, of constant k.
 fn push_constant(file: &[u8], c: Sections, k: u32, q: usize, st: &mut [u8]) -> Transfer
-    requires { ⌜ Packed (now file) c × (refusal (now file) ≡ 0) ⌝ }
-    requires { ⌜ Holds (now st) ⌝ }
-    ensures { λ a. ⌜ ((b : Body) → Judges (read (now (file .entry))) b (Push k) q (now (st .entry)) a (now (st .exit))) ⌝ }
+    requires packed { Packed file.now c × (refusal file.now ≡ 0) }
+    requires holds { Holds st.old }
+    ensures { (b : Body) → Judges (read file.now) b (Push k) q st.old result st.new }
 {
     let found = view::constant(file, c, k as usize);
     let FoundConstant::Constant(v) = found else {
@@ -57,6 +54,7 @@ fn push_constant(file: &[u8], c: Sections, k: u32, q: usize, st: &mut [u8]) -> T
 // ---- labels
 
 // A label's place.
+#[derive(Clone, Copy)]
 enum FoundPlace {
     At(usize),
     Nothing,
@@ -64,8 +62,8 @@ enum FoundPlace {
 
 // The place of label k, where it is one of this body's.
 fn target(file: &[u8], c: Sections, owner: usize, k: u32) -> FoundPlace
-    requires { ⌜ Packed (now file) c ⌝ }
-    ensures { λ r. ⌜ placeOf r ≡ owned (bodyOf owner) (read (now (file .entry)) .label k) ⌝ }
+    requires { Packed file.now c }
+    ensures { place_of result ≡ owned (body_of owner) ((read file.now).label k) }
 {
     let found = view::label(file, c, k as usize);
     let FoundLabel::Record(l) = found else {
@@ -79,8 +77,8 @@ fn target(file: &[u8], c: Sections, owner: usize, k: u32) -> FoundPlace
 
 // `jmp`.
 fn jmp(file: &[u8], c: Sections, owner: usize, k: u32) -> Transfer
-    requires { ⌜ Packed (now file) c ⌝ }
-    ensures { λ a. ⌜ ((q : ℕ) (r : List ℕ) → Holds r → Judges (read (now (file .entry))) (bodyOf owner) (Jmp k) q r a r) ⌝ }
+    requires { Packed file.now c }
+    ensures { (q : ℕ) (r : List ℕ) → Holds r → Judges (read file.now) (body_of owner) (Jmp k) q r result r }
 {
     let to = target(file, c, owner, k);
     let FoundPlace::At(place) = to else {
@@ -91,9 +89,9 @@ fn jmp(file: &[u8], c: Sections, owner: usize, k: u32) -> Transfer
 
 // A conditional branch. Both ways are open, and the int leaves the operands on both.
 fn branch(file: &[u8], c: Sections, owner: usize, k: u32, q: usize, st: &mut [u8]) -> Transfer
-    requires { ⌜ Packed (now file) c ⌝ }
-    requires { ⌜ Holds (now st) ⌝ }
-    ensures { λ a. ⌜ ((o : Condition) → Judges (read (now (file .entry))) (bodyOf owner) (Branch o k) q (now (st .entry)) a (now (st .exit))) ⌝ }
+    requires packed { Packed file.now c }
+    requires holds { Holds st.old }
+    ensures { (o : Condition) → Judges (read file.now) (body_of owner) (Branch o k) q st.old result st.new }
 {
     let to = target(file, c, owner, k);
     let FoundPlace::At(place) = to else {
@@ -114,10 +112,10 @@ fn branch(file: &[u8], c: Sections, owner: usize, k: u32, q: usize, st: &mut [u8
 
 // Takes the arguments of function k, which has n parameters, from the operands. Answers whether they have its types.
 fn take_arguments(file: &[u8], c: Sections, k: usize, n: usize, st: &mut [u8]) -> bool
-    requires { ⌜ Packed (now file) c × (k < c .functions) × (n ≤ 8) ⌝ }
-    requires { ⌜ ((j : ℕ) → j < n → IsType (byte (functionsIn (now file)) (functionAt (edition (now file)) k + 10 + j))) ⌝ }
-    requires { ⌜ Holds (now st) ⌝ }
-    ensures { λ r. ⌜ Stripped (paramsFrom (functionsIn (now (file .entry))) (functionAt (edition (now (file .entry))) k + 10) n) (now (st .entry)) r (now (st .exit)) ⌝ }
+    requires packed { Packed file.now c × (k < c.functions) × (n ≤ 8) }
+    requires by_index { (j : ℕ) → j < n → IsType (byte (functions_in file.now) (function_at (edition file.now) k + 10 + j)) }
+    requires holds { Holds st.old }
+    ensures { Stripped (params_from (functions_in file.now) (function_at (edition file.now) k + 10) n) st.old result st.new }
 {
     let mut j = n;
     while 0 < j {
@@ -137,9 +135,9 @@ fn take_arguments(file: &[u8], c: Sections, k: usize, n: usize, st: &mut [u8]) -
 
 // `call`. It goes past itself, the result in place of the arguments.
 fn call(file: &[u8], c: Sections, k: u32, q: usize, st: &mut [u8]) -> Transfer
-    requires { ⌜ Packed (now file) c × (refusal (now file) ≡ 0) ⌝ }
-    requires { ⌜ Holds (now st) ⌝ }
-    ensures { λ a. ⌜ ((b : Body) → Judges (read (now (file .entry))) b (Call k) q (now (st .entry)) a (now (st .exit))) ⌝ }
+    requires packed { Packed file.now c × (refusal file.now ≡ 0) }
+    requires holds { Holds st.old }
+    ensures { (b : Body) → Judges (read file.now) b (Call k) q st.old result st.new }
 {
     let number = k as usize;
     let found = view::function(file, c, number);
@@ -158,9 +156,9 @@ fn call(file: &[u8], c: Sections, k: u32, q: usize, st: &mut [u8]) -> Transfer
 
 // `ret`. The entry's number is no function's.
 fn ret(file: &[u8], c: Sections, owner: usize, st: &[u8]) -> Transfer
-    requires { ⌜ Packed (now file) c × (refusal (now file) ≡ 0) ⌝ }
-    requires { ⌜ Holds (now st) ⌝ }
-    ensures { λ a. ⌜ ((q : ℕ) → Judges (read (now (file .entry))) (bodyOf owner) Ret q (now (st .entry)) a (now (st .entry))) ⌝ }
+    requires packed { Packed file.now c × (refusal file.now ≡ 0) }
+    requires holds { Holds st.now }
+    ensures { (q : ℕ) → Judges (read file.now) (body_of owner) Ret q st.now result st.now }
 {
     let found = view::function(file, c, owner);
     let FoundFunction::Record(f) = found else {
@@ -184,16 +182,16 @@ fn ret(file: &[u8], c: Sections, owner: usize, st: &[u8]) -> Transfer
 // Whether the module is of edition 4. What edition 4 alone has is read from the header where it is met: a walk keeps its
 // registers for what it always needs.
 fn fourth(file: &[u8]) -> bool
-    requires { ⌜ refusal (now file) ≡ 0 ⌝ }
-    ensures { λ r. ⌜ r ≡ eqb (edition (now (file .entry))) 4 ⌝ }
+    requires { refusal file.now ≡ 0 }
+    ensures { result ≡ eqb (edition file.now) 4 }
 {
     format::word(file, 0) == 4
 }
 
 // How many structures are declared.
 fn declared(file: &[u8]) -> usize
-    requires { ⌜ refusal (now file) ≡ 0 ⌝ }
-    ensures { λ r. ⌜ r ≡ structures (now (file .entry)) ⌝ }
+    requires { refusal file.now ≡ 0 }
+    ensures { result ≡ structures file.now }
 {
     let some = fourth(file);
     if !some {
@@ -204,16 +202,16 @@ fn declared(file: &[u8]) -> usize
 
 // Whether `new` takes the type number k where there are so many structures, which are numbered from 10 on.
 fn makes(structures: usize, k: usize) -> bool
-    requires { ⌜ structures ≤ 16 ⌝ }
-    ensures { λ r. ⌜ r ≡ made structures k ⌝ }
+    requires { structures ≤ 16 }
+    ensures { result ≡ made structures k }
 {
     (k == 3) | (k == 4) | (k == 6) | ((10 <= k) & (k < 10 + structures))
 }
 
 // `new` and `gcnew`, of the type number n. The type byte of `null` or `gcnull` says which of the two.
 fn new(null: u8, structures: usize, n: u32, q: usize, st: &mut [u8]) -> Transfer
-    requires { ⌜ Holds (now st) × (structures ≤ 16) × (128 ≤ null) × (null ≤ 192) ⌝ }
-    ensures { λ a. ⌜ ((g : Bool) → null ≡ pointerByte g → (m : Module) (b : Body) → Numbered m structures → Judges m b (New g n) q (now (st .entry)) a (now (st .exit))) ⌝ }
+    requires { Holds st.old × (structures ≤ 16) × (128 ≤ null) × (null ≤ 192) }
+    ensures { (g : Bool) → null ≡ pointer_byte g → (m : Module) (b : Body) → Numbered m structures → Judges m b (New g n) q st.old result st.new }
 {
     let k = n as usize;
     let there = makes(structures, k);
@@ -225,8 +223,8 @@ fn new(null: u8, structures: usize, n: u32, q: usize, st: &mut [u8]) -> Transfer
 
 // The type of field n of structure i, counted from 0; 0 where there is none.
 fn field(file: &[u8], i: usize, n: usize) -> u8
-    requires { ⌜ refusal (now file) ≡ 0 ⌝ }
-    ensures { λ r. ⌜ r ≡ fieldType (read (now (file .entry))) (10 + i) n ⌝ }
+    requires { refusal file.now ≡ 0 }
+    ensures { result ≡ field_type (read file.now) (10 + i) n }
 {
     let count = declared(file);
     if count <= i {
@@ -242,9 +240,9 @@ fn field(file: &[u8], i: usize, n: usize) -> u8
 // `flea`. A pointer to structure i, counted from 0, has the type byte 138 + i, a managed one 202 + i: what it points to are its low
 // six bits, the rest stays.
 fn flea(file: &[u8], n: u32, q: usize, st: &mut [u8]) -> Transfer
-    requires { ⌜ refusal (now file) ≡ 0 ⌝ }
-    requires { ⌜ Holds (now st) ⌝ }
-    ensures { λ a. ⌜ ((b : Body) → Judges (read (now (file .entry))) b (Flea n) q (now (st .entry)) a (now (st .exit))) ⌝ }
+    requires file_value { refusal file.now ≡ 0 }
+    requires holds { Holds st.old }
+    ensures { (b : Body) → Judges (read file.now) b (Flea n) q st.old result st.new }
 {
     let h = wide(st[2]);
     if h < 1 {
@@ -272,9 +270,9 @@ fn flea(file: &[u8], n: u32, q: usize, st: &mut [u8]) -> Transfer
 
 // The last of those that need neither word nor file.
 fn other(b: u8, p: usize, st: &mut [u8]) -> Transfer
-    requires { ⌜ Known b × Outside b seconds × (p < 2 ^ 32) ⌝ }
-    requires { ⌜ Holds (now st) ⌝ }
-    ensures { λ a. ⌜ ((m : Module) (d : Body) (w : ℕ) → Moves m d b w p (now (st .entry)) a (now (st .exit))) ⌝ }
+    requires known { Known b × Outside b seconds × (p < 2 ^ 32) }
+    requires holds { Holds st.old }
+    ensures { (m : Module) (d : Body) (w : ℕ) → Moves m d b w p st.old result st.new }
 {
     match b {
         0x13 => records::operands::keep(6, p + 1, st),
@@ -306,9 +304,9 @@ fn other(b: u8, p: usize, st: &mut [u8]) -> Transfer
 
 // Those that need neither word nor file.
 fn single(b: u8, p: usize, st: &mut [u8]) -> Transfer
-    requires { ⌜ Known b × Outside b firsts × (p < 2 ^ 32) ⌝ }
-    requires { ⌜ Holds (now st) ⌝ }
-    ensures { λ a. ⌜ ((m : Module) (d : Body) (w : ℕ) → Moves m d b w p (now (st .entry)) a (now (st .exit))) ⌝ }
+    requires known { Known b × Outside b firsts × (p < 2 ^ 32) }
+    requires holds { Holds st.old }
+    ensures { (m : Module) (d : Body) (w : ℕ) → Moves m d b w p st.old result st.new }
 {
     match b {
         0x02 => records::operands::pop(p + 1, st),
@@ -338,9 +336,9 @@ pub fn transfer(
     b: u8,
     st: &mut [u8],
 ) -> Transfer
-    requires { ⌜ Packed (now file) c × (refusal (now file) ≡ 0) ⌝ }
-    requires { ⌜ Holds (now st) × KeyAt (now code) p b ⌝ }
-    ensures { λ a. ⌜ Moves (read (now (file .entry))) (bodyOf owner) b (word 4 (now (code .entry)) (p + 1)) p (now (st .entry)) a (now (st .exit)) ⌝ }
+    requires packed { Packed file.now c × (refusal file.now ≡ 0) }
+    requires holds { Holds st.old × KeyAt code.now p b }
+    ensures { Moves (read file.now) (body_of owner) b (word 4 code.now (p + 1)) p st.old result st.new }
 {
     match b {
         0x01 => push_constant(file, c, keys::operand(code, p), p + 5, st),

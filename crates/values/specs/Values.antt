@@ -1,51 +1,47 @@
 -- Values, and what operations give for them, in the rules' terms.
-use mathlib.Core.Path.{_≡_}
-use mathlib.Core.Bool.{Bool, true, false, cond}
-use mathlib.Core.List.{[], _∷_}
-use Prim.Native.Nat.{ℕ}
-use lib.Dec.{eqb, leb}
-use Rattle·rules.specs.Doubles.{decodeOf, encodeOf}
-use Rattle·rules.specs.Instructions.{numKind, ptrKind}
-use Rattle·rules.specs.Operations.{low, apply1, apply2, Result, yields, raises}
-use Rattle·rules.specs.Stack.{slot}
-use Rattle·rules.specs.declared.Binary.{Binary}
-use Rattle·rules.specs.declared.Num.{Num}
-use Rattle·rules.specs.declared.Slot.{Slot}
-use Rattle·rules.specs.declared.Unary.{Unary}
-use Rattle·rules.specs.declared.Unary.the-variants.{Convert}
-use Rattle·soundness.specs.Kinds.{Kind}
-use Rattle·values·specs.specs.declared.Value.{Value}
-use Rattle·values·specs.specs.declared.Value.the-variants.{Int, Long, Double, Pointer}
-use Rattle·values·specs.specs.declared.Computed.{Computed}
-use Rattle·values·specs.specs.declared.Computed.the-variants.{Yields, Raises}
+use Rattle.std.specs.Prelude.{◌≡◌, Bool, cond, [], ◌∷◌, ℕ, eqb, leb}
+use Rattle.rules.specs.Doubles.{decode_of, encode_of}
+use Rattle.rules.specs.Instructions.{num_kind, ptr_kind}
+use Rattle.rules.specs.Operations.{low, apply1, apply2, Result, yields, raises}
+use Rattle.rules.specs.Stack.{slot}
+use Rattle.rules.specs.declared.Binary.{Binary}
+use Rattle.rules.specs.declared.Num.{Num}
+use Rattle.rules.specs.declared.Slot.{Slot}
+use Rattle.rules.specs.declared.Unary.{Unary}
+use Rattle.rules.specs.declared.Unary.TheVariants.{Convert}
+use Rattle.soundness.specs.Kinds.{Kind}
+use Rattle.values.specs.declared.Value.{Value}
+use Rattle.values.specs.declared.Value.TheVariants.{Int, Long, Double, Pointer}
+use Rattle.values.specs.declared.Computed.{Computed}
+use Rattle.values.specs.declared.Computed.TheVariants.{Yields, Raises}
 
 -- the value of a slot
-unfoldable pub valueOf : Slot → Value
-valueOf v =
-    cond (eqb (v .kind) 3) (Int (low (v .payload)))
-    (cond (eqb (v .kind) 6) (Double (decodeOf (v .payload)))
-    (cond (leb 7 (v .kind)) (Pointer (eqb (v .kind) 8) (v .payload)) (Long (v .payload))))
+unfoldable pub value_of : Slot → Value
+value_of v =
+    cond (eqb v.kind 3) (Int (low v.payload))
+    (cond (eqb v.kind 6) (Double (decode_of v.payload))
+    (cond (leb 7 v.kind) (Pointer (eqb v.kind 8) v.payload) (Long v.payload)))
 
 -- the type number and the payload of a value, and its slot
-abbrev pub kindOfValue : Value → ℕ
-kindOfValue (Int n) = 3
-kindOfValue (Long n) = 4
-kindOfValue (Double x) = 6
-kindOfValue (Pointer g p) = ptrKind g
+abbrev pub kind_of_value : Value → ℕ
+kind_of_value (Int n) = 3
+kind_of_value (Long n) = 4
+kind_of_value (Double x) = 6
+kind_of_value (Pointer g p) = ptr_kind g
 
-abbrev pub payloadOf : Value → ℕ
-payloadOf (Int n) = n
-payloadOf (Long n) = n
-payloadOf (Double x) = encodeOf x
-payloadOf (Pointer g p) = p
+abbrev pub payload_of : Value → ℕ
+payload_of (Int n) = n
+payload_of (Long n) = n
+payload_of (Double x) = encode_of x
+payload_of (Pointer g p) = p
 
-abbrev pub slotOf : Value → Slot
-slotOf v = slot (kindOfValue v) (payloadOf v)
+abbrev pub slot_of : Value → Slot
+slot_of v = slot (kind_of_value v) (payload_of v)
 
 -- the result that an answer stands for
-abbrev pub resultOf : Computed → Result
-resultOf (Yields v) = yields (slotOf v ∷ [])
-resultOf (Raises e) = raises e
+abbrev pub result_of : Computed → Result
+result_of (Yields v) = yields (slot_of v ∷ [])
+result_of (Raises e) = raises e
 
 -- one slot
 abbrev pub gives : ℕ → ℕ → Result
@@ -53,12 +49,12 @@ gives k x = yields (slot k x ∷ [])
 
 -- r is what o gives for two slots of which a, the deeper, and b are the values
 abbrev pub Computes : Binary → Value → Value → Computed → Type 0
-Computes o a b r = (s u : Slot) → Kind (s .kind) → Kind (u .kind) → a ≡ valueOf s → b ≡ valueOf u → resultOf r ≡ apply2 o s u
+Computes o a b r = (s u : Slot) → Kind s.kind → Kind u.kind → a ≡ value_of s → b ≡ value_of u → result_of r ≡ apply2 o s u
 
 -- r is what o gives for a slot of the value a
 abbrev pub Turns : Unary → Value → Computed → Type 0
-Turns o a r = (s : Slot) → Kind (s .kind) → a ≡ valueOf s → resultOf r ≡ apply1 o s
+Turns o a r = (s : Slot) → Kind s.kind → a ≡ value_of s → result_of r ≡ apply1 o s
 
 -- the same of a conversion to the type n, which a slot does not have; b: 44 where a double does not fit
 abbrev pub Converts : Bool → Num → Value → Computed → Type 0
-Converts b n a r = (s : Slot) → Kind (s .kind) → (s .kind ≡ numKind n → ⊥) → a ≡ valueOf s → resultOf r ≡ apply1 (Convert b n) s
+Converts b n a r = (s : Slot) → Kind s.kind → (s.kind ≡ num_kind n → ⊥) → a ≡ value_of s → result_of r ≡ apply1 (Convert b n) s

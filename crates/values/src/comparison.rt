@@ -1,15 +1,13 @@
 // `cmp` and `icmp` on two values; a is the deeper operand. Doubles and pointers have one order; a NaN has none.
-ghost use mathlib.Core.Bool.{true, false};
-ghost use Rattle·rules.specs.declared.Binary.the-variants.{Cmp};
-ghost use Rattle·values·specs.specs.Values.{Computes};
-use crate::Computed;
-use crate::DOUBLE_UNORDERED;
-use crate::STACK_DIFFERENTTYPE;
-use crate::Value;
+ghost use Rattle.std.specs.Prelude.{true, false};
+ghost use Rattle.rules.specs.declared.Binary.TheVariants.{Cmp};
+ghost use Rattle.values.specs.Values.{Computes};
+
+use crate::{Computed, DOUBLE_UNORDERED, STACK_DIFFERENTTYPE, Value};
 
 // `cmp`.
 pub fn cmp_values(a: Value, b: Value) -> Computed
-    ensures { λ r. ⌜ Computes (Cmp false) a b r ⌝ }
+    ensures { Computes (Cmp false) a b result }
 {
     match a {
         Value::Int(x) => {
@@ -48,7 +46,7 @@ pub fn cmp_values(a: Value, b: Value) -> Computed
 
 // `icmp`.
 pub fn icmp_values(a: Value, b: Value) -> Computed
-    ensures { λ r. ⌜ Computes (Cmp true) a b r ⌝ }
+    ensures { Computes (Cmp true) a b result }
 {
     match a {
         Value::Int(x) => {

@@ -1,6 +1,9 @@
 // Values of slots, and what operations on them give.
-ghost use mathlib.Core.Path.{_≡_};
-ghost use Rattle·values·specs.specs.Values.{valueOf, kindOfValue, payloadOf, slotOf};
+#![tactic(auto)]
+
+ghost use Rattle.std.specs.Prelude.{◌≡◌};
+ghost use Rattle.values.specs.Values.{value_of, kind_of_value, payload_of, slot_of};
+
 use rules::Slot;
 
 pub mod comparison;
@@ -17,6 +20,7 @@ pub(crate) const DOUBLE_UNORDERED: u32 = 35;
 pub(crate) const CONVERT_OUTOFRANGE: u32 = 44;
 
 // An int, a long, a double with its number, or a pointer with its address; true: a managed one.
+#[derive(Clone, Copy)]
 pub enum Value {
     Int(u32),
     Long(u64),
@@ -25,6 +29,7 @@ pub enum Value {
 }
 
 // The value that replaces the operands, or the exception that they raise.
+#[derive(Clone, Copy)]
 pub enum Computed {
     Yields(Value),
     Raises(u32),
@@ -33,7 +38,7 @@ pub enum Computed {
 // The value of a slot. The types are 3, 4, 6, 7 and 8; of other numbers those from 7 on are taken as a pointer's, the rest as a
 // long's, so that pointers are told from numbers by one test.
 pub fn value_of(s: Slot) -> Value
-    ensures { λ r. ⌜ r ≡ valueOf s ⌝ }
+    ensures { result ≡ value_of s }
 {
     if s.kind == 3 {
         return Value::Int(words::low(s.payload));
@@ -48,7 +53,7 @@ pub fn value_of(s: Slot) -> Value
 }
 
 pub fn payload_of(v: Value) -> u64
-    ensures { λ r. ⌜ r ≡ payloadOf v ⌝ }
+    ensures { result ≡ payload_of v }
 {
     match v {
         Value::Int(n) => n as u64,
@@ -59,7 +64,7 @@ pub fn payload_of(v: Value) -> u64
 }
 
 fn kind_of(v: Value) -> u8
-    ensures { λ r. ⌜ r ≡ kindOfValue v ⌝ }
+    ensures { result ≡ kind_of_value v }
 {
     match v {
         Value::Int(_) => 3,
@@ -71,7 +76,7 @@ fn kind_of(v: Value) -> u8
 
 // The slot of a value.
 pub fn slot_of(v: Value) -> Slot
-    ensures { λ r. ⌜ r ≡ slotOf v ⌝ }
+    ensures { result ≡ slot_of v }
 {
     let kind = kind_of(v);
     let payload = payload_of(v);

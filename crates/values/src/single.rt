@@ -1,17 +1,16 @@
 // `neg`, `not`, conversions, and a number one up or down.
-ghost use mathlib.Core.Bool.{true, false};
-ghost use Rattle·rules.specs.declared.Num.the-variants.{Int as int, Long as long, Double as double};
-ghost use Rattle·rules.specs.declared.Unary.the-variants.{Neg, Not, Convert, Count};
-ghost use Rattle·values·specs.specs.Values.{Turns, Converts};
-use crate::CONVERT_OUTOFRANGE;
-use crate::Computed;
-use crate::DOUBLE_INVALIDFORDOUBLE;
-use crate::POINTER_INVALIDFORPOINTER;
-use crate::Value;
+ghost use Rattle.std.specs.Prelude.{true, false};
+ghost use Rattle.rules.specs.declared.Num.TheVariants.{Int as int, Long as long, Double as double};
+ghost use Rattle.rules.specs.declared.Unary.TheVariants.{Neg, Not, Convert, Count};
+ghost use Rattle.values.specs.Values.{Turns, Converts};
+
+use crate::{
+    CONVERT_OUTOFRANGE, Computed, DOUBLE_INVALIDFORDOUBLE, POINTER_INVALIDFORPOINTER, Value,
+};
 
 // `neg`: wraps, or flips a double's sign.
 pub fn neg_value(a: Value) -> Computed
-    ensures { λ r. ⌜ Turns Neg a r ⌝ }
+    ensures { Turns Neg a result }
 {
     match a {
         Value::Int(x) => Computed::Yields(Value::Int(words::neg32(x))),
@@ -23,7 +22,7 @@ pub fn neg_value(a: Value) -> Computed
 
 // `not`, of ints and longs.
 pub fn not_value(a: Value) -> Computed
-    ensures { λ r. ⌜ Turns Not a r ⌝ }
+    ensures { Turns Not a result }
 {
     match a {
         Value::Int(x) => Computed::Yields(Value::Int(words::not32(x))),
@@ -35,7 +34,7 @@ pub fn not_value(a: Value) -> Computed
 
 // `toi`, of what is no int. Where it does not raise 44, it is edition 1's.
 pub fn toi_value(raises: bool, a: Value) -> Computed
-    ensures { λ r. ⌜ Converts raises int a r ⌝ }
+    ensures { Converts raises int a result }
 {
     match a {
         Value::Int(x) => Computed::Yields(Value::Int(x)),
@@ -53,7 +52,7 @@ pub fn toi_value(raises: bool, a: Value) -> Computed
 
 // `tol`, in the same way.
 pub fn tol_value(raises: bool, a: Value) -> Computed
-    ensures { λ r. ⌜ Turns (Convert raises long) a r ⌝ }
+    ensures { Turns (Convert raises long) a result }
 {
     match a {
         Value::Int(x) => Computed::Yields(Value::Long(x as u64)),
@@ -71,7 +70,7 @@ pub fn tol_value(raises: bool, a: Value) -> Computed
 
 // `tod`, of what is no double.
 pub fn tod_value(a: Value) -> Computed
-    ensures { λ r. ⌜ Converts false double a r ⌝ }
+    ensures { Converts false double a result }
 {
     match a {
         Value::Int(x) => Computed::Yields(Value::Double(doubles::tod_int(x))),
@@ -83,7 +82,7 @@ pub fn tod_value(a: Value) -> Computed
 
 // `inc`, of the top value or of the number that a pointer names.
 pub fn inc_value(a: Value) -> Computed
-    ensures { λ r. ⌜ Turns (Count true) a r ⌝ }
+    ensures { Turns (Count true) a result }
 {
     match a {
         Value::Int(x) => Computed::Yields(Value::Int(words::add32(x, 1))),
@@ -95,7 +94,7 @@ pub fn inc_value(a: Value) -> Computed
 
 // `dec`.
 pub fn dec_value(a: Value) -> Computed
-    ensures { λ r. ⌜ Turns (Count false) a r ⌝ }
+    ensures { Turns (Count false) a result }
 {
     match a {
         Value::Int(x) => Computed::Yields(Value::Int(words::sub32(x, 1))),

@@ -1,69 +1,65 @@
 -- Laws of words of n bits, each once over the width. Assumes nothing.
-use mathlib.Core.Path.{_≡_, refl, sym, ap, ap₂, _∙_}
-use mathlib.Core.Bool.{Bool, true, false, not, xor, cond}
-use Prim.Native.Nat.{ℕ, zero, suc, _+_, _-_, _*_, _/_, _%_, _^_, _≤_, _<_, min}
-use native.Mathlib.Nat.{mod-eq-of-lt, div-le-self, mod-le, lt-of-le-of-lt, le-of-lt, pow-suc, sub-zero, mod-self, zero-mod, mul-add, add-mul, mul-assoc, mul-comm, mul-left-comm, add-assoc, add-comm, add-left-comm, mul-add-mod-self-left, div-add-mod', min-eq-left, min-eq-right, mul-mod-left, div-eq-of-lt, mul-le-mul-left, mul-lt-mul-of-pos-right, div-zero, mod-zero}
-use native.Mathlib.Omega.{arith}
-use lib.Dec.{ltb, eqb}
-use lib.IntN.{ℤ, pos, negsuc, negℤ, natAbs}
-use lib.Signed.{nonNeg, quotZ, remZ, ltZ}
-use lib.Pow.{pow-pos, pow-add, mod-mod-pow}
-use borrow.Author.Tests.{ltb-true, ltb-false, lt-ltb, le-ltb, eq-eqb, ne-eqb, eqb-true, eqb-false}
-use Rattle·rules.specs.Words.{addOf, negOf, signedOf, patternOf, idivOf, imodOf, shlOf, shrOf, sarOf, notOf, cmpOf, icmpOf, orderOf}
+use Rattle.std.proofs.Common.{◌≡◌, ℕ, zero, suc, ◌+◌, ◌-◌, ◌*◌, ◌/◌, ◌%◌, ◌^◌, ◌<◌, ◌≤◌, min, Bool, true, false, cond, not, eqb, ltb, ℤ, pos, negsuc, neg_ℤ, nat_abs, sym, refl, ap, ◌∙◌, ap₂, lt_of_le_of_lt, le_of_lt, add_assoc, mod-eq_of_lt, mul_assoc, mul_comm, add-mul, add_comm, mul-le-mul_left, mul-lt-mul_of_pos_right, pow-suc, div-add-mod', mul-add, div-le_self, mul_left_comm, arith, pow_pos, pow-add, ltb-false, ltb-true, le-ltb, lt-ltb, eq-eqb, ne_eqb, eqb-true}
+use mathlib.Core.Bool.{xor}
+use native.Mathlib.Nat.{mod-le, sub-zero, mod_self, zero-mod, add_left_comm, mul-add-mod_self_left, min-eq_left, min-eq_right, mul-mod_left, div-eq_of_lt, div-zero, mod-zero}
+use lib.Signed.{non_neg, quot_z, rem_z, lt_z}
+use lib.Pow.{mod-mod-pow}
+use borrow.Author.Tests.{eqb-false}
+use Rattle.rules.specs.Words.{add_of, neg_of, signed_of, pattern_of, idiv_of, imod_of, shl_of, shr_of, sar_of, not_of, cmp_of, icmp_of, order_of}
 
 -- ---- tests
 
 -- below m or not
-split-by {ℓ} : {X : Type ℓ} (t : Bool) (a m : ℕ) → ltb a m ≡ t → (a < m → X) → (m ≤ a → X) → X
-split-by true a m e f g = f (ltb-true a m e)
-split-by false a m e f g = g (ltb-false a m e)
+split_by {ℓ} : {X : Type ℓ} (t : Bool) (a m : ℕ) → ltb a m ≡ t → (a < m → X) → (m ≤ a → X) → X
+split_by true a m e f g = f (ltb-true a m e)
+split_by false a m e f g = g (ltb-false a m e)
 
 split {ℓ} : {X : Type ℓ} (a m : ℕ) → (a < m → X) → (m ≤ a → X) → X
-split a m = split-by (ltb a m) a m refl
+split a m = split_by (ltb a m) a m refl
 
 -- two tests that stand or fall together
-ltb-same : (x y u v : ℕ) → (x < y → u < v) → (y ≤ x → v ≤ u) → ltb x y ≡ ltb u v
-ltb-same x y u v f g =
+ltb_same : (x y u v : ℕ) → (x < y → u < v) → (y ≤ x → v ≤ u) → ltb x y ≡ ltb u v
+ltb_same x y u v f g =
     split x y (λ h. lt-ltb _ _ h ∙ sym (lt-ltb _ _ (f h))) (λ h. le-ltb _ _ h ∙ sym (le-ltb _ _ (g h)))
 
-eqb-by : (t : Bool) (x y u v : ℕ) → eqb x y ≡ t → (x ≡ y → u ≡ v) → (u ≡ v → x ≡ y) → eqb x y ≡ eqb u v
-eqb-by true x y u v e f g = e ∙ sym (eq-eqb u v (f (eqb-true x y e)))
-eqb-by false x y u v e f g = e ∙ sym (ne-eqb u v (λ q. eqb-false x y e (g q)))
+eqb_by : (t : Bool) (x y u v : ℕ) → eqb x y ≡ t → (x ≡ y → u ≡ v) → (u ≡ v → x ≡ y) → eqb x y ≡ eqb u v
+eqb_by true x y u v e f g = e ∙ sym (eq-eqb u v (f (eqb-true x y e)))
+eqb_by false x y u v e f g = e ∙ sym (ne_eqb u v (λ q. eqb-false x y e (g q)))
 
-xor-by : (s t : Bool) → xor s t ≡ cond s (not t) t
+xor_by : (s t : Bool) → xor s t ≡ cond s (not t) t
 unfolding xor
-xor-by true true = refl
-xor-by true false = refl
-xor-by false true = refl
-xor-by false false = refl
+xor_by true true = refl
+xor_by true false = refl
+xor_by false true = refl
+xor_by false false = refl
 
 -- ---- division by zero
 
-pub div-by-zero : (a b : ℕ) → b ≡ 0 → a / b ≡ 0
-div-by-zero a b e = rw e (div-zero a)
+pub div_by_zero : (a b : ℕ) → b ≡ 0 → a / b ≡ 0
+div_by_zero a b e = rw e (div-zero a)
 
-pub mod-by-zero : (a b : ℕ) → b ≡ 0 → a % b ≡ a
-mod-by-zero a b e = rw e (mod-zero a)
+pub mod_by_zero : (a b : ℕ) → b ≡ 0 → a % b ≡ a
+mod_by_zero a b e = rw e (mod-zero a)
 
 -- ---- signs and magnitudes
 
 -- a quotient and a remainder by the operands' signs and magnitudes
-quot-by-sign : (x y : ℤ)
-    → quotZ x y ≡ cond (xor (nonNeg x) (nonNeg y)) (negℤ (pos (natAbs x / natAbs y))) (pos (natAbs x / natAbs y))
+quot_by_sign : (x y : ℤ)
+    → quot_z x y ≡ cond (xor (non_neg x) (non_neg y)) (neg_ℤ (pos (nat_abs x / nat_abs y))) (pos (nat_abs x / nat_abs y))
 unfolding xor
-quot-by-sign (pos a) (pos b) = refl
-quot-by-sign (pos a) (negsuc b) = refl
-quot-by-sign (negsuc a) (pos b) = refl
-quot-by-sign (negsuc a) (negsuc b) = refl
+quot_by_sign (pos a) (pos b) = refl
+quot_by_sign (pos a) (negsuc b) = refl
+quot_by_sign (negsuc a) (pos b) = refl
+quot_by_sign (negsuc a) (negsuc b) = refl
 
-rem-by-sign : (x y : ℤ)
-    → remZ x y ≡ cond (not (nonNeg x)) (negℤ (pos (natAbs x % natAbs y))) (pos (natAbs x % natAbs y))
-rem-by-sign (pos a) y = refl
-rem-by-sign (negsuc a) y = refl
+rem_by_sign : (x y : ℤ)
+    → rem_z x y ≡ cond (not (non_neg x)) (neg_ℤ (pos (nat_abs x % nat_abs y))) (pos (nat_abs x % nat_abs y))
+rem_by_sign (pos a) y = refl
+rem_by_sign (negsuc a) y = refl
 
-sign-of : (t : Bool) (x y : ℕ) → nonNeg (cond t (pos x) (negsuc y)) ≡ t
-sign-of true x y = refl
-sign-of false x y = refl
+sign_of : (t : Bool) (x y : ℕ) → non_neg (cond t (pos x) (negsuc y)) ≡ t
+sign_of true x y = refl
+sign_of false x y = refl
 
 -- 2 ^ n is twice 2 ^ (n - 1)
 twice : (n : ℕ) → 0 < n → 2 ^ n ≡ 2 ^ (n - 1) + 2 ^ (n - 1)
@@ -71,104 +67,104 @@ twice zero p = omega arith
 twice (suc k) p = let e : suc k - 1 ≡ k = omega arith in rw (e, pow-suc) (omega arith)
 
 module _ (n : ℕ) where
-  pub sign : (a : ℕ) → nonNeg (signedOf n a) ≡ ltb a (2 ^ (n - 1))
-  unfolding signedOf
-  sign a = sign-of (ltb a (2 ^ (n - 1))) a (2 ^ n - suc a)
+  pub sign : (a : ℕ) → non_neg (signed_of n a) ≡ ltb a (2 ^ (n - 1))
+  unfolding signed_of
+  sign a = sign_of (ltb a (2 ^ (n - 1))) a (2 ^ n - suc a)
 
   pub signs : (a b : ℕ)
-      → xor (nonNeg (signedOf n a)) (nonNeg (signedOf n b))
+      → xor (non_neg (signed_of n a)) (non_neg (signed_of n b))
       ≡ cond (ltb a (2 ^ (n - 1))) (not (ltb b (2 ^ (n - 1)))) (ltb b (2 ^ (n - 1)))
-  signs a b = ap₂ xor (sign a) (sign b) ∙ xor-by (ltb a (2 ^ (n - 1))) (ltb b (2 ^ (n - 1)))
+  signs a b = ap₂ xor (sign a) (sign b) ∙ xor_by (ltb a (2 ^ (n - 1))) (ltb b (2 ^ (n - 1)))
 
-  low : (a : ℕ) → a < 2 ^ (n - 1) → signedOf n a ≡ pos a
-  unfolding signedOf
+  low : (a : ℕ) → a < 2 ^ (n - 1) → signed_of n a ≡ pos a
+  unfolding signed_of
   low a h = rw (lt-ltb _ _ h)
 
-  high : (a : ℕ) → 2 ^ (n - 1) ≤ a → signedOf n a ≡ negsuc (2 ^ n - suc a)
-  unfolding signedOf
+  high : (a : ℕ) → 2 ^ (n - 1) ≤ a → signed_of n a ≡ negsuc (2 ^ n - suc a)
+  unfolding signed_of
   high a h = rw (le-ltb _ _ h)
 
-  pub magnitude-low : (a : ℕ) → a < 2 ^ (n - 1) → natAbs (signedOf n a) ≡ a
-  magnitude-low a h = rw (low a h)
+  pub magnitude_low : (a : ℕ) → a < 2 ^ (n - 1) → nat_abs (signed_of n a) ≡ a
+  magnitude_low a h = rw (low a h)
 
-  pub magnitude-high : (a : ℕ) → 2 ^ (n - 1) ≤ a → a < 2 ^ n → natAbs (signedOf n a) ≡ negOf n a
-  magnitude-high a h l =
-      let q = pow-pos (n - 1) in
-      let e : (2 ^ n - a) % 2 ^ n ≡ 2 ^ n - a = mod-eq-of-lt (omega arith) in
+  pub magnitude_high : (a : ℕ) → 2 ^ (n - 1) ≤ a → a < 2 ^ n → nat_abs (signed_of n a) ≡ neg_of n a
+  magnitude_high a h l =
+      let q = pow_pos (n - 1) in
+      let e : (2 ^ n - a) % 2 ^ n ≡ 2 ^ n - a = mod-eq_of_lt (omega arith) in
       rw (high a h, e) (omega arith)
 
-  magnitude-lt : (a : ℕ) → a < 2 ^ n → natAbs (signedOf n a) < 2 ^ n
-  magnitude-lt a l =
-      let q = pow-pos (n - 1) in
+  magnitude_lt : (a : ℕ) → a < 2 ^ n → nat_abs (signed_of n a) < 2 ^ n
+  magnitude_lt a l =
+      let q = pow_pos (n - 1) in
       split a (2 ^ (n - 1)) (λ h. rw (low a h) l) (λ h. rw (high a h) (omega arith))
 
   -- the pattern of q and of -q
-  plus : (q : ℕ) → q < 2 ^ n → patternOf n (pos q) ≡ q
-  unfolding patternOf
-  plus q h = mod-eq-of-lt h
+  plus : (q : ℕ) → q < 2 ^ n → pattern_of n (pos q) ≡ q
+  unfolding pattern_of
+  plus q h = mod-eq_of_lt h
 
-  minus : (q : ℕ) → q < 2 ^ n → patternOf n (negℤ (pos q)) ≡ negOf n q
-  unfolding patternOf
-  minus zero h = rw (zero-mod, sub-zero, mod-self)
+  minus : (q : ℕ) → q < 2 ^ n → pattern_of n (neg_ℤ (pos q)) ≡ neg_of n q
+  unfolding pattern_of
+  minus zero h = rw (zero-mod, sub-zero, mod_self)
   minus (suc j) h =
-      let e : j % 2 ^ n ≡ j = mod-eq-of-lt (omega arith) in
-      let f : (2 ^ n - suc j) % 2 ^ n ≡ 2 ^ n - suc j = mod-eq-of-lt (omega arith) in
+      let e : j % 2 ^ n ≡ j = mod-eq_of_lt (omega arith) in
+      let f : (2 ^ n - suc j) % 2 ^ n ≡ 2 ^ n - suc j = mod-eq_of_lt (omega arith) in
       rw (e, f)
 
-  pattern-by-sign : (t : Bool) (q : ℕ) → q < 2 ^ n → patternOf n (cond t (negℤ (pos q)) (pos q)) ≡ cond t (negOf n q) q
-  pattern-by-sign true q h = minus q h
-  pattern-by-sign false q h = plus q h
+  pattern_by_sign : (t : Bool) (q : ℕ) → q < 2 ^ n → pattern_of n (cond t (neg_ℤ (pos q)) (pos q)) ≡ cond t (neg_of n q) q
+  pattern_by_sign true q h = minus q h
+  pattern_by_sign false q h = plus q h
 
-  pub idiv-law : (a b : ℕ) → a < 2 ^ n
-      → idivOf n a b
-      ≡ cond (xor (nonNeg (signedOf n a)) (nonNeg (signedOf n b)))
-      (negOf n (natAbs (signedOf n a) / natAbs (signedOf n b)))
-      (natAbs (signedOf n a) / natAbs (signedOf n b))
-  unfolding idivOf
-  idiv-law a b l =
-      ap (patternOf n) (quot-by-sign (signedOf n a) (signedOf n b))
-      ∙ pattern-by-sign (xor (nonNeg (signedOf n a)) (nonNeg (signedOf n b))) (natAbs (signedOf n a) / natAbs (signedOf n b))
-      (lt-of-le-of-lt (div-le-self _ _) (magnitude-lt a l))
+  pub idiv_law : (a b : ℕ) → a < 2 ^ n
+      → idiv_of n a b
+      ≡ cond (xor (non_neg (signed_of n a)) (non_neg (signed_of n b)))
+      (neg_of n (nat_abs (signed_of n a) / nat_abs (signed_of n b)))
+      (nat_abs (signed_of n a) / nat_abs (signed_of n b))
+  unfolding idiv_of
+  idiv_law a b l =
+      ap (pattern_of n) (quot_by_sign (signed_of n a) (signed_of n b))
+      ∙ pattern_by_sign (xor (non_neg (signed_of n a)) (non_neg (signed_of n b))) (nat_abs (signed_of n a) / nat_abs (signed_of n b))
+      (lt_of_le_of_lt (div-le_self _ _) (magnitude_lt a l))
 
-  pub imod-law : (a b : ℕ) → a < 2 ^ n
-      → imodOf n a b
-      ≡ cond (not (nonNeg (signedOf n a)))
-      (negOf n (natAbs (signedOf n a) % natAbs (signedOf n b)))
-      (natAbs (signedOf n a) % natAbs (signedOf n b))
-  unfolding imodOf
-  imod-law a b l =
-      ap (patternOf n) (rem-by-sign (signedOf n a) (signedOf n b))
-      ∙ pattern-by-sign (not (nonNeg (signedOf n a))) (natAbs (signedOf n a) % natAbs (signedOf n b))
-      (lt-of-le-of-lt (mod-le _ _) (magnitude-lt a l))
+  pub imod_law : (a b : ℕ) → a < 2 ^ n
+      → imod_of n a b
+      ≡ cond (not (non_neg (signed_of n a)))
+      (neg_of n (nat_abs (signed_of n a) % nat_abs (signed_of n b)))
+      (nat_abs (signed_of n a) % nat_abs (signed_of n b))
+  unfolding imod_of
+  imod_law a b l =
+      ap (pattern_of n) (rem_by_sign (signed_of n a) (signed_of n b))
+      ∙ pattern_by_sign (not (non_neg (signed_of n a))) (nat_abs (signed_of n a) % nat_abs (signed_of n b))
+      (lt_of_le_of_lt (mod-le _ _) (magnitude_lt a l))
 
   -- ---- shifts, by whether the count is below the width
 
-  pub shl-in : (a k : ℕ) → k < n → shlOf n a k ≡ a * 2 ^ k % 2 ^ n
-  unfolding shlOf
-  shl-in a k h = rw (min-eq-left (le-of-lt h))
+  pub shl_in : (a k : ℕ) → k < n → shl_of n a k ≡ a * 2 ^ k % 2 ^ n
+  unfolding shl_of
+  shl_in a k h = rw (min-eq_left (le_of_lt h))
 
-  pub shl-out : (a k : ℕ) → n ≤ k → shlOf n a k ≡ 0
-  unfolding shlOf
-  shl-out a k h = rw (min-eq-right h) (mul-mod-left a (2 ^ n))
+  pub shl_out : (a k : ℕ) → n ≤ k → shl_of n a k ≡ 0
+  unfolding shl_of
+  shl_out a k h = rw (min-eq_right h) (mul-mod_left a (2 ^ n))
 
-  pub shr-in : (a k : ℕ) → k < n → shrOf n a k ≡ a / 2 ^ k
-  unfolding shrOf
-  shr-in a k h = rw (min-eq-left (le-of-lt h))
+  pub shr_in : (a k : ℕ) → k < n → shr_of n a k ≡ a / 2 ^ k
+  unfolding shr_of
+  shr_in a k h = rw (min-eq_left (le_of_lt h))
 
-  pub shr-out : (a k : ℕ) → a < 2 ^ n → n ≤ k → shrOf n a k ≡ 0
-  unfolding shrOf
-  shr-out a k l h = rw (min-eq-right h) (div-eq-of-lt l)
+  pub shr_out : (a k : ℕ) → a < 2 ^ n → n ≤ k → shr_of n a k ≡ 0
+  unfolding shr_of
+  shr_out a k l h = rw (min-eq_right h) (div-eq_of_lt l)
 
-  pub sar-low : (a k : ℕ) → a < 2 ^ (n - 1) → a < 2 ^ n → sarOf n a k ≡ shrOf n a k
-  unfolding sarOf shrOf
-  sar-low a k h l = rw (low a h) (plus _ (lt-of-le-of-lt (div-le-self _ _) l))
+  pub sar_low : (a k : ℕ) → a < 2 ^ (n - 1) → a < 2 ^ n → sar_of n a k ≡ shr_of n a k
+  unfolding sar_of shr_of
+  sar_low a k h l = rw (low a h) (plus _ (lt_of_le_of_lt (div-le_self _ _) l))
 
-  pub sar-high : (a k : ℕ) → 2 ^ (n - 1) ≤ a → a < 2 ^ n → sarOf n a k ≡ notOf n (shrOf n (notOf n a) k)
-  unfolding sarOf shrOf notOf patternOf
-  sar-high a k h l =
+  pub sar_high : (a k : ℕ) → 2 ^ (n - 1) ≤ a → a < 2 ^ n → sar_of n a k ≡ not_of n (shr_of n (not_of n a) k)
+  unfolding sar_of shr_of not_of pattern_of
+  sar_high a k h l =
       let e : 2 ^ n - suc a ≡ 2 ^ n - 1 - a = omega arith in
-      let d : (2 ^ n - 1 - a) / 2 ^ min k n ≤ 2 ^ n - 1 - a = div-le-self _ _ in
-      let f : (2 ^ n - 1 - a) / 2 ^ min k n % 2 ^ n ≡ (2 ^ n - 1 - a) / 2 ^ min k n = mod-eq-of-lt (omega arith) in
+      let d : (2 ^ n - 1 - a) / 2 ^ min k n ≤ 2 ^ n - 1 - a = div-le_self _ _ in
+      let f : (2 ^ n - 1 - a) / 2 ^ min k n % 2 ^ n ≡ (2 ^ n - 1 - a) / 2 ^ min k n = mod-eq_of_lt (omega arith) in
       rw (high a h, e, f) (omega arith)
 
 -- ---- order
@@ -176,79 +172,79 @@ module _ (n : ℕ) where
 module _ (n : ℕ) (p : 0 < n) where
   -- the sign bit turned over
   abbrev flip : ℕ → ℕ
-  flip a = addOf n a (2 ^ (n - 1))
+  flip a = add_of n a (2 ^ (n - 1))
 
-  flip-low : (a : ℕ) → a < 2 ^ (n - 1) → flip a ≡ a + 2 ^ (n - 1)
-  flip-low a h = let tw = twice n p in mod-eq-of-lt (omega arith)
+  flip_low : (a : ℕ) → a < 2 ^ (n - 1) → flip a ≡ a + 2 ^ (n - 1)
+  flip_low a h = let tw = twice n p in mod-eq_of_lt (omega arith)
 
-  flip-high : (a : ℕ) → 2 ^ (n - 1) ≤ a → a < 2 ^ n → flip a ≡ a - 2 ^ (n - 1)
-  flip-high a h l =
+  flip_high : (a : ℕ) → 2 ^ (n - 1) ≤ a → a < 2 ^ n → flip a ≡ a - 2 ^ (n - 1)
+  flip_high a h l =
       let tw = twice n p in
       let e : a + 2 ^ (n - 1) ≡ 2 ^ n * 1 + (a - 2 ^ (n - 1)) = omega arith in
-      rw e (mul-add-mod-self-left (2 ^ n) 1 _ ∙ mod-eq-of-lt (omega arith))
+      rw e (mul-add-mod_self_left (2 ^ n) 1 _ ∙ mod-eq_of_lt (omega arith))
 
   module _ (a b : ℕ) (la : a < 2 ^ n) (lb : b < 2 ^ n) where
-    flip-order : ltZ (signedOf n b) (signedOf n a) ≡ ltb (flip b) (flip a)
-    flip-order =
+    flip_order : lt_z (signed_of n b) (signed_of n a) ≡ ltb (flip b) (flip a)
+    flip_order =
         let H = 2 ^ (n - 1) in
         let tw = twice n p in
         split a H
         (λ h. split b H
-        (λ k. rw (low n a h, low n b k, flip-low a h, flip-low b k)
-        (ltb-same b a (b + H) (a + H) (λ q. omega arith) (λ q. omega arith)))
-        (λ k. rw (low n a h, high n b k, flip-low a h, flip-high b k lb) (sym (lt-ltb (b - H) (a + H) (omega arith)))))
+        (λ k. rw (low n a h, low n b k, flip_low a h, flip_low b k)
+        (ltb_same b a (b + H) (a + H) (λ q. omega arith) (λ q. omega arith)))
+        (λ k. rw (low n a h, high n b k, flip_low a h, flip_high b k lb) (sym (lt-ltb (b - H) (a + H) (omega arith)))))
         (λ h. split b H
-        (λ k. rw (high n a h, low n b k, flip-high a h la, flip-low b k) (sym (le-ltb (b + H) (a - H) (omega arith))))
-        (λ k. rw (high n a h, high n b k, flip-high a h la, flip-high b k lb)
-        (ltb-same (2 ^ n - suc a) (2 ^ n - suc b) (b - H) (a - H) (λ q. omega arith) (λ q. omega arith))))
+        (λ k. rw (high n a h, low n b k, flip_high a h la, flip_low b k) (sym (le-ltb (b + H) (a - H) (omega arith))))
+        (λ k. rw (high n a h, high n b k, flip_high a h la, flip_high b k lb)
+        (ltb_same (2 ^ n - suc a) (2 ^ n - suc b) (b - H) (a - H) (λ q. omega arith) (λ q. omega arith))))
 
-    flip-back : flip a ≡ flip b → a ≡ b
-    flip-back e =
+    flip_back : flip a ≡ flip b → a ≡ b
+    flip_back e =
         let H = 2 ^ (n - 1) in
         let tw = twice n p in
         split a H
         (λ h. split b H
-        (λ k. let f = rw (flip-low a h, flip-low b k) at e in omega arith)
-        (λ k. let f = rw (flip-low a h, flip-high b k lb) at e in omega arith))
+        (λ k. let f = rw (flip_low a h, flip_low b k) at e in omega arith)
+        (λ k. let f = rw (flip_low a h, flip_high b k lb) at e in omega arith))
         (λ h. split b H
-        (λ k. let f = rw (flip-high a h la, flip-low b k) at e in omega arith)
-        (λ k. let f = rw (flip-high a h la, flip-high b k lb) at e in omega arith))
+        (λ k. let f = rw (flip_high a h la, flip_low b k) at e in omega arith)
+        (λ k. let f = rw (flip_high a h la, flip_high b k lb) at e in omega arith))
 
     -- the signed order is the unsigned one of the patterns with the sign bit turned over
-    pub icmp-law : icmpOf n a b ≡ cmpOf (addOf n a (2 ^ (n - 1))) (addOf n b (2 ^ (n - 1)))
-    unfolding icmpOf cmpOf
-    icmp-law = ap₂ orderOf flip-order (eqb-by (eqb a b) a b (flip a) (flip b) refl (λ e. ap flip e) flip-back)
+    pub icmp_law : icmp_of n a b ≡ cmp_of (add_of n a (2 ^ (n - 1))) (add_of n b (2 ^ (n - 1)))
+    unfolding icmp_of cmp_of
+    icmp_law = ap₂ order_of flip_order (eqb_by (eqb a b) a b (flip a) (flip b) refl (λ e. ap flip e) flip_back)
 
 -- ---- products
 
 regroup : (P a₀ a₁ b₀ b₁ : ℕ)
     → (a₁ * P + a₀) * (b₁ * P + b₀) ≡ (P * P) * (a₁ * b₁) + ((a₁ * b₀ + a₀ * b₁) * P + a₀ * b₀)
 regroup P a₀ a₁ b₀ b₁ =
-    simp (mul-add, add-mul, mul-assoc, mul-comm, mul-left-comm, add-assoc, add-comm, add-left-comm) refl
+    simp (mul-add, add-mul, mul_assoc, mul_comm, mul_left_comm, add_assoc, add_comm, add_left_comm) refl
 
-cross-out : (P q r z : ℕ) → (q * P + r) * P + z ≡ (P * P) * q + (r * P + z)
-cross-out P q r z = simp (add-mul, mul-assoc, mul-comm, add-assoc, add-comm, add-left-comm) refl
+cross_out : (P q r z : ℕ) → (q * P + r) * P + z ≡ (P * P) * q + (r * P + z)
+cross_out P q r z = simp (add-mul, mul_assoc, mul_comm, add_assoc, add_comm, add_left_comm) refl
 
 -- a product modulo P * P of numbers of two digits in base P: the product of the upper digits falls out
-mul-digits : (P a₀ a₁ b₀ b₁ : ℕ)
+mul_digits : (P a₀ a₁ b₀ b₁ : ℕ)
     → (a₁ * P + a₀) * (b₁ * P + b₀) % (P * P) ≡ ((a₁ * b₀ + a₀ * b₁) % P * P + a₀ * b₀) % (P * P)
-mul-digits P a₀ a₁ b₀ b₁ =
+mul_digits P a₀ a₁ b₀ b₁ =
     ap (λ (x : ℕ). x % (P * P)) (regroup P a₀ a₁ b₀ b₁)
-    ∙ mul-add-mod-self-left (P * P) (a₁ * b₁) _
+    ∙ mul-add-mod_self_left (P * P) (a₁ * b₁) _
     ∙ ap (λ (x : ℕ). (x * P + a₀ * b₀) % (P * P)) (sym (div-add-mod' (a₁ * b₀ + a₀ * b₁) P))
-    ∙ ap (λ (x : ℕ). x % (P * P)) (cross-out P _ _ (a₀ * b₀))
-    ∙ mul-add-mod-self-left (P * P) _ _
+    ∙ ap (λ (x : ℕ). x % (P * P)) (cross_out P _ _ (a₀ * b₀))
+    ∙ mul-add-mod_self_left (P * P) _ _
 
 -- the same of words of 2 h bits by their halves
-pub mul-halves : (h a b : ℕ)
+pub mul_halves : (h a b : ℕ)
     → ((a / 2 ^ h * (b % 2 ^ h) + a % 2 ^ h * (b / 2 ^ h)) % 2 ^ (h + h) % 2 ^ h * 2 ^ h + a % 2 ^ h * (b % 2 ^ h)) % 2 ^ (h + h)
     ≡ a * b % 2 ^ (h + h)
-mul-halves h a b =
+mul_halves h a b =
     rw (mod-mod-pow, pow-add)
-    (sym (mul-digits (2 ^ h) (a % 2 ^ h) (a / 2 ^ h) (b % 2 ^ h) (b / 2 ^ h))
+    (sym (mul_digits (2 ^ h) (a % 2 ^ h) (a / 2 ^ h) (b % 2 ^ h) (b / 2 ^ h))
     ∙ ap₂ (λ (x y : ℕ). x * y % (2 ^ h * 2 ^ h)) (div-add-mod' a (2 ^ h)) (div-add-mod' b (2 ^ h)))
 
 -- a product of two numbers of k bits has 2 k
 pub below : (k : ℕ) {a b : ℕ} → a < 2 ^ k → b < 2 ^ k → a * b < 2 ^ (k + k)
 below k {a} {b} ha hb =
-    rw pow-add (lt-of-le-of-lt (mul-le-mul-left a (le-of-lt hb)) (mul-lt-mul-of-pos-right ha (pow-pos k)))
+    rw pow-add (lt_of_le_of_lt (mul-le-mul_left a (le_of_lt hb)) (mul-lt-mul_of_pos_right ha (pow_pos k)))

@@ -1,18 +1,19 @@
 // The module writer: from tables that are lent separately to a module file in a lent output.
-ghost use mathlib.Core.Path.{_≡_};
-ghost use Prim.Native.Nat.{_+_, _<_, _≤_, _^_};
-ghost use lib.ListN.{length};
-ghost use Rattle·rules.specs.Bytes.{words, written};
-ghost use Rattle·rules.specs.Tables.{tables, headerSize};
-ghost use Rattle·rules.specs.Writing.{headerWords, tableRefusal, wrote};
-ghost use Rattle·rules.specs.Writing as Writing;
-ghost use Rattle·writer·specs.specs.Output.{Takes, filledWith};
+#![tactic(auto)]
+
+ghost use Rattle.std.specs.Prelude.{◌≡◌, ◌+◌, ◌<◌, ◌≤◌, ◌^◌, length};
+ghost use Rattle.rules.specs.Bytes.{words, written};
+ghost use Rattle.rules.specs.Tables.{tables, header_size};
+ghost use Rattle.rules.specs.Writing.{header_words, table_refusal, wrote};
+ghost use Rattle.rules.specs.Writing as Writing;
+ghost use Rattle.writer.specs.Output.{Takes, filled_with};
+
 use rules::WriteAnswer;
 
 // A section is copied into its own part of the output.
 pub fn put_section(out: &mut [u8], table: &[u8])
-    requires { ⌜ length (now out) ≡ length (now table) ⌝ }
-    ensures { λ r. ⌜ now (out .exit) ≡ now (table .entry) ⌝ }
+    requires { length out.old ≡ length table.now }
+    ensures { out.new ≡ table.now }
 {
     let n = table.len();
     let mut i = 0;
@@ -24,8 +25,8 @@ pub fn put_section(out: &mut [u8], table: &[u8])
 
 // Two words of the header: a count and an offset.
 fn put_pair(out: &mut [u8], at: usize, count: usize, offset: usize)
-    requires { ⌜ (at + 8 ≤ length (now out)) × (at ≤ 48) × (count < 2 ^ 32) × (offset < 2 ^ 32) ⌝ }
-    ensures { λ r. ⌜ now (out .exit) ≡ written 4 (written 4 (now (out .entry)) at count) (at + 4) offset ⌝ }
+    requires { (at + 8 ≤ length out.old) × (at ≤ 48) × (count < 2 ^ 32) × (offset < 2 ^ 32) }
+    ensures { out.new ≡ written 4 (written 4 out.old at count) (at + 4) offset }
 {
     memory::store32(out, at, count as u32);
     memory::store32(out, at + 4, offset as u32);
@@ -42,8 +43,8 @@ pub fn put_header(
     structures: usize,
     entry: usize,
 )
-    requires { ⌜ (length (now out) ≡ headerSize edition) × (edition < 2 ^ 32) × (headerSize edition + constants + functions + labels + code + structures < 2 ^ 32) × (entry < 2 ^ 32) ⌝ }
-    ensures { λ r. ⌜ now (out .exit) ≡ words (headerWords edition (headerSize edition) constants functions labels code structures entry) ⌝ }
+    requires { (length out.old ≡ header_size edition) × (edition < 2 ^ 32) × (header_size edition + constants + functions + labels + code + structures < 2 ^ 32) × (entry < 2 ^ 32) }
+    ensures { out.new ≡ words (header_words edition (header_size edition) constants functions labels code structures entry) }
 {
     let constants_at = out.len();
     let functions_at = constants_at + constants;
@@ -73,8 +74,8 @@ pub fn put(
     entry: usize,
     out: &mut [u8],
 )
-    requires { ⌜ Takes (now out) (tables edition (now constants) (now functions) (now labels) (now structures) (now code) entry) ⌝ }
-    ensures { λ r. ⌜ now (out .exit) ≡ filledWith (tables edition (now (constants .entry)) (now (functions .entry)) (now (labels .entry)) (now (structures .entry)) (now (code .entry)) entry) (now (out .entry)) ⌝ }
+    requires { Takes out.old (tables edition constants.now functions.now labels.now structures.now code.now entry) }
+    ensures { out.new ≡ filled_with (tables edition constants.now functions.now labels.now structures.now code.now entry) out.old }
 {
     let constants_at = format::header_size(edition);
     let functions_at = constants_at + constants.len();
@@ -109,7 +110,7 @@ fn table_refusal(
     code: &[u8],
     entry: usize,
 ) -> u32
-    ensures { λ r. ⌜ r ≡ tableRefusal (tables edition (now (constants .entry)) (now (functions .entry)) (now (labels .entry)) (now (structures .entry)) (now (code .entry)) entry) ⌝ }
+    ensures { result ≡ table_refusal (tables edition constants.now functions.now labels.now structures.now code.now entry) }
 {
     if (edition != 1) & (edition != 3) & (edition != 4) {
         return 2;
@@ -137,13 +138,7 @@ fn table_refusal(
         return 5;
     }
     reader::content_refusal(
-        edition,
-        constants,
-        functions,
-        labels,
-        structures,
-        code,
-        entry,
+        edition, constants, functions, labels, structures, code, entry,
     )
 }
 
@@ -158,8 +153,8 @@ fn deliver(
     entry: usize,
     out: &mut [u8],
 ) -> WriteAnswer
-    requires { ⌜ tableRefusal (tables edition (now constants) (now functions) (now labels) (now structures) (now code) entry) ≡ 0 ⌝ }
-    ensures { λ r. ⌜ wrote r (now (out .exit)) ≡ Writing.write (tables edition (now (constants .entry)) (now (functions .entry)) (now (labels .entry)) (now (structures .entry)) (now (code .entry)) entry) (now (out .entry)) ⌝ }
+    requires { table_refusal (tables edition constants.now functions.now labels.now structures.now code.now entry) ≡ 0 }
+    ensures { wrote result out.new ≡ Writing.write (tables edition constants.now functions.now labels.now structures.now code.now entry) out.old }
 {
     let header = format::header_size(edition);
     let tables = constants.len() + functions.len() + labels.len();
@@ -168,14 +163,7 @@ fn deliver(
         return WriteAnswer::Unwritten(16);
     }
     put(
-        edition,
-        constants,
-        functions,
-        labels,
-        structures,
-        code,
-        entry,
-        out,
+        edition, constants, functions, labels, structures, code, entry, out,
     );
     WriteAnswer::Written(length as u64)
 }
@@ -192,41 +180,21 @@ pub fn write(
     entry: usize,
     out: &mut [u8],
 ) -> WriteAnswer
-    ensures { λ r. ⌜ wrote r (now (out .exit)) ≡ Writing.write (tables edition (now (constants .entry)) (now (functions .entry)) (now (labels .entry)) (now (structures .entry)) (now (code .entry)) entry) (now (out .entry)) ⌝ }
+    ensures { wrote result out.new ≡ Writing.write (tables edition constants.now functions.now labels.now structures.now code.now entry) out.old }
 {
     let refusal = table_refusal(
-        edition,
-        constants,
-        functions,
-        labels,
-        structures,
-        code,
-        entry,
+        edition, constants, functions, labels, structures, code, entry,
     );
     if refusal != 0 {
         return WriteAnswer::Unwritten(refusal);
     }
     if edition == 4 {
         return deliver(
-            4,
-            constants,
-            functions,
-            labels,
-            structures,
-            code,
-            entry,
-            out,
+            4, constants, functions, labels, structures, code, entry, out,
         );
     }
     let none = &code[0..0];
     deliver(
-        edition,
-        constants,
-        functions,
-        labels,
-        none,
-        code,
-        entry,
-        out,
+        edition, constants, functions, labels, none, code, entry, out,
     )
 }

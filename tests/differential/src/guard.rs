@@ -18,6 +18,7 @@ pub enum Call {
     Convert,
     Map,
     Record,
+    Need,
 }
 
 /// Before the first case: calls on slices of over 2^32 bytes.
@@ -80,6 +81,7 @@ fn report(what: &str) {
         Some(Call::Convert) => ("conversion", "module", "--conversion"),
         Some(Call::Map) => ("map", "rows", "--rows"),
         Some(Call::Record) => ("check with a record", "records", "--records"),
+        Some(Call::Need) => ("need", "module", "--need"),
         Some(Call::Run) => ("run", "module", "--case"),
         _ => ("check", "module", "--case"),
     };

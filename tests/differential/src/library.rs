@@ -1,8 +1,8 @@
 //! The library under test, through its C interface.
 
 use second::memory::{
-    BodyMemory, CheckMemory, ConvertMemory, FormulaMemory, Lent, MapMemory, RecordingMemory,
-    RunMemory, Start, WriteMemory,
+    BodyMemory, CheckMemory, ConvertMemory, FormulaMemory, Lent, MapMemory, NeedMemory,
+    RecordingMemory, RunMemory, Start, WriteMemory,
 };
 use second::opcode::Edition;
 use second::reader::ENTRY;
@@ -123,6 +123,18 @@ extern "C" {
         record: *mut u8,
         record_len: usize,
         first: *mut u32,
+    ) -> u32;
+
+    #[cfg(not(without_needs))]
+    pub fn limpetskein_need(
+        module: *const u8,
+        module_len: usize,
+        room: *mut u8,
+        room_len: usize,
+        report: *mut u8,
+        report_len: usize,
+        body: *mut u32,
+        written: *mut u64,
     ) -> u32;
 }
 
@@ -315,6 +327,31 @@ impl Subject for Library {
         let first = &raw mut memory.first;
         // SAFETY: pointers and lengths are those of separate live buffers.
         unsafe { limpetskein_check_body(module, module_len, body, record, record_len, first) }
+    }
+
+    #[cfg(without_needs)]
+    fn need(&mut self, _: &mut NeedMemory) -> u32 {
+        unreachable!("needs are left out")
+    }
+
+    #[cfg(not(without_needs))]
+    fn need(&mut self, memory: &mut NeedMemory) -> u32 {
+        let module = self.pointer(&mut memory.module);
+        let room = self.pointer(&mut memory.room);
+        let report = self.pointer(&mut memory.report);
+        // SAFETY: pointers and lengths are those of separate live buffers.
+        unsafe {
+            limpetskein_need(
+                module,
+                memory.module.len(),
+                room,
+                memory.room.len(),
+                report,
+                memory.report.len(),
+                &raw mut memory.body,
+                &raw mut memory.written,
+            )
+        }
     }
 }
 

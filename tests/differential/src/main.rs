@@ -4,10 +4,11 @@
 //! generated cases; with `--writes`, writes in the same way; with `--formulas`, formula lines, and
 //! the check and the runs of what they are written as; with `--conversions`, conversions between
 //! editions 3 and 4, the way back, and the runs of what they give; with `--rows`, calls on rows; with
-//! `--records`, full checks that write a record and checks of a body, along chains of edits.
+//! `--records`, full checks that write a record and checks of a body, along chains of edits; with
+//! `--needs`, what stack modules need, and runs on as many slots.
 //!
-//! `differential [--checks | --writes | --formulas | --conversions | --rows | --records] [--edition N]
-//! [--seed N] [--seconds N | --cases N] [--from N] [--most N]`
+//! `differential [--checks | --writes | --formulas | --conversions | --rows | --records | --needs]
+//! [--edition N] [--seed N] [--seconds N | --cases N] [--from N] [--most N]`
 
 mod checks;
 mod conversions;
@@ -15,6 +16,8 @@ mod formulas;
 mod guard;
 mod huge;
 mod library;
+#[cfg(not(without_needs))]
+mod needs;
 #[cfg(not(without_records))]
 mod records;
 mod rounds;
@@ -30,6 +33,8 @@ use second::compare::compare;
 use second::gen::case::Case;
 use second::gen::conversions::ConvertCase;
 use second::gen::lines::LineCase;
+#[cfg(not(without_needs))]
+use second::gen::needs::NeedCase;
 #[cfg(not(without_records))]
 use second::gen::records::RecordCase;
 #[cfg(not(without_rows))]
@@ -41,12 +46,13 @@ use second::subject::Second;
 
 fn main() {
     rounds::start();
-    let others: [(&str, fn()); 5] = [
+    let others: [(&str, fn()); 6] = [
         ("--writes", compare_writes),
         ("--formulas", compare_formulas),
         ("--conversions", compare_conversions),
         ("--rows", compare_rows),
         ("--records", compare_records),
+        ("--needs", compare_needs),
     ];
     if let Some((_, compare)) = others.iter().find(|(name, _)| args::has(name)) {
         return compare();
@@ -152,6 +158,25 @@ fn compare_records() {
 #[cfg(without_records)]
 fn compare_records() {
     eprintln!("linked with an archive that has no checks with records");
+    std::process::exit(2);
+}
+
+#[cfg(not(without_needs))]
+fn compare_needs() {
+    let before = needs::huge_differ() + needs::not_as_stated();
+    let needs = Comparison {
+        subject: "library's needs",
+        make: NeedCase::new,
+        compare: needs::differs,
+        describe: |case: &NeedCase| (case.kind, case.describe()),
+        edition: |case: &NeedCase| edition_of(&case.module),
+    };
+    rounds::run(&needs, before);
+}
+
+#[cfg(without_needs)]
+fn compare_needs() {
+    eprintln!("linked with an archive that tells no needs");
     std::process::exit(2);
 }
 

@@ -35,6 +35,7 @@ pub fn start() {
         "--conversions",
         "--rows",
         "--records",
+        "--needs",
         "--edition",
         "--seed",
         "--cases",
@@ -52,6 +53,8 @@ pub fn start() {
         Call::Map
     } else if args::has("--records") {
         Call::Record
+    } else if args::has("--needs") {
+        Call::Need
     } else if args::has("--checks") {
         Call::Check
     } else {

@@ -52,7 +52,7 @@ pub fn check(rules: Rules, file: &[u8], room: &mut [u8]) -> Checked {
 }
 
 /// The typings of all bodies, or the first body without one.
-fn typings(rules: Rules, module: Module<'_>) -> Result<Vec<(u32, Typing)>, (u32, Reason)> {
+pub fn typings(rules: Rules, module: Module<'_>) -> Result<Vec<(u32, Typing)>, (u32, Reason)> {
     let mut found = Vec::new();
     let mut bad = None;
     for body in module.bodies() {

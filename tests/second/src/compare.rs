@@ -1,5 +1,7 @@
-//! Two subjects side by side on one case. `records` has checks with records.
+//! Two subjects side by side on one case. `records` has checks with records, `needs` calls for the
+//! needs.
 
+pub mod needs;
 pub mod records;
 
 use crate::gen::case::{Case, RunCall};

@@ -8,12 +8,14 @@ use crate::formula::split;
 use crate::gen::case::{Case, RunCall};
 use crate::gen::conversions::ConvertCase;
 use crate::gen::lines::LineCase;
+use crate::gen::needs::NeedCase;
 use crate::gen::records::{RecordCall, RecordCase, RecordStep};
 use crate::gen::rows::MapCase;
 use crate::gen::tables::WriteCase;
 use crate::heap::{address, Address, Part};
 use crate::machine::{Machine, Slot, Watch};
 use crate::managed_edges::{self, Before};
+use crate::need_edges;
 use crate::opcode::{Edition, Op};
 use crate::possible::{BY_MANAGED, IN_A_CELL};
 use crate::profile_edges::{self, is_an_outcome};
@@ -45,6 +47,10 @@ pub struct Coverage {
     pub record_edges: Counts<(Edition, &'static str)>,
     /// Checks of a body that are not what the full check gives, though A10 promises it.
     pub unkept: u64,
+    pub needs: Counts<(Edition, u32)>,
+    pub need_edges: Counts<(Edition, &'static str)>,
+    /// Runs on as many slots as they need that end in 20, with at most 64 frames.
+    pub overflows: u64,
     pub formulas: Counts<u32>,
     pub line_edges: Counts<&'static str>,
     /// Lines by generator: all, and accepted ones.
@@ -145,6 +151,22 @@ impl Coverage {
         }
         for edge in row_edges::of_map(case, answer, &memory) {
             count(&mut self.row_edges, (edition, edge));
+        }
+    }
+
+    pub fn add_need(&mut self, case: &NeedCase) {
+        let edition = edition_of(&case.module);
+        let mut memory = case.memory();
+        let answer = Second(Rules::PLAIN).need(&mut memory);
+        count(&mut self.needs, (edition, answer));
+        let mut edges = need_edges::of_call(case, answer, &memory);
+        if answer == 0 {
+            let (more, overflows) = need_edges::of_runs(case, memory.report.slice());
+            edges.extend(more);
+            self.overflows += overflows;
+        }
+        for edge in edges {
+            count(&mut self.need_edges, (edition, edge));
         }
     }
 

@@ -1,9 +1,10 @@
 //! The desk's commands: a formula line written as a module, the run of a function, the
-//! conversion of a module, and the checks that keep a record beside a module.
+//! conversion of a module, the checks that keep a record beside a module, and what stack it needs.
 
 use crate::check::{check, Checked, RECORD};
 use crate::conversion::converted;
 use crate::formula::{module, place};
+use crate::need;
 use crate::opcode::Edition;
 use crate::reader::{ENTRY, MAX_FUNCTIONS, MAX_LABELS};
 use crate::recording::{check_body, check_recording, length};
@@ -88,11 +89,43 @@ pub fn check_one(rules: Rules, input: &[u8], body: u32, record: &[u8]) -> Kept {
     kept(number, first, record)
 }
 
+/// `need FILE`: a line for each body, slots and frames, in enough room and report.
+pub fn need(rules: Rules, input: &[u8]) -> Left {
+    let file = &input[..input.len().min(MOST_READ)];
+    let mut room = vec![0; RECORD * MAX_LABELS as usize];
+    let mut report = vec![0; need::length(MAX_FUNCTIONS)];
+    let (mut body, mut written) = (0, 0);
+    match need::need(rules, file, &mut room, &mut report, &mut body, &mut written) {
+        0 => Left::Printed(lines(&report[..written as usize]).into_bytes()),
+        number => refused(number, body),
+    }
+}
+
+/// A line for the entry and each function: its name or number, slots, frames.
+fn lines(report: &[u8]) -> String {
+    let bodies = (report.len() / need::PAIR) as u32;
+    let line = |n: u32| {
+        let name = n
+            .checked_sub(1)
+            .map_or("entry".to_string(), |n| n.to_string());
+        let need = need::reported(report, n.wrapping_sub(1));
+        format!("{name} {} {}\n", need.slots, need.frames)
+    };
+    (0..bodies).map(line).collect()
+}
+
+/// A refusal's number; with 11 and 47 the body too.
+fn refused(number: u32, body: u32) -> Left {
+    match number {
+        11 | 47 => Left::Refused(format!("{number} {body}\n")),
+        _ => Left::Refused(format!("{number}\n")),
+    }
+}
+
 fn kept(number: u32, body: u32, record: Vec<u8>) -> Kept {
     let left = match number {
         0 => Left::Printed(b"0\n".to_vec()),
-        11 => Left::Refused(format!("11 {body}\n")),
-        _ => Left::Refused(format!("{number}\n")),
+        _ => refused(number, body),
     };
     let record = matches!(number, 0 | 11).then_some(record);
     Kept { left, record }

@@ -146,3 +146,13 @@ pub struct BodyMemory {
     pub record: Lent,
     pub first: u32,
 }
+
+/// Everything lent to a call for the needs, and its out-parameters.
+#[derive(Clone, Debug, PartialEq, Eq)]
+pub struct NeedMemory {
+    pub module: Lent,
+    pub room: Lent,
+    pub report: Lent,
+    pub body: u32,
+    pub written: u64,
+}

@@ -332,6 +332,75 @@ pub fn record_edges(edition: Edition) -> Vec<&'static str> {
     edges
 }
 
+pub const NEED_ANSWERS: [u32; 14] = [0, 1, 2, 3, 4, 5, 6, 7, 8, 9, 10, 11, 16, 47];
+
+/// What calls for the needs must reach in every edition, by name, as in `need_edges`.
+pub const NEED_EDGES: [&str; 47] = [
+    "the reader's refusal and no report",
+    "10 and a report too short",
+    "11 and a report too short",
+    "47 and a report too short",
+    "47 and a report long enough",
+    "47 with label records",
+    "16 with label records",
+    "16 by one byte",
+    "16 by one body",
+    "16 by no report",
+    "0 with label records",
+    "0, report exact",
+    "0, report a byte longer",
+    "0 without functions",
+    "0 with 128 functions",
+    "47 for the entry",
+    "47 for the first function",
+    "47 for the last function",
+    "47 for a body that calls itself",
+    "47 for a body on a longer ring",
+    "47 for a function that only leads to a ring",
+    "47 for a function that nobody calls",
+    "ways that meet with different grounds",
+    "the greatest ground makes a need",
+    "buried slots make a need",
+    "a call over buried slots makes a need",
+    "flow past an endless callee makes a need",
+    "a dead call changes nothing",
+    "a dead ring changes nothing",
+    "a branch's value changes nothing",
+    "need and frames by different paths",
+    "the height at the entry's end makes its need",
+    "a function that nobody calls",
+    "3 frames",
+    "64 frames",
+    "65 frames",
+    "129 frames",
+    "20 by frames over 64",
+    "the entry finishes on its need",
+    "a function finishes on its need",
+    "a run on the need is stopped",
+    "one slot less, the entry: 20",
+    "one slot less, a function: 20",
+    "one slot less, the entry with calls: 20",
+    "one slot less, a function with calls: 20",
+    "one slot less, arguments alone: 20",
+    "one slot less is enough",
+];
+
+/// Edition 1 has no `copy`: its code is too short for so many pushes.
+pub const MANY_SLOTS: [&str; 3] = [
+    "4,096 slots",
+    "over 4,096 slots in 64 frames",
+    "20 by a need over 4,096",
+];
+
+/// All edges of needs in an edition.
+pub fn need_edges(edition: Edition) -> Vec<&'static str> {
+    let mut edges = NEED_EDGES.to_vec();
+    if edition != Edition::One {
+        edges.extend(MANY_SLOTS);
+    }
+    edges
+}
+
 /// Can this answer be given where this is the edition word? (Those of words that are no edition
 /// are counted as edition 3's.)
 pub fn answer_of(edition: Edition, number: u32) -> bool {

@@ -362,6 +362,60 @@ pub enum Fault {
     NamedFirst,
     NamedOnly,
     FirstByPlace,
+    NeedShortFirst,
+    NeedShortBeforeRoom,
+    NeedShortBeforeTyping,
+    NeedShortBeforeRing,
+    RingBeforeTyping,
+    RingKeepsRoom,
+    RingClearsRoom,
+    NeedShortKeepsRoom,
+    NeedKeepsRoom,
+    RingReported,
+    RingBodyUntold,
+    RingBodyByIndex,
+    NeedShortCut,
+    NeedLengthWithSixteen,
+    LongerReportRefused,
+    ExactReportRefused,
+    ReportLengthLent,
+    NeedRestCleared,
+    ReportEntryLast,
+    FramesFirst,
+    ReportByColumn,
+    ReportBigEndian,
+    SmallestGround,
+    FirstGroundKept,
+    BuriedUncounted,
+    BoundCountedTwice,
+    EntryEndUncounted,
+    StartUncounted,
+    EndlessCallEnds,
+    BranchesTaken,
+    BranchesUntaken,
+    BranchValuesLooked,
+    CallsByLists,
+    CallsFromGround,
+    ArgumentsCountedTwice,
+    ArgumentsUncounted,
+    CalleesFromSlotZero,
+    OwnNeedOnly,
+    OwnCalleesOnly,
+    DeadCallsCount,
+    DeadRingRefused,
+    SelfCallEnds,
+    RingsUnseen,
+    BodyOnRingNamed,
+    LastIntoRingNamed,
+    RingFromEntryOnly,
+    EntryNotInRing,
+    ManyFramesRefused,
+    EntryForAll,
+    UncalledNeedsNothing,
+    SlotsCapped,
+    FramesCapped,
+    FramesWithoutItself,
+    FramesOfNeed,
 }
 
 /// The wrong variants of reader, check and run, each with its name and what is wrong.
@@ -2105,6 +2159,272 @@ pub const RECORD_FAULTS: [(Fault, &str, &str); 41] = [
     ),
 ];
 
+/// The wrong variants of the need: refusals and what they leave, the report, the flow of a body, calls.
+pub const NEED_FAULTS: [(Fault, &str, &str); 54] = [
+    (
+        Fault::NeedShortFirst,
+        "need-16-first",
+        "a report under 8 bytes is 16 before the reader's refusals",
+    ),
+    (
+        Fault::NeedShortBeforeRoom,
+        "need-16-before-10",
+        "report too short before room too short",
+    ),
+    (
+        Fault::NeedShortBeforeTyping,
+        "need-16-before-11",
+        "report too short before a body without typing",
+    ),
+    (
+        Fault::NeedShortBeforeRing,
+        "16-before-47",
+        "report too short before a ring",
+    ),
+    (
+        Fault::RingBeforeTyping,
+        "47-before-11",
+        "a ring before a body without typing",
+    ),
+    (
+        Fault::RingKeepsRoom,
+        "47-keeps-room",
+        "no label records with 47",
+    ),
+    (
+        Fault::RingClearsRoom,
+        "47-clears-room",
+        "the room's records are zeroed with 47",
+    ),
+    (
+        Fault::NeedShortKeepsRoom,
+        "need-16-keeps-room",
+        "no label records with 16",
+    ),
+    (
+        Fault::NeedKeepsRoom,
+        "need-keeps-room",
+        "no label records with 0",
+    ),
+    (
+        Fault::RingReported,
+        "47-writes-report",
+        "the report is zeroed with 47",
+    ),
+    (Fault::RingBodyUntold, "47-without-body", "no body with 47"),
+    (
+        Fault::RingBodyByIndex,
+        "47-body-by-index",
+        "the body is told by its place in the report",
+    ),
+    (
+        Fault::NeedShortCut,
+        "16-cuts-report",
+        "a report too short is written as far as it goes",
+    ),
+    (
+        Fault::NeedLengthWithSixteen,
+        "length-with-16",
+        "the length is given with 16 too",
+    ),
+    (
+        Fault::LongerReportRefused,
+        "longer-report-16",
+        "a report longer than needed is 16",
+    ),
+    (
+        Fault::ExactReportRefused,
+        "exact-report-16",
+        "a report of just the length is 16",
+    ),
+    (
+        Fault::ReportLengthLent,
+        "length-of-report",
+        "the lent report's length is given",
+    ),
+    (
+        Fault::NeedRestCleared,
+        "report-rest-cleared",
+        "what is lent past the report is cleared",
+    ),
+    (
+        Fault::ReportEntryLast,
+        "entry-reported-last",
+        "the entry's words are the last",
+    ),
+    (
+        Fault::FramesFirst,
+        "frames-first",
+        "frames stand before the need",
+    ),
+    (
+        Fault::ReportByColumn,
+        "report-by-column",
+        "all needs stand before all frames",
+    ),
+    (
+        Fault::ReportBigEndian,
+        "report-big-endian",
+        "the report's words are big endian",
+    ),
+    (
+        Fault::SmallestGround,
+        "smallest-ground",
+        "the least number of buried slots counts where ways meet",
+    ),
+    (
+        Fault::FirstGroundKept,
+        "first-ground-kept",
+        "the first number of buried slots counts where ways meet",
+    ),
+    (
+        Fault::BuriedUncounted,
+        "buried-uncounted",
+        "slots buried under locals are not counted",
+    ),
+    (
+        Fault::BoundCountedTwice,
+        "bound-twice",
+        "a bound slot counts as local and as buried",
+    ),
+    (
+        Fault::EntryEndUncounted,
+        "entry-end-uncounted",
+        "the height at the entry's end is not counted",
+    ),
+    (
+        Fault::StartUncounted,
+        "start-uncounted",
+        "the height at the start is not counted",
+    ),
+    (
+        Fault::EndlessCallEnds,
+        "endless-call-ends",
+        "flow ends at a call whose callee never returns",
+    ),
+    (
+        Fault::BranchesTaken,
+        "branches-taken",
+        "only the way of a branch that is taken is followed",
+    ),
+    (
+        Fault::BranchesUntaken,
+        "branches-untaken",
+        "only the way past a branch is followed",
+    ),
+    (
+        Fault::BranchValuesLooked,
+        "branch-values-looked",
+        "a branch on a constant goes one way",
+    ),
+    (
+        Fault::CallsByLists,
+        "calls-by-lists",
+        "buried slots are not counted under a call",
+    ),
+    (
+        Fault::CallsFromGround,
+        "calls-from-ground",
+        "operands under a call's arguments are not counted",
+    ),
+    (
+        Fault::ArgumentsCountedTwice,
+        "arguments-twice",
+        "a callee's need counts from the height at the call",
+    ),
+    (
+        Fault::ArgumentsUncounted,
+        "arguments-uncounted",
+        "a function's need counts from above its arguments",
+    ),
+    (
+        Fault::CalleesFromSlotZero,
+        "callees-from-0",
+        "a callee's need counts from the caller's first slot",
+    ),
+    (
+        Fault::OwnNeedOnly,
+        "own-need-only",
+        "callees' needs are not counted",
+    ),
+    (
+        Fault::OwnCalleesOnly,
+        "own-callees-only",
+        "frames of a callee's callees are not counted",
+    ),
+    (
+        Fault::DeadCallsCount,
+        "dead-calls-count",
+        "calls in dead code count",
+    ),
+    (
+        Fault::DeadRingRefused,
+        "dead-ring-47",
+        "47 for a ring through dead code",
+    ),
+    (
+        Fault::SelfCallEnds,
+        "self-call-no-ring",
+        "a body that calls itself is no ring",
+    ),
+    (Fault::RingsUnseen, "rings-unseen", "47 is never given"),
+    (
+        Fault::BodyOnRingNamed,
+        "ring-body-named",
+        "47 names the first body on a ring",
+    ),
+    (
+        Fault::LastIntoRingNamed,
+        "last-into-ring",
+        "47 names the last body that leads to a ring",
+    ),
+    (
+        Fault::RingFromEntryOnly,
+        "ring-from-entry-only",
+        "47 only where the entry leads to a ring",
+    ),
+    (
+        Fault::EntryNotInRing,
+        "entry-not-in-ring",
+        "47 never names the entry",
+    ),
+    (
+        Fault::ManyFramesRefused,
+        "65-frames-47",
+        "frames over 64 are 47",
+    ),
+    (
+        Fault::EntryForAll,
+        "entry-for-all",
+        "the entry's need is reported for all bodies",
+    ),
+    (
+        Fault::UncalledNeedsNothing,
+        "uncalled-nothing",
+        "a function that nobody calls needs nothing",
+    ),
+    (
+        Fault::SlotsCapped,
+        "need-capped",
+        "a need over 4,096 is reported as 4,096",
+    ),
+    (
+        Fault::FramesCapped,
+        "frames-capped",
+        "frames over 64 are reported as 64",
+    ),
+    (
+        Fault::FramesWithoutItself,
+        "frames-without-itself",
+        "a body's own frame is not counted",
+    ),
+    (
+        Fault::FramesOfNeed,
+        "frames-of-need",
+        "frames are those of the path that reaches the need",
+    ),
+];
+
 /// Which rules hold: the paper's, or the paper's with one fault.
 #[derive(Clone, Copy, Debug, PartialEq, Eq)]
 pub struct Rules {
@@ -2131,6 +2451,7 @@ impl Rules {
             .chain(&FORMULA_FAULTS)
             .chain(&ROW_FAULTS)
             .chain(&RECORD_FAULTS)
+            .chain(&NEED_FAULTS)
             .find(|(_, n, _)| *n == name)
             .map(|&(fault, _, _)| Rules::with(fault))
     }

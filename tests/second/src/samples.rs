@@ -2,12 +2,14 @@
 
 mod heap;
 mod managed;
+mod needs;
 mod profiles;
 
 use crate::asm;
 use crate::hex;
 pub use heap::HEAP;
 pub use managed::MANAGED;
+pub use needs::NEEDS;
 pub use profiles::{CONVERSIONS, PROFILES};
 
 /// One sample module.
@@ -31,6 +33,8 @@ enum Source {
     Again(&'static str),
     /// Another sample's text, assembled in edition 4.
     Above(&'static str),
+    /// The entry and so many functions, which each do this and call the next.
+    Chain(&'static str, usize),
 }
 
 impl Sample {
@@ -50,6 +54,13 @@ impl Sample {
             }
             Source::Again(name) => asm::file(&format!("edition 1; {}", text_of(name))),
             Source::Above(name) => asm::file(&format!("edition 4; {}", text_of(name))),
+            Source::Chain(each, functions) => {
+                let calls = |n| format!("{each} call {n}; ret; function void (): ");
+                let all: String = (0..functions).map(calls).collect();
+                // the entry has no `ret`
+                let all = all.replacen("ret;", "", 1);
+                asm::file(&format!("int 7; entry: {all} {each} ret"))
+            }
         }
     }
 }
@@ -878,6 +889,7 @@ pub fn all() -> impl Iterator<Item = &'static Sample> {
         .chain(&OLD)
         .chain(&HEAP)
         .chain(&MANAGED)
+        .chain(&NEEDS)
         .chain(&PROFILES)
         .chain(&CONVERSIONS)
 }

@@ -7,9 +7,10 @@ use crate::heap::LentHeap;
 use crate::machine::{Unwatched, Watch};
 use crate::map::{map, MapCall};
 use crate::memory::{
-    BodyMemory, CheckMemory, ConvertMemory, FormulaMemory, MapMemory, RecordingMemory, RunMemory,
-    Start, WriteMemory,
+    BodyMemory, CheckMemory, ConvertMemory, FormulaMemory, MapMemory, NeedMemory, RecordingMemory,
+    RunMemory, Start, WriteMemory,
 };
+use crate::need::need;
 use crate::opcode::Edition;
 use crate::recording::{check_body, check_recording};
 use crate::rules::Rules;
@@ -41,6 +42,10 @@ pub trait Subject {
 
     /// A check of one body: the paper's number; `first` is written with 11 only.
     fn check_body(&mut self, body: u32, memory: &mut BodyMemory) -> u32;
+
+    /// What stack a module needs: the paper's number; `body` is written with 11 and 47 only, `written`
+    /// with 0 only.
+    fn need(&mut self, memory: &mut NeedMemory) -> u32;
 }
 
 /// The second program with these rules.
@@ -112,6 +117,17 @@ impl Subject for Second {
     fn check_body(&mut self, body: u32, memory: &mut BodyMemory) -> u32 {
         let (file, record) = (memory.module.slice(), memory.record.slice_mut());
         check_body(self.0, file, body, record, &mut memory.first)
+    }
+
+    fn need(&mut self, memory: &mut NeedMemory) -> u32 {
+        need(
+            self.0,
+            memory.module.slice(),
+            memory.room.slice_mut(),
+            memory.report.slice_mut(),
+            &mut memory.body,
+            &mut memory.written,
+        )
     }
 }
 

@@ -3,6 +3,7 @@
 //! that wrong variant; set to a name in `misuse`, it misuses the interface.
 
 mod misuse;
+mod needs;
 mod records;
 
 use second::check::check;

@@ -2,7 +2,7 @@
 //! past a lent slice, an out-parameter written that must stay, an input changed, a crash.
 
 /// The names that `STANDIN_FAULT` knows besides those of the wrong variants.
-pub const NAMES: [&str; 21] = [
+pub const NAMES: [&str; 23] = [
     "misuse-past-room",
     "misuse-before-types",
     "misuse-body-written",
@@ -24,6 +24,8 @@ pub const NAMES: [&str; 21] = [
     "misuse-first-written",
     "misuse-body-changes-module",
     "misuse-body-crash",
+    "misuse-past-report",
+    "misuse-before-report",
 ];
 
 /// # Safety
@@ -195,6 +197,17 @@ pub unsafe fn after_body(
         "misuse-first-written" if number == 0 => *first = 0,
         "misuse-body-changes-module" if module_len > 0 && number == 11 => *module ^= 1,
         "misuse-body-crash" if record_len > 100 => std::process::abort(),
+        _ => {}
+    }
+}
+
+/// # Safety
+/// As for the needs; and there are bytes around the slices.
+pub unsafe fn after_need(fault: &str, (report, report_len): (*mut u8, usize), written: *mut u64) {
+    match fault {
+        "misuse-past-report" if report_len > 0 => *report.add(report_len) = 0,
+        "misuse-before-report" if report_len > 0 => *report.sub(1) = 0,
+        "misuse-length-written" => *written = report_len as u64,
         _ => {}
     }
 }

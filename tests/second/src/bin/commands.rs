@@ -2,7 +2,7 @@
 //! samples and on generated lines, `run [--profile N] FILE FUNCTION [INT...]` on the samples, on
 //! the modules that come of lines, and on generated ones, `convert 4` and `convert 3` on the
 //! samples and on generated modules, `check [--body N] --record RECORD FILE` on these too, with the
-//! record that is kept; and what is said to bad usage.
+//! record that is kept, and `need FILE`; and what is said to bad usage.
 //!
 //! `commands <executable> <samples> [--seed N] [--seconds N | --cases N] [--from N] [--most N]`
 
@@ -13,6 +13,7 @@ use second::formula;
 use second::gen::case::Case;
 use second::gen::conversions::ConvertCase;
 use second::gen::lines::{line, LineCase};
+use second::gen::needs::NeedCase;
 use second::gen::profiles::named;
 use second::gen::rng::Rng;
 use second::hex;
@@ -122,6 +123,43 @@ impl Desk {
             self.compare("usage", &words, &Left::Usage);
         }
         self.check_usage(&file);
+        self.need_usage(&file);
+    }
+
+    /// Bad usage of `need`, and a file that is not there.
+    fn need_usage(&mut self, file: &OsString) {
+        let need = OsString::from("need");
+        let two = [need.clone(), file.clone(), file.clone()];
+        for words in [&[need.clone()][..], &two] {
+            self.compare("usage", words, &Left::Usage);
+        }
+        let words = [need, OsString::from("no such file")];
+        self.compare("a file that is not there", &words, &Left::Missing);
+    }
+
+    /// What `need` says of a module.
+    fn need(&mut self, place: &str, path: &Path, file: &[u8]) {
+        let words = ["need".into(), path.into()];
+        let wanted = desk::need(Rules::PLAIN, file);
+        let differences = self.differences;
+        self.compare(place, &words, &wanted);
+        if self.differences > differences {
+            println!("  module: {}", hex::encode(file));
+        }
+    }
+
+    /// What it says of a sample is the text beside it, where there is one.
+    fn sample_need(&mut self, path: &Path, file: &[u8]) {
+        self.need("sample", path, file);
+        let Ok(text) = std::fs::read_to_string(path.with_extension("need")) else {
+            return;
+        };
+        let wanted = match text.starts_with("entry") {
+            true => Left::Printed(text.into_bytes()),
+            false => Left::Refused(text),
+        };
+        let own = desk::need(Rules::PLAIN, file);
+        assert_eq!(own, wanted, "{}", path.display());
     }
 
     /// Bad usage of `check`, and files that are not there.
@@ -237,6 +275,7 @@ impl Desk {
                 std::fs::write(&self.scratch, &file).expect("a file for the module");
                 let path = self.scratch.clone();
                 self.convert("a long input", &path, &file, to);
+                self.need("a long input", &path, &file);
             }
         }
     }
@@ -283,6 +322,7 @@ impl Desk {
                 self.profiles(path);
                 self.convert("sample", path, &file, other(&file));
                 self.checks("sample", path, &file);
+                self.sample_need(path, &file);
                 self.runs(path);
             }
         }
@@ -320,7 +360,7 @@ impl Desk {
     }
 
     /// Generated lines and their modules; every fourth time a generated module, every fourth time a
-    /// conversion.
+    /// conversion, and every other time a module's needs.
     fn generated(&mut self) -> u64 {
         let seed = args::number("--seed", 1);
         let from = args::number("--from", 0);
@@ -346,6 +386,12 @@ impl Desk {
                 std::fs::write(&self.scratch, &case.module).expect("a file for the module");
                 let path = self.scratch.clone();
                 self.convert(&place, &path, &case.module, case.to);
+            }
+            if number % 2 == 1 {
+                let case = NeedCase::new(seed, number);
+                std::fs::write(&self.scratch, &case.module).expect("a file for the module");
+                let path = self.scratch.clone();
+                self.need(&place, &path, &case.module);
             }
             number += 1;
         }

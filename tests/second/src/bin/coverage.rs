@@ -8,22 +8,23 @@ use second::coverage::Coverage;
 use second::gen::case::Case;
 use second::gen::conversions::ConvertCase;
 use second::gen::lines::LineCase;
+use second::gen::needs::NeedCase;
 use second::gen::records::RecordCase;
 use second::gen::rows::MapCase;
 use second::gen::tables::WriteCase;
 use second::opcode::{Edition, EDITIONS};
 use second::possible::{
-    answer_of, at_range_edges, conversion_answers, exceptions, executions, map_answers, reasons,
-    record_edges, row_edges, row_numbers, BODY_ANSWERS, CHECK_ANSWERS, CONVERSION_EDGES,
-    FORMULA_ANSWERS, HEAP_EDGES, LINE_EDGES, MANAGED_EDGES, PROFILE_EDGES, RECORDING_ANSWERS,
-    ROW_PLACES, RUN_ANSWERS, WRITE_ANSWERS,
+    answer_of, at_range_edges, conversion_answers, exceptions, executions, map_answers, need_edges,
+    reasons, record_edges, row_edges, row_numbers, BODY_ANSWERS, CHECK_ANSWERS, CONVERSION_EDGES,
+    FORMULA_ANSWERS, HEAP_EDGES, LINE_EDGES, MANAGED_EDGES, NEED_ANSWERS, PROFILE_EDGES,
+    RECORDING_ANSWERS, ROW_PLACES, RUN_ANSWERS, WRITE_ANSWERS,
 };
 use std::collections::BTreeMap;
 
 /// Conversions have fewer edges: one for so many cases is enough.
 const CONVERSIONS: u64 = 6;
 
-/// And one call on rows, which is many runs, or one chain of edits, for so many.
+/// And one call on rows, which is many runs, one chain of edits, or one module's needs, for so many.
 const MAPS: u64 = 4;
 
 fn main() {
@@ -42,7 +43,8 @@ fn main() {
             + refused(&coverage, edition, full)
             + converted(&coverage, edition)
             + mapped(&coverage, edition)
-            + recorded(&coverage, edition);
+            + recorded(&coverage, edition)
+            + needed(&coverage, edition);
     }
     println!(
         "runs of accepted modules that break demand 3: {}",
@@ -55,8 +57,11 @@ fn main() {
     println!("conversions that come out otherwise: {}", coverage.unlike);
     let unkept = coverage.unkept;
     println!("checks of a body that are not the full check's: {unkept}");
+    let overflows = coverage.overflows;
+    println!("runs on as many slots as they need that end in 20: {overflows}");
     println!("possible but not reached: {missing}");
-    if missing + coverage.broken + coverage.misread + coverage.unlike + unkept > 0 {
+    let wrong = coverage.broken + coverage.misread + coverage.unlike + unkept + overflows;
+    if missing + wrong > 0 {
         std::process::exit(1);
     }
 }
@@ -75,6 +80,7 @@ fn gathered(seed: u64, cases: u64) -> Coverage {
     for number in 0..cases / MAPS {
         coverage.add_map(&MapCase::new(seed, number));
         coverage.add_records(&RecordCase::new(seed, number));
+        coverage.add_need(&NeedCase::new(seed, number));
     }
     coverage
 }
@@ -188,6 +194,22 @@ fn recorded(coverage: &Coverage, edition: Edition) -> u64 {
         &format!("answers of checks of a body, edition {word}:"),
         bodies,
     ) + row(&format!("edges of records, edition {word}:"), edges)
+}
+
+/// The answers of calls for the needs, and their edges.
+fn needed(coverage: &Coverage, edition: Edition) -> u64 {
+    let word = edition.word();
+    let numbers = NEED_ANSWERS.into_iter().filter(|&n| answer_of(edition, n));
+    let answers = numbers.map(|n| {
+        let count = coverage.needs.get(&(edition, n)).copied();
+        (n.to_string(), count.unwrap_or(0))
+    });
+    let edges = need_edges(edition).into_iter().map(|edge| {
+        let count = coverage.need_edges.get(&(edition, edge)).copied();
+        (edge.to_string(), count.unwrap_or(0))
+    });
+    row(&format!("answers of needs, edition {word}:"), answers)
+        + row(&format!("edges of needs, edition {word}:"), edges)
 }
 
 /// The answers of calls on rows, the places of the rows that end them, and their edges.

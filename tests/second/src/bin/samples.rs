@@ -8,8 +8,8 @@ use second::opcode::Edition;
 use second::reader::read;
 use second::rules::Rules;
 use second::samples::{
-    all, LineSample, Sample, CONVERSIONS, HEAP, LIMITS, LINES, MANAGED, NUMBERS, OLD, PROFILES,
-    PROGRAMS, REFUSED, REFUSED_LINES, W_SAMPLES,
+    all, LineSample, Sample, CONVERSIONS, HEAP, LIMITS, LINES, MANAGED, NEEDS, NUMBERS, OLD,
+    PROFILES, PROGRAMS, REFUSED, REFUSED_LINES, W_SAMPLES,
 };
 use second::show::small;
 use std::collections::BTreeMap;
@@ -61,6 +61,9 @@ fn wanted() -> BTreeMap<String, Vec<u8>> {
         if !runs.is_empty() {
             files.insert(format!("{}.profiles", sample.name), runs.into_bytes());
         }
+    }
+    for sample in &NEEDS {
+        files.insert(format!("{}.need", sample.name), needs(sample).into_bytes());
     }
     for sample in &CONVERSIONS {
         if let Left::Refused(line) = other_edition(&sample.file()) {
@@ -165,7 +168,37 @@ fn readme() -> String {
     ] {
         text += &table(title, samples);
     }
-    text + &profiles() + &conversions() + &lines()
+    text + &needed() + &profiles() + &conversions() + &lines()
+}
+
+/// What `need` prints of a sample, on standard output or on standard error.
+fn needs(sample: &Sample) -> String {
+    match desk::need(Rules::PLAIN, &sample.file()) {
+        Left::Printed(bytes) => String::from_utf8_lossy(&bytes).into_owned(),
+        Left::Refused(line) => line,
+        Left::Usage | Left::Missing => String::new(),
+    }
+}
+
+/// The needs.
+fn needed() -> String {
+    let mut text = String::from(
+        "\n## The stack that a module needs\n\n\
+         `NAME.need` is what `./limpet need NAME.lsk` prints: for the entry and each function slots and\n\
+         frames; or, on standard error, 47 and the first body from which calls come back.\n\n\
+         | sample | first line of output | first line of need | shows |\n|--|--|--|--|\n",
+    );
+    for sample in &NEEDS {
+        let needs = needs(sample);
+        text += &format!(
+            "| `{}.{MODULE}` | `{}` | `{}` | {} |\n",
+            sample.name,
+            first(sample),
+            needs.lines().next().unwrap_or(""),
+            sample.shows
+        );
+    }
+    text
 }
 
 /// The profiles.

@@ -1,9 +1,9 @@
 //! Shows a generated case, generated tables, a generated formula line, a generated conversion, a
-//! generated call on rows, generated checks with a record, or a module or a line that is given, and the
-//! second program's answers.
+//! generated call on rows, generated checks with a record, a generated call for the needs, or a module or
+//! a line that is given, and the second program's answers.
 //!
-//! `show [--seed N] --case N`, `--write N`, `--formula N`, `--conversion N`, `--rows N` or `--records N`,
-//! `show --module HEX`, `show --line LINE`
+//! `show [--seed N] --case N`, `--write N`, `--formula N`, `--conversion N`, `--rows N`, `--records N` or
+//! `--need N`, `show --module HEX`, `show --line LINE`
 
 use second::args;
 use second::check::{check, Checked};
@@ -13,10 +13,12 @@ use second::formula::split;
 use second::gen::case::Case;
 use second::gen::conversions::ConvertCase;
 use second::gen::lines::LineCase;
+use second::gen::needs::NeedCase;
 use second::gen::records::{RecordCall, RecordCase, RecordStep};
 use second::gen::rows::MapCase;
 use second::gen::tables::WriteCase;
 use second::hex;
+use second::need::needs;
 use second::reader::{read, Module};
 use second::rules::Rules;
 use second::show::small;
@@ -31,6 +33,7 @@ fn main() {
         "--conversion",
         "--rows",
         "--records",
+        "--need",
         "--module",
         "--line",
     ]);
@@ -47,12 +50,13 @@ fn main() {
         return;
     }
     let seed = args::number("--seed", 1);
-    let others: [(&str, fn(u64, u64)); 5] = [
+    let others: [(&str, fn(u64, u64)); 6] = [
         ("--write", show_write),
         ("--formula", show_formula),
         ("--conversion", show_conversion),
         ("--rows", show_rows),
         ("--records", show_records),
+        ("--need", show_need),
     ];
     for (name, show) in others {
         if args::value(name).is_some() {
@@ -140,6 +144,21 @@ fn show_records(seed: u64, number: u64) {
     }
 }
 
+fn show_need(seed: u64, number: u64) {
+    let case = NeedCase::new(seed, number);
+    println!("need {number} of seed {seed} ({})", case.kind);
+    println!("{}", case.describe());
+    show_module(&case.module);
+    let mut memory = case.memory();
+    let answer = Second(Rules::PLAIN).need(&mut memory);
+    let (body, written) = (memory.body, memory.written);
+    println!("need: {answer}, body {body:08X}, length {written}");
+    println!("report {}", hex::encode(memory.report.slice()));
+    for run in &case.runs {
+        println!("run of {}", describe(run));
+    }
+}
+
 fn show_step(step: &RecordStep, shift: usize) {
     let mut second = Second(Rules::PLAIN);
     match &step.call {
@@ -203,6 +222,15 @@ fn show_module(file: &[u8]) {
     match check(Rules::PLAIN, file, &mut room) {
         Checked::NoTyping { body, reason } => println!("no typing: body {body:08X}, {reason:?}"),
         other => println!("check: {other:?}"),
+    }
+    for (n, need) in needs(Rules::PLAIN, file).iter().flatten().enumerate() {
+        let body = n
+            .checked_sub(1)
+            .map_or("entry".to_string(), |n| n.to_string());
+        println!(
+            "need of {body}: {} slots, {} frames",
+            need.slots, need.frames
+        );
     }
 }
 

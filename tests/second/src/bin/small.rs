@@ -1,7 +1,7 @@
 //! The small program, of the second program: a module on standard input, its output on
 //! standard output. And the desk's commands: `small formula LINE`,
 //! `small run [--profile N] FILE FUNCTION [INT...]`, `small convert 4`, `small convert 3`,
-//! `small check [--body N] --record RECORD FILE`.
+//! `small check [--body N] --record RECORD FILE`, `small need FILE`.
 //!
 //! `--fault NAME` first: a wrong variant.
 
@@ -31,6 +31,7 @@ fn main() {
         Some("run") => run(rules, &words[1..]).unwrap_or(Left::Usage),
         Some("convert") => convert(rules, &words[1..]).unwrap_or(Left::Usage),
         Some("check") => check(rules, &words[1..]).unwrap_or(Left::Usage),
+        Some("need") => need(rules, &words[1..]).unwrap_or(Left::Usage),
         _ => Left::Usage,
     };
     match left {
@@ -46,7 +47,7 @@ fn main() {
         }
         Left::Usage => {
             eprintln!(
-                "usage: small [formula LINE | run [--profile N] FILE FUNCTION [INT...] | convert 4 | convert 3 | check [--body N] --record RECORD FILE]"
+                "usage: small [formula LINE | run [--profile N] FILE FUNCTION [INT...] | convert 4 | convert 3 | check [--body N] --record RECORD FILE | need FILE]"
             );
             std::process::exit(2);
         }
@@ -100,6 +101,14 @@ fn check(rules: Rules, words: &[OsString]) -> Option<Left> {
         std::fs::write(record, bytes).expect("the record can be written");
     }
     Some(kept.left)
+}
+
+fn need(rules: Rules, words: &[OsString]) -> Option<Left> {
+    let [file] = words else {
+        return None;
+    };
+    let input = std::fs::read(file);
+    Some(input.map_or(Left::Missing, |input| desk::need(rules, &input)))
 }
 
 fn run(rules: Rules, words: &[OsString]) -> Option<Left> {

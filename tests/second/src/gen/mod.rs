@@ -1,4 +1,4 @@
-//! Seeded generators of modules, calls, tables, formula lines, conversions, rows and records.
+//! Seeded generators of modules, calls, tables, formula lines, conversions, rows, records and needs.
 
 pub mod body;
 pub mod calls;
@@ -16,6 +16,7 @@ pub mod loose;
 pub mod managed;
 pub mod mixed;
 pub mod near;
+pub mod needs;
 pub mod pointers;
 pub mod profiles;
 pub mod recipes;

@@ -1,7 +1,7 @@
 //! Checks with their answers stated: module, room before, and what the paper says of number,
 //! body and the whole room afterwards. They are written out from the paper, not computed.
-//! `runs`, `writes`, `formulas`, `conversions`, `maps` and `records` have the same for runs, writes,
-//! formula lines, conversions, calls on rows and checks with records.
+//! `runs`, `writes`, `formulas`, `conversions`, `maps`, `records` and `needs` have the same for runs,
+//! writes, formula lines, conversions, calls on rows, checks with records and calls for the needs.
 
 mod bodies;
 mod calls;
@@ -14,6 +14,7 @@ mod joins;
 mod labels;
 mod managed;
 pub mod maps;
+pub mod needs;
 pub mod records;
 mod refusals;
 pub mod runs;

@@ -16,11 +16,11 @@ use crate::memory::{BodyMemory, Lent, RecordingMemory};
 use crate::subject::Subject;
 
 /// The editions, as texts begin.
-const EDITIONS: [&str; 3] = ["", "edition 1;", "edition 4;"];
+pub(super) const EDITIONS: [&str; 3] = ["", "edition 1;", "edition 4;"];
 
 /// A function with a typing, and one without.
-const GOOD: &str = "function void (): ret;";
-const BAD: &str = "function void (): pop; ret;";
+pub(super) const GOOD: &str = "function void (): ret;";
+pub(super) const BAD: &str = "function void (): pop; ret;";
 
 /// One full check and what it must give.
 #[derive(Clone)]
@@ -65,7 +65,7 @@ pub fn bodies() -> Vec<StatedBody> {
 }
 
 /// No byte is 0 or 1 before; these come first afterwards.
-fn lent(len: usize, first: &[u8]) -> (Vec<u8>, Vec<u8>) {
+pub(super) fn lent(len: usize, first: &[u8]) -> (Vec<u8>, Vec<u8>) {
     let before = filled(len);
     let mut after = before.clone();
     after[..first.len()].copy_from_slice(first);
@@ -128,7 +128,7 @@ fn bytes(text: &str) -> Vec<u8> {
 
 /// Files that the reader refuses with each number, made from one of a constant, three functions and a
 /// label. The header and a function record of the edition have these lengths.
-fn unreadable(edition: &str, good: &[u8]) -> Vec<(u32, Vec<u8>)> {
+pub(super) fn unreadable(edition: &str, good: &[u8]) -> Vec<(u32, Vec<u8>)> {
     let (header, function) = match edition {
         "edition 4;" => (56, 24),
         _ => (48, 20),
@@ -154,6 +154,6 @@ fn unreadable(edition: &str, good: &[u8]) -> Vec<(u32, Vec<u8>)> {
 }
 
 /// A module for `unreadable`.
-fn readable(edition: &str) -> String {
+pub(super) fn readable(edition: &str) -> String {
     format!("{edition} int 7; entry: @0; push 0; {GOOD} {BAD} {GOOD}")
 }

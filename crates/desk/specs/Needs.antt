@@ -1,0 +1,38 @@
+-- What the report of the stack that a module needs promises.
+use Rattle.std.specs.Prelude.{ℕ, zero, suc, ◌+◌, ◌-◌, ◌*◌, ◌/◌, ◌≡◌, List, [], ◌∷◌, ◌++◌}
+use Rattle.rules.specs.declared.NeedAnswer.{NeedAnswer}
+use Rattle.rules.specs.declared.NeedAnswer.TheVariants.{Unreported, ReportUntyped, ReportLoops, Reported}
+use Rattle.rules.specs.Bytes.{word, zeros}
+use Rattle.rules.specs.Program.{line2, line3, refused_line}
+use Rattle.rules.specs.Reporting.{need_number, Reporting, report_needs}
+use Rattle.desk.specs.declared.checks.Said.{Said}
+use Rattle.desk.specs.Text.{Fills}
+
+-- "entry ", need and frames
+abbrev pub entry_line : ℕ → ℕ → List ℕ
+entry_line need frames = 101 ∷ 110 ∷ 116 ∷ 114 ∷ 121 ∷ 32 ∷ line2 need frames
+
+-- of each function its number, need and frames, by the words of a report
+unfoldable pub function_lines : List ℕ → ℕ → List ℕ
+function_lines r zero = []
+function_lines r (suc k) = function_lines r k ++ line3 k (word 4 r (8 * k + 8)) (word 4 r (8 * k + 12))
+
+-- the lines of a report of n functions
+abbrev pub need_lines : List ℕ → ℕ → List ℕ
+need_lines r n = entry_line (word 4 r 0) (word 4 r 4) ++ function_lines r n
+
+-- the lines of an answer: of 0 those of the report, which has eight bytes a body
+abbrev pub need_text : NeedAnswer → List ℕ → List ℕ
+need_text (Unreported n) r = refused_line n
+need_text (ReportUntyped b) r = line2 11 b
+need_text (ReportLoops b) r = line2 47 b
+need_text (Reported n) r = need_lines r (n / 8 - 1)
+
+-- the report of s in a room that is enough for 256 labels, with bytes enough for 128 functions
+abbrev pub report_of : List ℕ → Reporting
+report_of s = report_needs s (zeros 16384) (zeros 1032)
+
+-- the number, and its lines in the buffer
+pub record ReportsNeed (s : List ℕ) (said : Said) (out : List ℕ) : Type 0 where
+  pub number_is : said.number ≡ need_number (report_of s).answer
+  pub lines : Fills (need_text (report_of s).answer (report_of s).report) out said.text

@@ -1,0 +1,7 @@
+-- The proof of `memory::load8_padded`.
+use mathlib.Core.Path.{sym}
+use lib.ListN.{get_or-eq_default}
+use Rattle.memory.proofs.load8_padded.Goals as goal
+
+pub returns : goal.returns
+returns c = sym (get_or-eq_default c.args.s.now 0 c.if-at-s.false)

@@ -1,0 +1,2 @@
+// The stack that an accepted module needs: theorems, all in specs/.
+#![tactic(auto)]

@@ -1,0 +1,42 @@
+-- The proof of `runs::admits`.
+use Prim.Native.Nat.{◌+◌}
+use native.Mathlib.Omega.{arith}
+use mathlib.Core.Path.{refl, ◌∙◌}
+use borrow.Author.Tests.{not-true, not-false}
+use Rattle.rules.specs.Tables.{function_at}
+use Rattle.rules.specs.ModuleFile.{edition, functions_in}
+use Rattle.runs.proofs.Arguments.{declared_next, declared_not, declared_end, admitted_other, admitted_part, admitted_is}
+use Rattle.runs.proofs.admits.Goals as goal
+
+pub returns-then-kinds-n : goal.returns-then-kinds-n
+returns-then-kinds-n c =
+    admitted_other (functions_in c.args.file.now) (function_at (edition c.args.file.now) c.args.k + 10) c.args.args.now c.args.kinds.now _ c.if-kinds-n.true
+
+pub returns-then-args-n : goal.returns-then-args-n
+returns-then-args-n c =
+    admitted_part (functions_in c.args.file.now) (function_at (edition c.args.file.now) c.args.k + 10) c.args.args.now c.args.kinds.now _ c.if-kinds-n.false c.if-args-n.true
+
+pub loop-j-init : goal.loop-j-init
+loop-j-init c = (omega arith, refl)
+
+pub param-b-requires : goal.param-b-requires
+param-b-requires c =
+    record { packed = c.requires.0; k_lt_functions = (c.requires.2 (omega arith), omega arith) }
+
+pub slot_at-v-requires : goal.slot_at-v-requires
+slot_at-v-requires c = (omega arith, omega arith)
+
+pub takes-fits-requires : goal.takes-fits-requires
+takes-fits-requires c = tt
+
+pub returns-then-not-fits : goal.returns-then-not-fits
+returns-then-not-fits c =
+    admitted_is (functions_in c.args.file.now) (function_at (edition c.args.file.now) c.args.k + 10) c.args.args.now c.args.kinds.now _ c.if-kinds-n.false c.if-args-n.false _ (c.loop-j.invariant.1 ∙ declared_not (functions_in c.args.file.now) (function_at (edition c.args.file.now) c.args.k + 10) c.args.args.now c.args.kinds.now c.loop-j.j (omega arith) _ _ _ c.param-b.ensures.0 c.slot_at-v.ensures c.takes-fits.ensures (not-true _ c.if-not-fits.true-raw))
+
+pub loop-j-preserved : goal.loop-j-preserved
+loop-j-preserved c =
+    (omega arith, c.loop-j.invariant.1 ∙ declared_next (functions_in c.args.file.now) (function_at (edition c.args.file.now) c.args.k + 10) c.args.args.now c.args.kinds.now c.loop-j.j (omega arith) _ _ _ c.param-b.ensures.0 c.slot_at-v.ensures c.takes-fits.ensures (not-false _ c.if-not-fits.false-raw))
+
+pub returns : goal.returns
+returns c =
+    admitted_is (functions_in c.args.file.now) (function_at (edition c.args.file.now) c.args.k + 10) c.args.args.now c.args.kinds.now _ c.if-kinds-n.false c.if-args-n.false _ (c.loop-j.invariant.1 ∙ declared_end (functions_in c.args.file.now) (function_at (edition c.args.file.now) c.args.k + 10) c.args.args.now c.args.kinds.now c.loop-j.j (omega arith))

@@ -1,0 +1,19 @@
+-- `values::single::dec_value` meets its contract. Assumes nothing.
+use Rattle.rules.specs.Operations.{bumped, computed, on_words, on_doubles}
+use Rattle.values.proofs.Cases.{int_kind, long_kind, double_kind, pointer_told}
+use Rattle.values.proofs.single.dec_value.Goals as goal
+
+pub returns-in-Int : goal.returns-in-Int
+unfolding bumped computed on_words
+returns-in-Int c = λ s k e. let f = int_kind s k e c.in-Int.is in rw (c.sub32.ensures, f.1, f.0)
+
+pub returns-in-Long : goal.returns-in-Long
+unfolding bumped computed on_words
+returns-in-Long c = λ s k e. let f = long_kind s k e c.in-Long.is in rw (c.sub64.ensures, f.1, f.0)
+
+pub returns-in-Double : goal.returns-in-Double
+unfolding bumped computed on_doubles
+returns-in-Double c = λ s k e. let f = double_kind s k e c.in-Double.is in rw (f.1, f.0)
+
+pub returns-in-Pointer : goal.returns-in-Pointer
+returns-in-Pointer c = λ s k e. rw (pointer_told s k e c.in-Pointer.is)

@@ -1,0 +1,11 @@
+-- `words::icmp32` meets its contract. Assumes nothing.
+use Rattle.std.proofs.Common.{sym, ◌∙◌, ap₂, lit<}
+use Rattle.rules.specs.Words.{cmp_of}
+use Rattle.words.proofs.Laws.{icmp_law}
+use Rattle.words.proofs.icmp32.Goals as goal
+
+pub returns : goal.returns
+returns c =
+    c.cmp32.ensures ∙ ap₂ cmp_of c.add32.ensures c.add32-2.ensures
+    ∙ sym (icmp_law 32 (lit< tt) _ _ c.ranges.a.fits
+    c.ranges.b.fits)

@@ -1,0 +1,10 @@
+-- `words::shl64` meets its contract. Assumes nothing.
+use Rattle.std.proofs.Common.{sym}
+use Rattle.words.proofs.Laws.{shl_in, shl_out}
+use Rattle.words.proofs.shl64.Goals as goal
+
+pub returns-then-k-lt64 : goal.returns-then-k-lt64
+returns-then-k-lt64 c = sym (shl_in 64 _ _ c.if-k-lt64.true)
+
+pub returns-else-k-lt64 : goal.returns-else-k-lt64
+returns-else-k-lt64 c = sym (shl_out 64 _ _ c.if-k-lt64.false)
