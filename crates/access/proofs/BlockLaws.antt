@@ -8,6 +8,9 @@ use mathlib.Core.List.{List, [], ◌∷◌}
 use lib.ListN.{length}
 use lib.Dec.{ltb}
 use borrow.Author.Tests.{lt-ltb, le-ltb, le-leb, lt-leb, eq-eqb, ne_eqb}
+use Rattle.std.specs.Prelude.{Ok, Err}
+use Rattle.std.specs.declared.result.Result as code
+use Rattle.rules.specs.declared.Exception.{Exception}
 use Rattle.rules.specs.declared.Slot.{Slot}
 use Rattle.rules.specs.declared.Num.{Num}
 use Rattle.rules.specs.declared.Instruction.{Instruction}
@@ -27,8 +30,8 @@ use Rattle.state.proofs.Stack.{split_lt, length_slots, take1_short, take1_has}
 use Rattle.state.proofs.Outcomes.{shifted, over_every, stopping_over, dropping, topping}
 use Rattle.state.proofs.Families.{types_same, payloads_are}
 use Rattle.heap.specs.declared.Entry.{Entry}
-use Rattle.heap.specs.declared.Found.{Found}
-use Rattle.heap.specs.declared.Found.TheVariants.{At, Nothing}
+use Rattle.std.specs.Prelude.{Some, None}
+use Rattle.std.specs.declared.option.Option.{Option}
 use Rattle.heap.specs.declared.Grant.{Grant}
 use Rattle.heap.specs.declared.Shelf.{Shelf}
 use Rattle.heap.specs.Blocks.{entry_at, size_in, heap_of}
@@ -37,7 +40,7 @@ use Rattle.heap.specs.Grants.{Gives, source}
 use Rattle.heap.specs.Targets.{Shapes}
 use Rattle.heap.proofs.Aimed.{shape_none, shape_some, module_with, shapes_with}
 use Rattle.access.specs.declared.targets.Aim.{Aim}
-use Rattle.access.specs.declared.targets.Aim.TheVariants.{Slot as slotAim, Whole, Cell, Raises}
+use Rattle.access.specs.declared.targets.Aim.TheVariants.{Slot as slotAim, Whole, Cell}
 use Rattle.access.specs.Access.{shelf_of, heap_in, HeapReady, Accessed}
 use Rattle.access.specs.Targets.{through, ToWhole, Leads}
 use Rattle.access.proofs.Over.{accessed, stacked, stopped}
@@ -54,7 +57,7 @@ creates_from M cap false n w st f cs = refl
 creates_from M cap true n w st f cs = refl
 
 -- what `delete` takes is live
-pub given_live : (h : Heap) (E : ℕ → Entry) (n a i : ℕ) (x : Found) → Given h E n a x → x ≡ At i → i < n
+pub given_live : (h : Heap) (E : ℕ → Entry) (n a i : ℕ) (x : Option ℕ) → Given h E n a x → x ≡ Some i → i < n
 given_live h E n a i x y e = go (rw e at y)
   where
     go : (i < n) × ((E i).serial ≡ serial_in a) × (is_given h a ≡ true) → i < n
@@ -70,9 +73,9 @@ module _ (m : Module) (cap : ℕ) (r : Registers) (f p t : List ℕ) (k : Ready 
     abbrev pub null_slot : Slot
     null_slot = slot (ptr_kind u) null_address
 
-    pub null_full : cap ≤ r.height → DoesOver cap r (Stops 20) p t f p t f (exec_in m cap (Null u))
+    pub null_full : cap ≤ r.height → DoesOver cap r (Stops Exception.StackOverflow) p t f p t f (exec_in m cap (Null u))
     unfolding exec_in
-    null_full h = stopping_over cap r p t f k 20 (exec_in m cap (Null u)) (λ g. rw (length_slots p t r.height, lt-leb (suc r.height) cap (omega arith)) refl)
+    null_full h = stopping_over cap r p t f k Exception.StackOverflow (exec_in m cap (Null u)) (λ g. rw (length_slots p t r.height, lt-leb (suc r.height) cap (omega arith)) refl)
 
     -- k₀: the type number, as the code has it
     pub null_is : (k₀ : ℕ) → k₀ ≡ ptr_kind u → (p' t' : List ℕ) → r.height < cap
@@ -98,9 +101,9 @@ module _ (m : Module) (cap : ℕ) (r : Registers) (f p t : List ℕ) (k : Ready 
     -- ---- new
 
     module _ (sh : Shapes m d) (u : Bool) (n : ℕ) where
-      pub new_37 : size_in d n ≡ 0 → Accessed (exec_in m cap (New u n)) cap size r (Stops 37) d f p t g c b p t g c b
+      pub new_37 : size_in d n ≡ 0 → Accessed (exec_in m cap (New u n)) cap size r (Stops Exception.TypeOutOfRange) d f p t g c b p t g c b
       unfolding exec_in
-      new_37 e = stopped (exec_in m cap (New u n)) cap size r d f p t g c b k o 37 (rw (sh n, shape_none d n e) refl)
+      new_37 e = stopped (exec_in m cap (New u n)) cap size r d f p t g c b k o Exception.TypeOutOfRange (rw (sh n, shape_none d n e) refl)
 
       module _ (w : 1 ≤ size_in d n) where
         -- the heap that the block is from
@@ -113,9 +116,9 @@ module _ (m : Module) (cap : ℕ) (r : Registers) (f p t : List ℕ) (k : Ready 
             let z = shape_some d n w in
             rw (sh n, z.1, z.2) (creates_from at.memory cap u n (size_in d n) (slots_of p t r.height) (after (New u n)) at.callers)
 
-        pub new_20 : cap ≤ r.height → Accessed (exec_in m cap (New u n)) cap size r (Stops 20) d f p t g c b p t g c b
+        pub new_20 : cap ≤ r.height → Accessed (exec_in m cap (New u n)) cap size r (Stops Exception.StackOverflow) d f p t g c b p t g c b
         new_20 h =
-            stopped (exec_in m cap (New u n)) cap size r d f p t g c b k o 20
+            stopped (exec_in m cap (New u n)) cap size r d f p t g c b k o Exception.StackOverflow
             (new_creates ∙ rw (length_slots p t r.height, lt-leb (suc r.height) cap (omega arith)) refl)
 
         module _ (a : Grant) where
@@ -136,17 +139,17 @@ module _ (m : Module) (cap : ℕ) (r : Registers) (f p t : List ℕ) (k : Ready 
 
     -- ---- delete
 
-    pub delete_21 : r.height < r.floor + 1 → Accessed (exec_in m cap Delete) cap size r (Stops 21) d f p t g c b p t g c b
+    pub delete_21 : r.height < r.floor + 1 → Accessed (exec_in m cap Delete) cap size r (Stops Exception.StackEmpty) d f p t g c b p t g c b
     unfolding exec_in
-    delete_21 h = stopped (exec_in m cap Delete) cap size r d f p t g c b k o 21 (take1_short p t r.floor r.height _ h)
+    delete_21 h = stopped (exec_in m cap Delete) cap size r d f p t g c b k o Exception.StackEmpty (take1_short p t r.floor r.height _ h)
 
     module _ (has : r.floor + 1 ≤ r.height) (w : Slot) (top : w ≡ slot_at p t (r.height - 1)) where
       delete_takes : exec_in m cap Delete at ≡ deleting at.memory w (slots_of p t (r.height - 1)) (after Delete) at.callers
       unfolding exec_in
       delete_takes = take1_has p t r.floor r.height _ has ∙ rw (← top) refl
 
-      pub delete_31 : (w.kind ≡ 7 → ⊥) → Accessed (exec_in m cap Delete) cap size r (Stops 31) d f p t g c b p t g c b
-      delete_31 ne = stopped (exec_in m cap Delete) cap size r d f p t g c b k o 31 (delete_takes ∙ rw (ne_eqb w.kind 7 ne) refl)
+      pub delete_31 : (w.kind ≡ 7 → ⊥) → Accessed (exec_in m cap Delete) cap size r (Stops Exception.PointerNotPointer) d f p t g c b p t g c b
+      delete_31 ne = stopped (exec_in m cap Delete) cap size r d f p t g c b k o Exception.PointerNotPointer (delete_takes ∙ rw (ne_eqb w.kind 7 ne) refl)
 
       module _ (is : w.kind ≡ 7) where
         pub delete_null : w.payload ≡ null_address → Accessed (exec_in m cap Delete) cap size r (Goes (moved_to r (r.place + 1) (r.height - 1))) d f p t g c b p t g c b
@@ -156,14 +159,14 @@ module _ (m : Module) (cap : ℕ) (r : Registers) (f p t : List ℕ) (k : Ready 
             (dropping cap r p t f k (r.place + 1) (r.height - 1) _ (omega arith) (omega arith) refl)
             (sym (delete_takes ∙ rw (eq-eqb w.kind 7 is, eq-eqb w.payload null_address e) refl))
 
-        module _ (some : w.payload ≡ null_address → ⊥) (q : Shelf) (eq : q ≡ shelf_of g) (x : Found) (y : Given (heap_of size q d c b) (entry_at b) q.count w.payload x) where
-          pub delete_33 : x ≡ Nothing → Accessed (exec_in m cap Delete) cap size r (Stops 33) d f p t g c b p t g c b
+        module _ (some : w.payload ≡ null_address → ⊥) (q : Shelf) (eq : q ≡ shelf_of g) (x : Option ℕ) (y : Given (heap_of size q d c b) (entry_at b) q.count w.payload x) where
+          pub delete_33 : x ≡ None → Accessed (exec_in m cap Delete) cap size r (Stops Exception.PointerUnknownAddress) d f p t g c b p t g c b
           delete_33 e = go (rw (e, eq) at y)
             where
-              go : is_given heap w.payload ≡ false → Accessed (exec_in m cap Delete) cap size r (Stops 33) d f p t g c b p t g c b
-              go n = stopped (exec_in m cap Delete) cap size r d f p t g c b k o 33 (delete_takes ∙ rw (eq-eqb w.kind 7 is, ne_eqb w.payload null_address some, n) refl)
+              go : is_given heap w.payload ≡ false → Accessed (exec_in m cap Delete) cap size r (Stops Exception.PointerUnknownAddress) d f p t g c b p t g c b
+              go n = stopped (exec_in m cap Delete) cap size r d f p t g c b k o Exception.PointerUnknownAddress (delete_takes ∙ rw (eq-eqb w.kind 7 is, ne_eqb w.payload null_address some, n) refl)
 
-          pub delete_is : (i : ℕ) → x ≡ At i → (l : Shelf) (g' c' b' : List ℕ)
+          pub delete_is : (i : ℕ) → x ≡ Some i → (l : Shelf) (g' c' b' : List ℕ)
               → Makes size l d c b c' b' (having (heap_of size q d c b) (without (heap_of size q d c b).blocks (entry_at b i).serial)) → shelf_of g' ≡ l → length g' ≡ 4
               → Accessed (exec_in m cap Delete) cap size r (Goes (moved_to r (r.place + 1) (r.height - 1))) d f p t g c b p t g' c' b'
           delete_is i e l g' c' b' makes eg four = go (rw (e, eq) at y) (rw eq at makes)
@@ -185,43 +188,43 @@ module _ (m : Module) (cap : ℕ) (r : Registers) (f p t : List ℕ) (k : Ready 
       abbrev enters : ℕ → List Slot → ℕ → List Num → Next
       enters kind st s fs = cond (ltb n (length fs)) (pushing at.memory cap (slot kind (field_address s n) ∷ []) st (after (Flea n)) at.callers) (stops 38)
 
-      pub flea_21 : r.height < r.floor + 1 → Accessed (exec_in m cap (Flea n)) cap size r (Stops 21) d f p t g c b p t g c b
+      pub flea_21 : r.height < r.floor + 1 → Accessed (exec_in m cap (Flea n)) cap size r (Stops Exception.StackEmpty) d f p t g c b p t g c b
       unfolding exec_in
-      flea_21 h = stopped (exec_in m cap (Flea n)) cap size r d f p t g c b k o 21 (take1_short p t r.floor r.height _ h)
+      flea_21 h = stopped (exec_in m cap (Flea n)) cap size r d f p t g c b k o Exception.StackEmpty (take1_short p t r.floor r.height _ h)
 
-      module _ (has : r.floor + 1 ≤ r.height) (w : Slot) (top : w ≡ slot_at p t (r.height - 1)) (x : Aim) (l : Leads m size d g p t c b (r.height - 1) w x) where
+      module _ (has : r.floor + 1 ≤ r.height) (w : Slot) (top : w ≡ slot_at p t (r.height - 1)) (x : code.Result Aim Exception) (l : Leads m size d g p t c b (r.height - 1) w x) where
         flea_takes : exec_in m cap (Flea n) at ≡ through m heap w (slots_of p t (r.height - 1)) (λ z. as_structure z (enters w.kind (slots_of p t (r.height - 1))))
         unfolding exec_in
         flea_takes = take1_has p t r.floor r.height _ has ∙ rw (← top) refl
 
-        pub flea_slot : (i : ℕ) → x ≡ slotAim i → Accessed (exec_in m cap (Flea n)) cap size r (Stops 39) d f p t g c b p t g c b
+        pub flea_slot : (i : ℕ) → x ≡ Ok (slotAim i) → Accessed (exec_in m cap (Flea n)) cap size r (Stops Exception.PointerNotStructure) d f p t g c b p t g c b
         flea_slot i e = go (rw e at l)
           where
-            go : Leads m size d g p t c b (r.height - 1) w (slotAim i) → Accessed (exec_in m cap (Flea n)) cap size r (Stops 39) d f p t g c b p t g c b
-            go y = stopped (exec_in m cap (Flea n)) cap size r d f p t g c b k o 39 (flea_takes ∙ y.1 (λ z. as_structure z (enters w.kind (slots_of p t (r.height - 1)))))
+            go : Leads m size d g p t c b (r.height - 1) w (Ok (slotAim i)) → Accessed (exec_in m cap (Flea n)) cap size r (Stops Exception.PointerNotStructure) d f p t g c b p t g c b
+            go y = stopped (exec_in m cap (Flea n)) cap size r d f p t g c b k o Exception.PointerNotStructure (flea_takes ∙ y.1 (λ z. as_structure z (enters w.kind (slots_of p t (r.height - 1)))))
 
-        pub flea_cell : (kind i : ℕ) → x ≡ Cell kind i → Accessed (exec_in m cap (Flea n)) cap size r (Stops 39) d f p t g c b p t g c b
+        pub flea_cell : (kind i : ℕ) → x ≡ Ok (Cell kind i) → Accessed (exec_in m cap (Flea n)) cap size r (Stops Exception.PointerNotStructure) d f p t g c b p t g c b
         flea_cell kind i e = go (rw e at l)
           where
-            go : Leads m size d g p t c b (r.height - 1) w (Cell kind i) → Accessed (exec_in m cap (Flea n)) cap size r (Stops 39) d f p t g c b p t g c b
-            go y = stopped (exec_in m cap (Flea n)) cap size r d f p t g c b k o 39 (flea_takes ∙ y.leads (λ z. as_structure z (enters w.kind (slots_of p t (r.height - 1)))))
+            go : Leads m size d g p t c b (r.height - 1) w (Ok (Cell kind i)) → Accessed (exec_in m cap (Flea n)) cap size r (Stops Exception.PointerNotStructure) d f p t g c b p t g c b
+            go y = stopped (exec_in m cap (Flea n)) cap size r d f p t g c b k o Exception.PointerNotStructure (flea_takes ∙ y.leads (λ z. as_structure z (enters w.kind (slots_of p t (r.height - 1)))))
 
-        pub flea_stops : (i : ℕ) → x ≡ Raises i → Accessed (exec_in m cap (Flea n)) cap size r (Stops i) d f p t g c b p t g c b
+        pub flea_stops : (i : Exception) → x ≡ Err i → Accessed (exec_in m cap (Flea n)) cap size r (Stops i) d f p t g c b p t g c b
         flea_stops i e = go (rw e at l)
           where
-            go : Leads m size d g p t c b (r.height - 1) w (Raises i) → Accessed (exec_in m cap (Flea n)) cap size r (Stops i) d f p t g c b p t g c b
+            go : Leads m size d g p t c b (r.height - 1) w (Err i) → Accessed (exec_in m cap (Flea n)) cap size r (Stops i) d f p t g c b p t g c b
             go y = stopped (exec_in m cap (Flea n)) cap size r d f p t g c b k o i (flea_takes ∙ y (λ z. as_structure z (enters w.kind (slots_of p t (r.height - 1)))) refl)
 
-        module _ (count : ℕ) (e : x ≡ Whole count) where
+        module _ (count : ℕ) (e : x ≡ Ok (Whole count)) where
           whole : ToWhole m heap w (slots_of p t (r.height - 1)) count
           whole = rw e at l
 
           flea_enters : exec_in m cap (Flea n) at ≡ enters w.kind (slots_of p t (r.height - 1)) (serial_in w.payload) whole.fields
           flea_enters = flea_takes ∙ whole.leads (λ z. as_structure z (enters w.kind (slots_of p t (r.height - 1))))
 
-          pub flea_38 : count ≤ n → Accessed (exec_in m cap (Flea n)) cap size r (Stops 38) d f p t g c b p t g c b
+          pub flea_38 : count ≤ n → Accessed (exec_in m cap (Flea n)) cap size r (Stops Exception.FieldOutOfRange) d f p t g c b p t g c b
           flea_38 h =
-              stopped (exec_in m cap (Flea n)) cap size r d f p t g c b k o 38
+              stopped (exec_in m cap (Flea n)) cap size r d f p t g c b k o Exception.FieldOutOfRange
               (flea_enters ∙ rw (whole.count, le-ltb n count h) refl)
 
           pub flea_is : (p' : List ℕ) → n < count → p' ≡ written 8 p ((r.height - 1) * 8) (w.payload + 1 + n) → w.payload + 1 + n < 2 ^ 64
@@ -237,7 +240,7 @@ module _ (m : Module) (cap : ℕ) (r : Registers) (f p t : List ℕ) (k : Ready 
               (sym (flea_enters ∙ rw (whole.count, lt-ltb n count h, length_slots p t (r.height - 1), le-leb (suc (r.height - 1)) cap (omega (arith, k.high)), address) refl))
 
 -- the address of a field is no more than a word
-pub address_fits : (size : ℕ) (d g c b : List ℕ) (n : ℕ) (w : Slot) (x : Aim) (count i : ℕ) → Aimed size d g c b n w x → x ≡ Whole count → w.payload < 2 ^ 64 → i < count
+pub address_fits : (size : ℕ) (d g c b : List ℕ) (n : ℕ) (w : Slot) (x : code.Result Aim Exception) (count i : ℕ) → Aimed size d g c b n w x → x ≡ Ok (Whole count) → w.payload < 2 ^ 64 → i < count
     → w.payload + 1 + i < 2 ^ 64
 address_fits size d g c b n w x count i a e fits h = go (rw e at (a (module_with d) (shapes_with d) [] []))
   where

@@ -17,19 +17,19 @@ use Rattle.soundness.specs.Walks.{size_some}
 use Rattle.soundness.specs.Framed.{heapless}
 use Rattle.soundness.specs.Numbering.{key_table}
 use Rattle.keys.specs.Keys.{decoded, Says, Outside, each, among_any}
-use Rattle.keys.specs.declared.Decoded.{Decoded as Answer}
-use Rattle.keys.specs.declared.Decoded.TheVariants as Decoded
+use Rattle.std.specs.Prelude.{Some, None}
+use Rattle.std.specs.declared.option.Option.{Option}
 use Rattle.keys.proofs.Places.{at_end_lem, at_key, says_key}
 use Rattle.keys.proofs.Chain.{outside}
 
 -- ---- the instruction at a place, by its key
 
 -- its key, as it is decoded, is its byte
-pub byte_is : (code : List ℕ) (q stop b : ℕ) → decoded code q stop ≡ Decoded.Instruction b → (i : Instruction) → Says code q i → byte code q ≡ b
+pub byte_is : (code : List ℕ) (q stop b : ℕ) → decoded code q stop ≡ Some b → (i : Instruction) → Says code q i → byte code q ≡ b
 byte_is code q stop b e i s = sym (says_key code q i s) ∙ sym (at_key code q stop b e).1
 
 -- where one that needs a heap is known to stand
-pub byte_at : (code : List ℕ) (q stop b : ℕ) {x : Answer} → x ≡ decoded code q stop → x ≡ Decoded.Instruction b → (i : Instruction) × Says code q i × (heapless i ≡ false)
+pub byte_at : (code : List ℕ) (q stop b : ℕ) {x : Option ℕ} → x ≡ decoded code q stop → x ≡ Some b → (i : Instruction) × Says code q i × (heapless i ≡ false)
     → byte code q ≡ b
 byte_at code q stop b e is s = byte_is code q stop b (sym e ∙ is) s.0 s.1
 
@@ -99,5 +99,5 @@ pub starts_inside : (code : List ℕ) (q : ℕ) (i : Instruction) → Says code 
 starts_inside code q i s = omega (arith, s.whole, size_some i)
 
 -- and a body that goes on behind it does not end before it
-pub no_end : {P : Type 0} (code : List ℕ) (q : ℕ) → decoded code q (q + 1) ≡ Decoded.End → P
+pub no_end : {P : Type 0} (code : List ℕ) (q : ℕ) → decoded code q (q + 1) ≡ None → P
 no_end code q e = absurd (let z : q + 1 ≤ q = at_end_lem code q (q + 1) e in omega arith)

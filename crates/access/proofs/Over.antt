@@ -5,6 +5,8 @@ use mathlib.Core.Path.{◌≡◌, refl, sym, ap, ◌∙◌, subst}
 use mathlib.Core.Bool.{Bool}
 use mathlib.Core.List.{List, [], ◌∷◌}
 use lib.ListN.{length, set}
+use Rattle.rules.specs.declared.Exception.{Exception}
+use Rattle.rules.specs.Results.{exception_number}
 use Rattle.rules.specs.declared.Slot.{Slot}
 use Rattle.rules.specs.Heap.{Heap}
 use Rattle.rules.specs.Machine.{State, Next, stops}
@@ -94,8 +96,8 @@ module _ (e : State → Next) (cap size : ℕ) (r : Registers) (d f p t g c b : 
       (unmade o.sane)
       o.four is (kept a before)
 
-  pub stopped : (n : ℕ) → e state ≡ stops n → Accessed e cap size r (Stops n) d f p t g c b p t g c b
-  stopped n q = stacked (Stops n) p t (stops n) (stopping cap r p t f k n (stops n) refl) (sym q)
+  pub stopped : (n : Exception) → e state ≡ stops (exception_number n) → Accessed e cap size r (Stops n) d f p t g c b p t g c b
+  stopped n q = stacked (Stops n) p t (stops (exception_number n)) (stopping cap r p t f k n (stops (exception_number n)) refl) (sym q)
 
   -- over every heap the same
   pub framed : (a : Progress) (p' t' : List ℕ) → DoesOver cap r a p t f p' t' f e → Accessed e cap size r a d f p t g c b p' t' g c b

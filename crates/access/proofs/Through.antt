@@ -5,6 +5,10 @@ use mathlib.Core.Path.{◌≡◌, refl, sym, ap, ◌∙◌}
 use mathlib.Core.Bool.{Bool, false}
 use mathlib.Core.List.{List, [], ◌∷◌}
 use borrow.Author.Tests.{le-leb, eq-eqb, ne_eqb}
+use Rattle.std.specs.Prelude.{Ok, Err}
+use Rattle.std.specs.declared.result.Result as code
+use Rattle.rules.specs.declared.Exception.{Exception}
+use Rattle.rules.specs.Results.{exception_number}
 use Rattle.rules.specs.declared.Slot.{Slot}
 use Rattle.rules.specs.declared.Unary.TheVariants.{Count}
 use Rattle.rules.specs.declared.Instruction.TheVariants.{Tload, Tstore, Bump}
@@ -19,8 +23,6 @@ use Rattle.soundness.specs.Tests.{decide, eqb_same}
 use Rattle.soundness.specs.Framed.{with_heap}
 use Rattle.values.specs.Values.{payload_of, slot_of, result_of}
 use Rattle.values.specs.declared.Value.{Value}
-use Rattle.values.specs.declared.Computed.{Computed}
-use Rattle.values.specs.declared.Computed.TheVariants.{Yields, Raises}
 use Rattle.state.specs.Slots.{payloads_with, types_with}
 use Rattle.state.specs.State.{state_of, moved_to, Ready}
 use Rattle.state.specs.declared.Registers.{Registers}
@@ -33,7 +35,6 @@ use Rattle.heap.specs.Blocks.{entry_at}
 use Rattle.heap.proofs.Made.{storing}
 use Rattle.access.specs.declared.targets.Spot.{Spot}
 use Rattle.access.specs.declared.targets.Spot.TheVariants.{OnStack, InHeap}
-use Rattle.access.specs.declared.targets.Named.TheVariants.{At, Nowhere}
 use Rattle.access.specs.Access.{shelf_of, heap_in, HeapReady, Accessed}
 use Rattle.access.specs.Targets.{through, Stands, NamesAt, Names, TopNames, PutAt, PutsAt}
 use Rattle.access.proofs.Over.{accessed, stacked, stopped}
@@ -73,11 +74,11 @@ module _ (m : Module) (cap size : ℕ) (r : Registers) (d f p t g c b : List ℕ
   abbrev loads : List Slot → rules.Spot → Slot → Next
   loads st x v = pushing at.memory cap (v ∷ []) st after at.callers
 
-  pub tload_stops : (n : ℕ) → TopNames m size d g p t c b r.floor r.height (Nowhere n) → Accessed (exec_in m cap Tload) cap size r (Stops n) d f p t g c b p t g c b
+  pub tload_stops : (n : Exception) → TopNames m size d g p t c b r.floor r.height (Err n) → Accessed (exec_in m cap Tload) cap size r (Stops n) d f p t g c b p t g c b
   unfolding exec_in
   tload_stops n y = stopped (exec_in m cap Tload) cap size r d f p t g c b k o n (y loads)
 
-  pub tload_is : (x : Spot) (v : Slot) (p' t' : List ℕ) → TopNames m size d g p t c b r.floor r.height (At x v)
+  pub tload_is : (x : Spot) (v : Slot) (p' t' : List ℕ) → TopNames m size d g p t c b r.floor r.height (Ok (x, v))
       → p' ≡ payloads_with p (r.height - 1) v → t' ≡ types_with t (r.height - 1) v → v.payload < 2 ^ 64
       → Accessed (exec_in m cap Tload) cap size r (Goes (moved_to r (r.place + 1) r.height)) d f p t g c b p' t' g c b
   unfolding exec_in
@@ -95,24 +96,24 @@ module _ (m : Module) (cap size : ℕ) (r : Registers) (d f p t g c b : List ℕ
   abbrev stores : Slot → List Slot → rules.Spot → Slot → Next
   stores v st x old = writing at.memory v old x st after at.callers
 
-  pub tstore_21 : r.height < r.floor + 2 → Accessed (exec_in m cap Tstore) cap size r (Stops 21) d f p t g c b p t g c b
+  pub tstore_21 : r.height < r.floor + 2 → Accessed (exec_in m cap Tstore) cap size r (Stops Exception.StackEmpty) d f p t g c b p t g c b
   unfolding exec_in
-  tstore_21 h = stopped (exec_in m cap Tstore) cap size r d f p t g c b k o 21 (take2_short p t r.floor r.height _ h)
+  tstore_21 h = stopped (exec_in m cap Tstore) cap size r d f p t g c b k o Exception.StackEmpty (take2_short p t r.floor r.height _ h)
 
   module _ (has : r.floor + 2 ≤ r.height) (w v : Slot) (deep : w ≡ slot_at p t (r.height - 2)) (top : v ≡ slot_at p t (r.height - 1)) where
     tstore_takes : exec_in m cap Tstore at ≡ through m (heap_in size d g c b) w (slots_of p t (r.height - 2)) (λ z. as_number z (stores v (slots_of p t (r.height - 2))))
     unfolding exec_in
     tstore_takes = take2_has p t r.floor r.height _ has ∙ rw (← deep, ← top) refl
 
-    pub tstore_stops : (n : ℕ) → Names m size d g p t c b (r.height - 2) w (Nowhere n) → Accessed (exec_in m cap Tstore) cap size r (Stops n) d f p t g c b p t g c b
+    pub tstore_stops : (n : Exception) → Names m size d g p t c b (r.height - 2) w (Err n) → Accessed (exec_in m cap Tstore) cap size r (Stops n) d f p t g c b p t g c b
     tstore_stops n y = stopped (exec_in m cap Tstore) cap size r d f p t g c b k o n (tstore_takes ∙ y (stores v (slots_of p t (r.height - 2))))
 
     module _ (x : Spot) (old : Slot) (y : NamesAt m size d g p t c b (r.height - 2) w old x) where
       tstore_writes : exec_in m cap Tstore at ≡ stores v (slots_of p t (r.height - 2)) y.spot old
       tstore_writes = tstore_takes ∙ y.leads (λ z. as_number z (stores v (slots_of p t (r.height - 2))))
 
-      pub tstore_22 : (v.kind ≡ old.kind → ⊥) → Accessed (exec_in m cap Tstore) cap size r (Stops 22) d f p t g c b p t g c b
-      tstore_22 ne = stopped (exec_in m cap Tstore) cap size r d f p t g c b k o 22 (tstore_writes ∙ rw (ne_eqb v.kind old.kind ne) refl)
+      pub tstore_22 : (v.kind ≡ old.kind → ⊥) → Accessed (exec_in m cap Tstore) cap size r (Stops Exception.StackDifferentType) d f p t g c b p t g c b
+      tstore_22 ne = stopped (exec_in m cap Tstore) cap size r d f p t g c b k o Exception.StackDifferentType (tstore_writes ∙ rw (ne_eqb v.kind old.kind ne) refl)
 
       pub tstore_is : (p' c' : List ℕ) → v.kind ≡ old.kind → v.payload < 2 ^ 64 → PutAt x v.payload p c p' c'
           → Accessed (exec_in m cap Tstore) cap size r (Goes (moved_to r (r.place + 1) (r.height - 2))) d f p t g c b p' t g c' b
@@ -126,17 +127,17 @@ module _ (m : Module) (cap size : ℕ) (r : Registers) (d f p t g c b : List ℕ
     abbrev bumps : List Slot → rules.Spot → Slot → Next
     bumps st x v = bumping at.memory u x v st after at.callers
 
-    pub bump_stops : (n : ℕ) → TopNames m size d g p t c b r.floor r.height (Nowhere n) → Accessed (exec_in m cap (Bump u)) cap size r (Stops n) d f p t g c b p t g c b
+    pub bump_stops : (n : Exception) → TopNames m size d g p t c b r.floor r.height (Err n) → Accessed (exec_in m cap (Bump u)) cap size r (Stops n) d f p t g c b p t g c b
     unfolding exec_in
     bump_stops n y = stopped (exec_in m cap (Bump u)) cap size r d f p t g c b k o n (y bumps)
 
-    module _ (x : Spot) (v : Slot) (y : TopNames m size d g p t c b r.floor r.height (At x v)) where
+    module _ (x : Spot) (v : Slot) (y : TopNames m size d g p t c b r.floor r.height (Ok (x, v))) where
       bump_takes : exec_in m cap (Bump u) at ≡ bumps (slots_of p t (r.height - 1)) y.1.spot v
       unfolding exec_in
       bump_takes = take1_has p t r.floor r.height _ y.0 ∙ y.1.leads (λ z. as_number z (bumps (slots_of p t (r.height - 1))))
 
       -- the number, one up or down
-      counted : (z : Value) → result_of (Yields z) ≡ apply1 (Count u) v → (is_pointer v.kind ≡ false) × (payload_of z ≡ bumped u v.kind v.payload)
+      counted : (z : Value) → result_of (Ok z) ≡ apply1 (Count u) v → (is_pointer v.kind ≡ false) × (payload_of z ≡ bumped u v.kind v.payload)
       counted z e = decide (is_pointer v.kind) (λ q. absurd (yields_raises (rw q at e))) (λ q. (q, payload_in (rw (q, eqb_same v.kind) at e)))
         where
           yields_raises : yields (slot_of z ∷ []) ≡ raises 32 → ⊥
@@ -145,23 +146,23 @@ module _ (m : Module) (cap size : ℕ) (r : Registers) (d f p t g c b : List ℕ
           payload_in : yields (slot_of z ∷ []) ≡ yields (slot v.kind (bumped u v.kind v.payload) ∷ []) → payload_of z ≡ bumped u v.kind v.payload
           payload_in e = let q : slot_of z ≡ slot v.kind (bumped u v.kind v.payload) = cc in ap (λ (s : Slot). s.payload) q
 
-      pub bump_is : (z : Computed) (a : Progress) (p' c' : List ℕ) → result_of z ≡ apply1 (Count u) v → PutsAt r x z a p c p' c'
+      pub bump_is : (z : code.Result Value Exception) (a : Progress) (p' c' : List ℕ) → result_of z ≡ apply1 (Count u) v → PutsAt r x z a p c p' c'
           → Accessed (exec_in m cap (Bump u)) cap size r a d f p t g c b p' t g c' b
-      bump_is (Yields z) a p' c' e q =
+      bump_is (Ok z) a p' c' e q =
           let has : r.floor + 1 ≤ r.height = y.0 in
           let n = counted z e in
           rw q.0
           (assigned (exec_in m cap (Bump u)) cap size r d f p t g c b k o (r.height - 1) v x y.1.spot (r.place + 1) (payload_of z) p' c' (omega arith) (omega arith) y.1.stands q.2 q.1
           (bump_takes ∙ rw (n.0, n.1) refl))
-      bump_is (Raises i) a p' c' e q =
+      bump_is (Err i) a p' c' e q =
           rw (q.0, q.1, q.2)
           (stopped (exec_in m cap (Bump u)) cap size r d f p t g c b k o i (bump_takes ∙ refused))
         where
-          refused : bumps (slots_of p t (r.height - 1)) y.1.spot v ≡ stops i
+          refused : bumps (slots_of p t (r.height - 1)) y.1.spot v ≡ stops (exception_number i)
           refused = decide (is_pointer v.kind) (λ n. rw n (raised (rw n at e))) (λ n. absurd (raises_yields (rw (n, eqb_same v.kind) at e)))
             where
-              raised : raises i ≡ raises 32 → stops 32 ≡ stops i
+              raised : raises (exception_number i) ≡ raises 32 → stops 32 ≡ stops (exception_number i)
               raised e = cc
 
-              raises_yields : raises i ≡ yields (slot v.kind (bumped u v.kind v.payload) ∷ []) → ⊥
+              raises_yields : raises (exception_number i) ≡ yields (slot v.kind (bumped u v.kind v.payload) ∷ []) → ⊥
               raises_yields e = let q : ◌≡◌ {A = ℕ} 0 1 = cc in omega arith

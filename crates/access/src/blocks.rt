@@ -11,14 +11,9 @@ ghost use Rattle.state.specs.State.{ReadyOn};
 ghost use Rattle.heap.specs.Targets.{Shapes};
 ghost use Rattle.access.specs.Access.{HeapReady, AccessIs, ActsOver};
 
-use crate::exceptions::{
-    FIELD_OUTOFRANGE, POINTER_NOTPOINTER, POINTER_NOTSTRUCTURE, POINTER_UNKNOWNADDRESS,
-    STACK_EMPTY, STACK_OVERFLOW, TYPE_OUTOFRANGE,
-};
 use crate::shelf::{keep, shelf};
 use crate::targets::{Aim, NULL, target_of};
-use heap::Found;
-use rules::Slot;
+use rules::{Exception, Slot};
 use state::{Progress, Registers};
 
 // The type number of a pointer.
@@ -38,7 +33,7 @@ pub fn null(managed: bool, cap: usize, r: Registers, p: &mut [u8], t: &mut [u8])
 {
     let h = r.height;
     if cap <= h {
-        return Progress::Stops(STACK_OVERFLOW);
+        return Progress::Stops(Exception::StackOverflow);
     }
     let v = Slot {
         kind: kind_of(managed),
@@ -70,10 +65,10 @@ pub fn new(
     let n = keys::operand(code, r.place) as u64;
     let width = heap::entries::size_of(d, n);
     if width == 0 {
-        return Progress::Stops(TYPE_OUTOFRANGE);
+        return Progress::Stops(Exception::TypeOutOfRange);
     }
     if cap <= h {
-        return Progress::Stops(STACK_OVERFLOW);
+        return Progress::Stops(Exception::StackOverflow);
     }
     let grant = heap::blocks::new(d, cells, table, size, shelf(g), managed, n, width, p, t, h);
     keep(g, grant.shelf);
@@ -103,19 +98,19 @@ pub fn delete(
 {
     let h = r.height;
     if h < r.floor + 1 {
-        return Progress::Stops(STACK_EMPTY);
+        return Progress::Stops(Exception::StackEmpty);
     }
     let w = state::slot_at(p, t, h - 1);
     if w.kind != 7 {
-        return Progress::Stops(POINTER_NOTPOINTER);
+        return Progress::Stops(Exception::PointerNotPointer);
     }
     let gone = state::moved(r, r.place + 1, h - 1);
     if w.payload == NULL {
         return Progress::Goes(gone);
     }
     let k = shelf(g);
-    let Found::At(i) = heap::blocks::given(d, cells, table, size, k, w.payload) else {
-        return Progress::Stops(POINTER_UNKNOWNADDRESS);
+    let Some(i) = heap::blocks::given(d, cells, table, size, k, w.payload) else {
+        return Progress::Stops(Exception::PointerUnknownAddress);
     };
     let left = heap::blocks::remove(d, cells, table, size, k, i);
     keep(g, left);
@@ -142,20 +137,19 @@ pub fn flea(
     let n = keys::operand(code, r.place) as usize;
     let h = r.height;
     if h < r.floor + 1 {
-        return Progress::Stops(STACK_EMPTY);
+        return Progress::Stops(Exception::StackEmpty);
     }
     let w = state::slot_at(p, t, h - 1);
-    let x = target_of(d, size, g, cells, table, h - 1, w);
-    match x {
-        Aim::Slot(_i) => Progress::Stops(POINTER_NOTSTRUCTURE),
-        Aim::Cell(_kind, _x) => Progress::Stops(POINTER_NOTSTRUCTURE),
-        Aim::Whole(f) => {
+    match target_of(d, size, g, cells, table, h - 1, w) {
+        Ok(Aim::Slot(_i)) => Progress::Stops(Exception::PointerNotStructure),
+        Ok(Aim::Cell(_kind, _x)) => Progress::Stops(Exception::PointerNotStructure),
+        Ok(Aim::Whole(f)) => {
             if f <= n {
-                return Progress::Stops(FIELD_OUTOFRANGE);
+                return Progress::Stops(Exception::FieldOutOfRange);
             }
             memory::store64(p, (h - 1) * 8, w.payload + 1 + n as u64);
             Progress::Goes(state::moved(r, r.place + 5, h))
         }
-        Aim::Raises(e) => Progress::Stops(e),
+        Err(e) => Progress::Stops(e),
     }
 }

@@ -13,17 +13,16 @@ ghost use Rattle.state.specs.State.{ReadyOn};
 ghost use Rattle.access.specs.Access.{HeapReady, AccessIs};
 
 use format::Sections;
-use keys::Decoded;
+use rules::Exception;
 use state::{Progress, Registers};
 
 pub mod blocks;
-mod exceptions;
 pub mod pointers;
 pub mod shelf;
 mod targets;
 
-// No run ends with this: here stands an instruction, one that may need a heap.
-const NEVER: u32 = 0;
+// This is never raised here: there stands an instruction, one that may need a heap.
+const NEVER: Exception = Exception::FunctionNoRetInstruction;
 
 // The instruction at the place, which may need a heap, done over it. Since one stands there, its body goes on at least to the next place;
 // with that for the end, decoding tests nothing.
@@ -48,16 +47,16 @@ pub fn step(
 {
     let at = c.code + c.extent;
     let d = &file[at..];
-    let decoded = keys::decode(code, r.place, r.place + 1);
-    let Decoded::Instruction(key) = decoded else {
+    let Some(key) = keys::decode(code, r.place, r.place + 1) else {
         return Progress::Stops(NEVER);
     };
+    // A match, and no table of closures: the compiler makes one jump of it, and each instruction is its own code.
     match key {
         0x06 => blocks::flea(d, code, cap, size, r, g, p, t, cells, table),
         0x07 => pointers::tload(d, cap, size, r, g, p, t, cells, table),
         0x08 => pointers::tstore(d, cap, size, r, g, p, t, cells, table),
-        0x14 => pointers::inc(d, cap, size, r, g, p, t, cells, table),
-        0x15 => pointers::dec(d, cap, size, r, g, p, t, cells, table),
+        0x14 => pointers::bump::<true>(d, cap, size, r, g, p, t, cells, table),
+        0x15 => pointers::bump::<false>(d, cap, size, r, g, p, t, cells, table),
         0x30 => blocks::null(false, cap, r, p, t),
         0x31 | 0x34 => blocks::new(key == 0x34, d, code, cap, size, r, g, p, t, cells, table),
         0x32 => blocks::delete(d, cap, size, r, g, p, t, cells, table),

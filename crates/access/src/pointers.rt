@@ -1,5 +1,5 @@
 // `tload`, `tstore`, `inc`, `dec`: on the number that a pointer is to.
-ghost use Rattle.std.specs.Prelude.{true, false, ◌<◌};
+ghost use Rattle.std.specs.Prelude.{◌<◌};
 ghost use Rattle.rules.specs.Tables.{Module};
 ghost use Rattle.rules.specs.Stack.{slots_of};
 ghost use Rattle.rules.specs.declared.Instruction.TheVariants.{Tload, Tstore, Bump};
@@ -9,10 +9,11 @@ ghost use Rattle.heap.specs.Targets.{Shapes};
 ghost use Rattle.access.specs.Access.{HeapReady, AccessIs};
 ghost use Rattle.access.specs.Targets.{Reaches, PutsAt};
 
-use crate::exceptions::{STACK_DIFFERENTTYPE, STACK_EMPTY};
-use crate::targets::{Named, Spot, number_of, put, top_number};
+use crate::targets::{Spot, number_of, put, top_number};
+use rules::Exception;
 use state::{Progress, Registers};
-use values::Computed;
+use values::Value;
+use values::single::Count;
 
 // `tload`.
 pub fn tload(
@@ -30,13 +31,12 @@ pub fn tload(
     requires ready_on { ReadyOn cap r p.old t.old × (r.place < r.stop) × Kinded (slots_of p.old t.old r.height) }
     ensures { (m : Module) → Shapes m d.now → AccessIs m Tload cap size r result d.now p.old t.old g.now cells.now table.now p.new t.new g.now cells.now table.now }
 {
-    let x = top_number(d, size, r, g, p, t, cells, table);
-    match x {
-        Named::At(_at, v) => {
+    match top_number(d, size, r, g, p, t, cells, table) {
+        Ok((_at, v)) => {
             state::put_slot(p, t, r.height - 1, v);
             Progress::Goes(state::moved(r, r.place + 1, r.height))
         }
-        Named::Nowhere(e) => Progress::Stops(e),
+        Err(e) => Progress::Stops(e),
     }
 }
 
@@ -58,39 +58,44 @@ pub fn tstore(
 {
     let h = r.height;
     if h < r.floor + 2 {
-        return Progress::Stops(STACK_EMPTY);
+        return Progress::Stops(Exception::StackEmpty);
     }
     let w = state::slot_at(p, t, h - 2);
     let v = state::slot_at(p, t, h - 1);
-    let x = number_of(d, size, g, p, t, cells, table, h - 2, w);
-    match x {
-        Named::At(at, old) => {
+    match number_of(d, size, g, p, t, cells, table, h - 2, w) {
+        Ok((at, old)) => {
             if v.kind != old.kind {
-                return Progress::Stops(STACK_DIFFERENTTYPE);
+                return Progress::Stops(Exception::StackDifferentType);
             }
             put(at, v.payload, p, cells);
             Progress::Goes(state::moved(r, r.place + 1, h - 2))
         }
-        Named::Nowhere(e) => Progress::Stops(e),
+        Err(e) => Progress::Stops(e),
     }
 }
 
 // The number back where it stands, of its own type, and the pointer gone.
-fn put_back(r: Registers, at: Spot, x: Computed, p: &mut [u8], cells: &mut [u8]) -> Progress
+fn put_back(
+    r: Registers,
+    at: Spot,
+    x: Result<Value, Exception>,
+    p: &mut [u8],
+    cells: &mut [u8],
+) -> Progress
     requires { (r.place < r.stop) × (0 < r.height) × Reaches at p.old cells.old }
     ensures { PutsAt r at x result p.old cells.old p.new cells.new }
 {
     match x {
-        Computed::Yields(v) => {
+        Ok(v) => {
             put(at, values::payload_of(v), p, cells);
             Progress::Goes(state::moved(r, r.place + 1, r.height - 1))
         }
-        Computed::Raises(e) => Progress::Stops(e),
+        Err(e) => Progress::Stops(e),
     }
 }
 
-// `inc`.
-pub fn inc(
+// `inc` where UP, else `dec`.
+pub fn bump<const UP: bool>(
     d: &[u8],
     cap: usize,
     size: usize,
@@ -103,46 +108,13 @@ pub fn inc(
 ) -> Progress
     requires heap_ready { HeapReady size d.now g.now cells.old table.now }
     requires ready_on { ReadyOn cap r p.old t.now × (r.place < r.stop) × Kinded (slots_of p.old t.now r.height) }
-    ensures { (m : Module) → Shapes m d.now → AccessIs m (Bump true) cap size r result d.now p.old t.now g.now cells.old table.now p.new t.now g.now cells.new table.now }
+    ensures { (m : Module) → Shapes m d.now → AccessIs m (Bump UP) cap size r result d.now p.old t.now g.now cells.old table.now p.new t.now g.now cells.new table.now }
 {
-    let x = top_number(d, size, r, g, p, t, cells, table);
-    match x {
-        Named::At(at, v) => put_back(
-            r,
-            at,
-            values::single::inc_value(values::value_of(v)),
-            p,
-            cells,
-        ),
-        Named::Nowhere(e) => Progress::Stops(e),
-    }
-}
-
-// `dec`.
-pub fn dec(
-    d: &[u8],
-    cap: usize,
-    size: usize,
-    r: Registers,
-    g: &[u64],
-    p: &mut [u8],
-    t: &[u8],
-    cells: &mut [u8],
-    table: &[u8],
-) -> Progress
-    requires heap_ready { HeapReady size d.now g.now cells.old table.now }
-    requires ready_on { ReadyOn cap r p.old t.now × (r.place < r.stop) × Kinded (slots_of p.old t.now r.height) }
-    ensures { (m : Module) → Shapes m d.now → AccessIs m (Bump false) cap size r result d.now p.old t.now g.now cells.old table.now p.new t.now g.now cells.new table.now }
-{
-    let x = top_number(d, size, r, g, p, t, cells, table);
-    match x {
-        Named::At(at, v) => put_back(
-            r,
-            at,
-            values::single::dec_value(values::value_of(v)),
-            p,
-            cells,
-        ),
-        Named::Nowhere(e) => Progress::Stops(e),
+    match top_number(d, size, r, g, p, t, cells, table) {
+        Ok((at, v)) => {
+            let x = values::single::apply::<Count<UP>>(values::value_of(v));
+            put_back(r, at, x, p, cells)
+        }
+        Err(e) => Progress::Stops(e),
     }
 }

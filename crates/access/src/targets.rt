@@ -7,41 +7,29 @@ ghost use Rattle.soundness.specs.Kinds.{Kind, Kinded};
 ghost use Rattle.access.specs.Access.{HeapReady};
 ghost use Rattle.access.specs.Targets.{Names, Leads, TopNames, Reaches, PutAt};
 
-use crate::exceptions::{
-    POINTER_NOTPOINTER, POINTER_NULLPOINTER, POINTER_UNKNOWNADDRESS, POINTER_WHOLESTRUCTURE,
-    STACK_EMPTY,
-};
 use crate::shelf::shelf;
 use heap::Target;
-use rules::Slot;
+use rules::{Exception, Slot};
 use state::Registers;
 
 pub(crate) const NULL: u64 = 0xffff_ffff_ffff_ffff;
 
-// A slot; a whole structure of so many fields, in the heap; a number of a type, in a cell; or the exception that the pointer raises.
+// A slot; a whole structure of so many fields, in the heap; a number of a type, in a cell.
 #[derive(Clone, Copy)]
 pub(crate) enum Aim {
     Slot(usize),
     Whole(usize),
     Cell(u8, usize),
-    Raises(u32),
 }
 
-// Where a number stands.
+// Where a number stands. (No Result: neither place is a failure.)
 #[derive(Clone, Copy)]
 pub(crate) enum Spot {
     OnStack(usize),
     InHeap(usize),
 }
 
-// A number, where it stands and what it holds; or the exception that the pointer raises.
-#[derive(Clone, Copy)]
-pub(crate) enum Named {
-    At(Spot, Slot),
-    Nowhere(u32),
-}
-
-// What the pointer w is to, n slots being left.
+// What the pointer w is to, n slots being left; or the exception that it raises.
 pub(crate) fn target_of(
     d: &[u8],
     size: usize,
@@ -50,28 +38,27 @@ pub(crate) fn target_of(
     table: &[u8],
     n: usize,
     w: Slot,
-) -> Aim
+) -> Result<Aim, Exception>
     requires { HeapReady size d.now g.now cells.now table.now × (n ≤ 4096) × Kind w.kind }
     ensures { (m : Module) → Shapes m d.now → (p t : List ℕ) → Leads m size d.now g.now p t cells.now table.now n w result }
 {
     if w.kind < 7 {
-        return Aim::Raises(POINTER_NOTPOINTER);
+        return Err(Exception::PointerNotPointer);
     }
     let a = w.payload;
     if a == NULL {
-        return Aim::Raises(POINTER_NULLPOINTER);
+        return Err(Exception::PointerNullPointer);
     }
     if a < n as u64 {
-        return Aim::Slot(a as usize);
+        return Ok(Aim::Slot(a as usize));
     }
     if a < 65536 {
-        return Aim::Raises(POINTER_UNKNOWNADDRESS);
+        return Err(Exception::PointerUnknownAddress);
     }
-    let found = heap::targets::target(d, table, size, shelf(g), a);
-    match found {
-        Target::Lost => Aim::Raises(POINTER_UNKNOWNADDRESS),
-        Target::Whole(f) => Aim::Whole(f),
-        Target::Cell(kind, x) => Aim::Cell(kind, x),
+    match heap::targets::target(d, table, size, shelf(g), a) {
+        Target::Lost => Err(Exception::PointerUnknownAddress),
+        Target::Whole(f) => Ok(Aim::Whole(f)),
+        Target::Cell(kind, x) => Ok(Aim::Cell(kind, x)),
     }
 }
 
@@ -86,23 +73,22 @@ pub(crate) fn number_of(
     table: &[u8],
     n: usize,
     w: Slot,
-) -> Named
+) -> Result<(Spot, Slot), Exception>
     requires heap_ready { HeapReady size d.now g.now cells.now table.now × (n ≤ 4096) × Kind w.kind }
     requires n_in_bounds { (n * 8 ≤ length p.now) × (n ≤ length t.now) }
     ensures { (m : Module) → Shapes m d.now → Names m size d.now g.now p.now t.now cells.now table.now n w result }
 {
-    let x = target_of(d, size, g, cells, table, n, w);
-    match x {
+    let aim = target_of(d, size, g, cells, table, n, w)?;
+    match aim {
         Aim::Slot(i) => {
             let v = state::slot_at(p, t, i);
-            Named::At(Spot::OnStack(i), v)
+            Ok((Spot::OnStack(i), v))
         }
-        Aim::Whole(_f) => Named::Nowhere(POINTER_WHOLESTRUCTURE),
+        Aim::Whole(_f) => Err(Exception::PointerWholeStructure),
         Aim::Cell(kind, c) => {
             let payload = heap::cells::cell_at(cells, c);
-            Named::At(Spot::InHeap(c), Slot { kind, payload })
+            Ok((Spot::InHeap(c), Slot { kind, payload }))
         }
-        Aim::Raises(e) => Named::Nowhere(e),
     }
 }
 
@@ -116,14 +102,14 @@ pub(crate) fn top_number(
     t: &[u8],
     cells: &[u8],
     table: &[u8],
-) -> Named
+) -> Result<(Spot, Slot), Exception>
     requires heap_ready { HeapReady size d.now g.now cells.now table.now × (r.height ≤ 4096) × Kinded (slots_of p.now t.now r.height) }
     requires height_in_bounds { (r.height * 8 ≤ length p.now) × (r.height ≤ length t.now) × (r.floor ≤ r.height) }
     ensures { (m : Module) → Shapes m d.now → TopNames m size d.now g.now p.now t.now cells.now table.now r.floor r.height result }
 {
     let h = r.height;
     if h < r.floor + 1 {
-        return Named::Nowhere(STACK_EMPTY);
+        return Err(Exception::StackEmpty);
     }
     let w = state::slot_at(p, t, h - 1);
     number_of(d, size, g, p, t, cells, table, h - 1, w)

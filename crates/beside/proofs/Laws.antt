@@ -5,7 +5,7 @@ use native.Mathlib.Omega.{arith}
 use mathlib.Core.Bool.{Bool, true, false, not, cond, ◌||◌}
 use mathlib.Core.Option.{none, some}
 use mathlib.Core.List.{List, [], ◌∷◌}
-use lib.ListN.{length, set}
+use lib.ListN.{length}
 use lib.Dec.{ltb, eqb}
 use Rattle.rules.specs.Bytes.{byte, word, some_below}
 use Rattle.rules.specs.Tables.{Body, entry, fn, body_of, body_number}
@@ -13,7 +13,7 @@ use Rattle.rules.specs.Check.{bodies, functions_from}
 use Rattle.rules.specs.Recording.{record_length, index_of, record_differs, first_zero}
 use Rattle.soundness.specs.Tests.{eqb_same, eqb_other}
 use Rattle.nodes.proofs.Bounds.{is_entry, is_function}
-use Rattle.beside.specs.Bodies.{body_at, oned}
+use Rattle.beside.specs.Bodies.{body_at}
 
 -- ---- bodies by number
 
@@ -29,16 +29,6 @@ entry_index o z = ap index_of (sym (is_entry o z))
 
 pub function_index : (o : ℕ) → (o ≡ 0xffffffff → ⊥) → o + 1 ≡ index_of (body_of o)
 function_index o n = let z : o + 1 ≡ suc o = omega arith in z ∙ ap index_of (sym (is_function o n))
-
--- ---- bytes
-
-pub oned_none : (r : List ℕ) (i : ℕ) → i ≡ 0 → r ≡ oned r i
-unfolding oned
-oned_none r i z = ap (oned r) (sym z)
-
-pub oned_more : (r x : List ℕ) (i : ℕ) → x ≡ oned r i → set x (8 + i) 1 ≡ oned r (i + 1)
-unfolding oned
-oned_more r x i e = let z : suc i ≡ i + 1 = omega arith in ap (λ w. set w (8 + i) 1) e ∙ ap (oned r) z
 
 -- ---- tests of records
 

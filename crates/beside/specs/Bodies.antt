@@ -1,5 +1,5 @@
 -- What the functions over a record promise: bodies by number, and its bytes.
-use Rattle.std.specs.Prelude.{ℕ, zero, suc, ◌+◌, Bool, true, false, List, set}
+use Rattle.std.specs.Prelude.{ℕ, zero, suc, Bool, true, false, List}
 use Rattle.rules.specs.Bytes.{written}
 use Rattle.rules.specs.Tables.{Body, entry, fn}
 
@@ -15,8 +15,3 @@ bit false = 0
 -- count and offset written
 abbrev pub headed : List ℕ → ℕ → List ℕ
 headed r n = written 4 (written 4 r 0 n) 4 8
-
--- the bytes of n bodies are 1
-unfoldable pub oned : List ℕ → ℕ → List ℕ
-oned r zero = r
-oned r (suc n) = set (oned r n) (8 + n) 1

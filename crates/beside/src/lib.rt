@@ -1,15 +1,17 @@
 // The record beside a module: count and offset, then a byte for each body, the entry first.
 #![tactic(auto)]
 
-ghost use Rattle.std.specs.Prelude.{◌≡◌, ◌+◌, ◌-◌, ◌^◌, ◌≤◌, ◌<◌, length, set, ltb};
+ghost use Rattle.std.specs.Prelude.{◌≡◌, ◌+◌, ◌-◌, ◌^◌, ◌≤◌, ◌<◌, length, set, ltb, replicate};
+ghost use Rattle.std.proofs.Math.Seq.{paste};
 ghost use Rattle.rules.specs.Bytes.{byte, some_below};
 ghost use Rattle.rules.specs.Tables.{body_of, body_number};
 ghost use Rattle.rules.specs.Check as Check;
+ghost use Rattle.rules.specs.Results.{check_answer};
 ghost use Rattle.rules.specs.Recording.{index_of, record_differs, first_zero, answer_from};
-ghost use Rattle.beside.specs.Bodies.{body_at, headed, oned};
+ghost use Rattle.beside.specs.Bodies.{body_at, headed};
 ghost use Rattle.beside.specs.Bodies as promises;
 
-use rules::CheckAnswer;
+use rules::CheckError;
 
 // The number of the entry.
 const ENTRY: usize = 0xffff_ffff;
@@ -36,22 +38,12 @@ pub fn index_of(owner: usize) -> usize
     owner + 1
 }
 
-// The byte of a body.
-fn bit(typed: bool) -> u8
-    ensures { result ≡ promises.bit typed }
-{
-    if typed {
-        return 1;
-    }
-    0
-}
-
 // Sets the byte of the i-th body.
 pub fn set_flag(beside: &mut [u8], i: usize, typed: bool)
     requires { (8 + i < length beside.old) × (i ≤ 128) }
     ensures { beside.new ≡ set beside.old (8 + i) (promises.bit typed) }
 {
-    beside[8 + i] = bit(typed);
+    beside[8 + i] = u8::from(typed);
 }
 
 // Count and offset.
@@ -66,13 +58,9 @@ pub fn put_head(beside: &mut [u8], bodies: usize)
 // The bytes of so many bodies that have a typing.
 pub fn put_ones(beside: &mut [u8], bodies: usize)
     requires { 8 + bodies ≤ length beside.old }
-    ensures { beside.new ≡ oned beside.old bodies }
+    ensures { beside.new ≡ paste beside.old 8 (replicate bodies 1) bodies }
 {
-    let mut i = 0;
-    while i < bodies {
-        beside[8 + i] = 1;
-        i += 1;
-    }
+    beside[8..8 + bodies].fill(1);
 }
 
 // Whether some byte of a record of so many bodies is over 1.
@@ -81,10 +69,8 @@ fn high_byte(beside: &[u8], bodies: usize) -> bool
     ensures { result ≡ some_below bodies (λ i. ltb 1 (byte beside.now (8 + i))) }
 {
     let mut high = false;
-    let mut i = 0;
-    while i < bodies {
-        high = high | (1 < beside[8 + i]);
-        i += 1;
+    for i in 0..bodies {
+        high |= 1 < beside[8 + i];
     }
     high
 }
@@ -109,16 +95,14 @@ pub fn differs(beside: &[u8], bodies: usize) -> bool
 }
 
 // The first body whose byte is 0, by its number.
-pub fn first_zero(beside: &[u8], bodies: usize) -> CheckAnswer
+pub fn first_zero(beside: &[u8], bodies: usize) -> Result<(), CheckError>
     requires { (0 < bodies) × (bodies ≤ 129) × (8 + bodies ≤ length beside.now) }
-    ensures { result ≡ answer_from (first_zero beside.now (Check.bodies (bodies - 1))) }
+    ensures { check_answer result ≡ answer_from (first_zero beside.now (Check.bodies (bodies - 1))) }
 {
-    let mut i = 0;
-    while i < bodies {
+    for i in 0..bodies {
         if beside[8 + i] == 0 {
-            return CheckAnswer::Untyped(owner_of(i) as u32);
+            return Err(CheckError::Untyped(owner_of(i) as u32));
         }
-        i += 1;
     }
-    CheckAnswer::Accepted
+    Ok(())
 }

@@ -15,7 +15,7 @@ use Rattle.soundness.specs.Forced.{Forced}
 use Rattle.soundness.specs.Readable.{orderly}
 use Rattle.soundness.specs.Cutting.{good_file}
 use Rattle.records.specs.Record.{lists_of}
-use Rattle.nodes.specs.declared.list.Waiting.TheVariants.{Node, Nothing}
+use Rattle.std.specs.Prelude.{Some, None}
 use Rattle.nodes.specs.Nodes.{place_of, owner_of, record_of, mark_of, listed_at, count_of, done_of, advanced, waiting_in, unseen, Fits}
 use Rattle.nodes.proofs.Numbering.{label_at}
 use Rattle.nodes.proofs.Lists.{advanced_long, advanced_done, advanced_word, node_waits, nothing_waits, unseen_same}
@@ -182,10 +182,10 @@ module _ (s : List ℕ) (c : Sections) (table : List ℕ) (owner : ℕ) (room₀
         let x : (count_of marks ≤ labels s) × (labels s ≤ 256) = few_listed s table room marks (body_of owner) d.sound draining_works.fits in
         let y : count_of marks ≤ labels s = x.0 in let z : labels s ≤ 256 = x.1 in (draining_works.fits.whole, d.sound.behind, omega arith)
 
-    pub drained : waiting_in marks ≡ Nothing → Left s table (body_of owner) room₀ marks₀ room marks true (Quiet marks)
+    pub drained : waiting_in marks ≡ None → Left s table (body_of owner) room₀ marks₀ room marks true (Quiet marks)
     drained e = record { grows = d.grows; sound = d.sound; done = λ z. nothing_waits marks e; refuted = λ z. false_true (sym z) }
 
-    module _ (k : ℕ) (e : waiting_in marks ≡ Node k) where
+    module _ (k : ℕ) (e : waiting_in marks ≡ Some k) where
       pub next_is : Next marks k
       next_is = let h : done_of marks ≤ count_of marks = d.sound.behind in let n = (node_waits marks k e).0 in (less h n, (node_waits marks k e).1)
         where

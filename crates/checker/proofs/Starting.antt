@@ -19,7 +19,7 @@ use Rattle.soundness.specs.Readable.{Has, orderly}
 use Rattle.soundness.specs.Cutting.{function_count_lem, few_functions, good_file}
 use Rattle.records.specs.Record.{lists_of}
 use Rattle.checker.specs.declared.walk.Turn.TheVariants.{Breaks, Ends, Goes as On}
-use Rattle.checker.specs.declared.bodies.Verdict.TheVariants.{Typed as AllTyped, Untyped}
+use Rattle.std.specs.Prelude.{Ok, Err}
 use Rattle.nodes.specs.Nodes.{Tabled, mark_of, count_of, done_of, unseen, Fits, Seeded}
 use Rattle.nodes.proofs.Bounds.{is_entry, is_function}
 use Rattle.nodes.proofs.Lists.{unseen_most}
@@ -117,7 +117,7 @@ pub record AtBody (s : List ℕ) (c : Sections) (table room₀ marks₀ : List �
   pub works : Working s c table owner room marks
   pub grows : Grows (labels s) room₀ marks₀ room marks
   pub settles : (room' marks' : List ℕ) → Left s table (body_of owner) room marks room' marks' true (Settled s table room' marks' (body_of owner)) → Judging s table room₀ marks₀ i room' marks'
-  pub refutes : (room' marks' : List ℕ) → Left s table (body_of owner) room marks room' marks' false (Settled s table room' marks' (body_of owner)) → VerdictIs s table room₀ marks₀ room' marks' (Untyped owner)
+  pub refutes : (room' marks' : List ℕ) → Left s table (body_of owner) room marks room' marks' false (Settled s table room' marks' (body_of owner)) → VerdictIs s table room₀ marks₀ room' marks' (Err owner)
 
 module _ (s : List ℕ) (c : Sections) (table room₀ marks₀ : List ℕ) (packed : Packed s c) (e : refusal s ≡ 0) (t : Tabled s table) (fits : Fits (labels s) room₀ marks₀) where
   -- with no mark
@@ -144,7 +144,7 @@ module _ (s : List ℕ) (c : Sections) (table room₀ marks₀ : List ℕ) (pack
       }
 
   module _ (room marks : List ℕ) where
-    entry_untyped : Left s table (body_of 0xffffffff) room₀ marks₀ room marks false (Settled s table room marks (body_of 0xffffffff)) → VerdictIs s table room₀ marks₀ room marks (Untyped 0xffffffff)
+    entry_untyped : Left s table (body_of 0xffffffff) room₀ marks₀ room marks false (Settled s table room marks (body_of 0xffffffff)) → VerdictIs s table room₀ marks₀ room marks (Err 0xffffffff)
     entry_untyped x =
         record { grows = x.grows; decides = (first_entry s (untyped s entry (x.refuted refl)), refl, omega arith) }
 
@@ -202,7 +202,7 @@ module _ (s : List ℕ) (c : Sections) (table room₀ marks₀ : List ℕ) (pack
                 subst (Started s table room' marks') (function_is ∙ ap fn (sym v)) (x.done refl).0)
 
         -- every body before it has a typing
-        function_untyped : Left s table (body_of i) room marks room' marks' false (Settled s table room' marks' (body_of i)) → VerdictIs s table room₀ marks₀ room' marks' (Untyped i)
+        function_untyped : Left s table (body_of i) room marks room' marks' false (Settled s table room' marks' (body_of i)) → VerdictIs s table room₀ marks₀ room' marks' (Err i)
         function_untyped x =
             record {
               grows = grows_trans (labels s) room₀ marks₀ room marks room' marks' d.grows x.grows;
@@ -216,7 +216,7 @@ module _ (s : List ℕ) (c : Sections) (table room₀ marks₀ : List ℕ) (pack
               );
             }
 
-    pub all_settled : functions s ≤ i → VerdictIs s table room₀ marks₀ room marks AllTyped
+    pub all_settled : functions s ≤ i → VerdictIs s table room₀ marks₀ room marks (Ok tt)
     all_settled l = record { grows = d.grows; decides = (d.sound, d.quiet, λ b h. d.started b (before b h)) }
       where
         before : (b : Body) → Has (bodies_in s) b → Before i b

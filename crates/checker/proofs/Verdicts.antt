@@ -12,20 +12,21 @@ use Rattle.rules.specs.Bytes.{zeros}
 use Rattle.rules.specs.Tables.{Body, entry, fn, body_of}
 use Rattle.rules.specs.ModuleFile.{refusal, labels, functions, read, bodies_in, tables_in}
 use Rattle.rules.specs.Check.{bodies, first_untyped, label_record, label_records}
-use Rattle.rules.specs.declared.CheckAnswer.{CheckAnswer}
-use Rattle.rules.specs.declared.CheckAnswer.TheVariants.{Refused, Untyped, Accepted}
+use Rattle.rules.specs.AnswerTypes.{CheckAnswer}
+use Rattle.rules.specs.AnswerTypes.{Refused, Untyped, Accepted}
 use Rattle.rules.specs.Numbers.{done}
 use Rattle.rules.specs.Answers.{check_number, Checked, checked, judged, check_with, check}
 use Rattle.format.specs.declared.Sections.{Sections}
-use Rattle.format.specs.Layout.{Packed, sections_of}
-use Rattle.reader.specs.declared.Opened.TheVariants as Opened
-use Rattle.reader.specs.Answers.{answer, opened_of}
-use Rattle.reader.proofs.Opening.{opened_refused}
+use Rattle.format.specs.Layout.{Packed}
+use Rattle.rules.specs.declared.Refusal.{Refusal}
+use Rattle.rules.specs.Results.{refusal_number}
+use Rattle.reader.specs.Answers.{Opens}
+use Rattle.reader.proofs.Opening.{refusal_some}
 use Rattle.soundness.specs.Tests.{decide, ltb_isnt, ltb_yes, ltb_no}
 use Rattle.soundness.specs.Whole.{demand3}
 use Rattle.soundness.specs.Readable.{Has, label_is}
 use Rattle.soundness.specs.Cutting.{function_count_lem, good_file}
-use Rattle.checker.specs.declared.bodies.Verdict.TheVariants.{Typed as AllTyped, Untyped as NotTyped}
+use Rattle.std.specs.Prelude.{Ok, Err}
 use Rattle.nodes.specs.Nodes.{owner_of, place_of, Tabled, record_of, Fits, Finished}
 use Rattle.nodes.proofs.Copies.{cleared}
 use Rattle.nodes.proofs.Numbering.{label_at}
@@ -34,13 +35,13 @@ use Rattle.checker.proofs.Covering.{Typed, typed, all_typed, shown_is}
 
 -- ---- refusals
 
-pub refused_check : (s room : List ℕ) (n : ℕ) → Opened.Refused n ≡ opened_of s → CheckIs s room (Refused n) room
+pub refused_check : (s room : List ℕ) (e : Refusal) → Opens s (Err e) → CheckIs s room (Refused (refusal_number e)) room
 unfolding check
-refused_check s room n q = go (refusal s) refl
+refused_check s room e q = go (refusal_number e) refl
   where
-    go : (r : ℕ) → refusal s ≡ r → CheckIs s room (Refused n) room
-    go zero w = absurd (let g : Opened.Refused n ≡ answer zero (sections_of s) = q ∙ ap (λ (j : ℕ). answer j (sections_of s)) w in let z : ◌≡◌ {A = ℕ} 0 1 = cc in omega arith)
-    go (suc r) w = let e : n ≡ suc r = opened_refused s n q ∙ w in rw w (rw e refl)
+    go : (n : ℕ) → refusal_number e ≡ n → CheckIs s room (Refused (refusal_number e)) room
+    go zero w = absurd (refusal_some e w)
+    go (suc r) w = let z : refusal s ≡ suc r = q ∙ w in rw w (rw z refl)
 
 module _ (s : List ℕ) (e : refusal s ≡ 0) (room : List ℕ) where
   pub short_check : length room < 64 * labels s → CheckIs s room (Refused 10) room
@@ -53,7 +54,7 @@ module _ (s : List ℕ) (e : refusal s ≡ 0) (room : List ℕ) where
 
   -- ---- 11
 
-  pub untyped_check : 64 * labels s ≤ length room → (table marks room₁ marks₁ : List ℕ) (o : ℕ) → VerdictIs s table room marks room₁ marks₁ (NotTyped o)
+  pub untyped_check : 64 * labels s ≤ length room → (table marks room₁ marks₁ : List ℕ) (o : ℕ) → VerdictIs s table room marks room₁ marks₁ (Err o)
       → (n : ℕ) → n ≡ 64 * labels s → (room' : List ℕ) → room' ≡ paste room₁ 0 (replicate n 0) n → CheckIs s room (Untyped o) room'
   untyped_check h table marks room₁ marks₁ o v n q room' z =
       let r : room' ≡ zeros (64 * labels s) ++ drop (64 * labels s) room =
@@ -72,7 +73,7 @@ module _ (s : List ℕ) (e : refusal s ≡ 0) (room : List ℕ) where
       ap (λ (k : ℕ). take k x) q ∙ take-add (64 * n) 64 x ∙ ap (λ (y : List ℕ). y ++ record_of x n) (records_are x n (λ k l. f k (omega arith)))
       ∙ ap (λ (y : List ℕ). label_records (read s) n ++ y) (f n (omega arith))
 
-  pub typed_check : 64 * labels s ≤ length room → (table marks room₁ marks₁ : List ℕ) → Tabled s table → VerdictIs s table room marks room₁ marks₁ AllTyped
+  pub typed_check : 64 * labels s ≤ length room → (table marks room₁ marks₁ : List ℕ) → Tabled s table → VerdictIs s table room marks room₁ marks₁ (Ok tt)
       → (room' : List ℕ) → Finished s table marks₁ 0 room₁ room' → CheckIs s room Accepted room'
   typed_check h table marks room₁ marks₁ t v room' f =
       let recs : take (64 * labels s) room' ≡ label_records (read s) (labels s) = records_are room' (labels s) each in

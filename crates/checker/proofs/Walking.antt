@@ -24,14 +24,13 @@ use Rattle.soundness.specs.Readable.{Has, orderly, has_end, place_inside}
 use Rattle.soundness.specs.Cutting.{good_file}
 use Rattle.soundness.specs.Walks.{ends, size_some}
 use Rattle.keys.specs.Keys.{decoded, Keyed}
-use Rattle.keys.specs.declared.Decoded.TheVariants as Decoded
+use Rattle.std.specs.Prelude.{Some, None}
 use Rattle.keys.proofs.Places.{at_end_lem, at_key}
 use Rattle.keys.proofs.Files.{code_long}
 use Rattle.transfer.specs.Transfers.{KeyAt, Moves}
 use Rattle.records.specs.Record.{lists_of, Holds, Labelled, flow_of, all_small, bounded}
 use Rattle.records.specs.Laws.{holds_small}
 use Rattle.records.specs.declared.Transfer.{Transfer}
-use Rattle.records.specs.declared.Transfer.TheVariants as Transfer
 use Rattle.checker.specs.declared.walk.Turn.{Turn}
 use Rattle.checker.specs.declared.walk.Turn.TheVariants.{Breaks, Ends, Goes as On}
 use Rattle.checker.specs.Work.{Grows, Moved, WalkedIn, GoesIn, Sound, Working, Stands, Refuted, Left, Heads, targets, Turned, Leads, TurnLeads}
@@ -208,10 +207,10 @@ module _ (s : List ℕ) (c : Sections) (table : List ℕ) (owner : ℕ) (room₀
         let y : code_length s ≤ length code = code_long s code 0 k w.readable in
         let z : c.extent ≡ code_length s = w.packed.extent_is in omega arith
 
-    pub decoded_late : decoded code p e ≡ Decoded.End → body_end (bodies_in s) (body_of owner) ≤ p
+    pub decoded_late : decoded code p e ≡ None → body_end (bodies_in s) (body_of owner) ≤ p
     decoded_late q = let x : e ≤ p = at_end_lem code p e q in omega arith
 
-    module _ (b : ℕ) (key : decoded code p e ≡ Decoded.Instruction b) where
+    module _ (b : ℕ) (key : decoded code p e ≡ Some b) where
       early : p < body_end (bodies_in s) (body_of owner)
       early = let x : p < e = (at_key code p e b key).0 in omega arith
 

@@ -1,5 +1,5 @@
 -- What the checker's table, room and marks hold while it works (see `Nodes`), and what its parts leave.
-use Rattle.std.specs.Prelude.{◌≡◌, ◌⊎◌, ℕ, suc, ◌+◌, ◌*◌, ◌^◌, ◌≤◌, ◌<◌, Bool, true, false, List, [], ◌∷◌, length, get_or, drop}
+use Rattle.std.specs.Prelude.{◌≡◌, ◌⊎◌, ℕ, suc, ◌+◌, ◌*◌, ◌^◌, ◌≤◌, ◌<◌, Bool, true, false, List, [], ◌∷◌, length, get_or, drop, Ok, Err}
 use Rattle.std.proofs.Math.Option.{some}
 use Rattle.rules.specs.Instructions.{Ty}
 use Rattle.rules.specs.Tables.{Body, entry, Module, body_of, body_number, body_end}
@@ -7,8 +7,8 @@ use Rattle.rules.specs.ModuleFile.{labels, functions, refusal, read, bodies_in}
 use Rattle.rules.specs.Typing.{Lists, lists, Typing, Consistent, WellTyped, start_of, place_flow}
 use Rattle.rules.specs.Demand3.{FirstUntyped}
 use Rattle.rules.specs.Check.{bodies, first_untyped}
-use Rattle.rules.specs.declared.CheckAnswer.{CheckAnswer}
-use Rattle.rules.specs.declared.CheckAnswer.TheVariants as Answer
+use Rattle.rules.specs.AnswerTypes.{CheckAnswer}
+use Rattle.rules.specs.AnswerTypes as Answer
 use Rattle.rules.specs.Answers.{checked, check}
 use Rattle.format.specs.declared.Sections.{Sections}
 use Rattle.format.specs.Layout.{Packed}
@@ -18,10 +18,8 @@ use Rattle.soundness.specs.Readable.{Has}
 use Rattle.soundness.specs.Walks.{Goes, Walked}
 use Rattle.records.specs.Record.{lists_of, Holds, flow_of, bounded, Labelled}
 use Rattle.records.specs.declared.Transfer.{Transfer}
-use Rattle.records.specs.declared.Transfer.TheVariants as Transfer
 use Rattle.nodes.specs.Nodes.{place_of, owner_of, Tabled, record_of, mark_of, listed_at, count_of, done_of, unseen, Fits}
-use Rattle.checker.specs.declared.bodies.Verdict.{Verdict}
-use Rattle.checker.specs.declared.bodies.Verdict.TheVariants as Verdict
+use Rattle.std.specs.declared.result.Result.{Result}
 use Rattle.checker.specs.declared.walk.Turn.{Turn}
 use Rattle.checker.specs.declared.walk.Turn.TheVariants.{Breaks, Ends, Goes as On}
 
@@ -176,11 +174,11 @@ TurnLeads a (On q) = Leads a
 -- ---- the verdict
 
 -- every body is started and no node waits; or this body is the first without typing
-abbrev pub Decides : List ℕ → List ℕ → List ℕ → List ℕ → Verdict → Type 0
-Decides s table room marks Verdict.Typed = Sound s table room marks entry × Quiet marks × ((b : Body) → Has (bodies_in s) b → Started s table room marks b)
-Decides s table room marks (Verdict.Untyped o) = (first_untyped (read s) (bodies (functions s)) ≡ some (body_of o)) × (body_number (body_of o) ≡ o) × (o < 2 ^ 32)
+abbrev pub Decides : List ℕ → List ℕ → List ℕ → List ℕ → Result (Unit {0}) ℕ → Type 0
+Decides s table room marks (Ok x) = Sound s table room marks entry × Quiet marks × ((b : Body) → Has (bodies_in s) b → Started s table room marks b)
+Decides s table room marks (Err o) = (first_untyped (read s) (bodies (functions s)) ≡ some (body_of o)) × (body_number (body_of o) ≡ o) × (o < 2 ^ 32)
 
-pub record VerdictIs (s table room marks room' marks' : List ℕ) (v : Verdict) : Type 0 where
+pub record VerdictIs (s table room marks room' marks' : List ℕ) (v : Result (Unit {0}) ℕ) : Type 0 where
   pub grows : Grows (labels s) room marks room' marks'
   pub decides : Decides s table room' marks' v
 

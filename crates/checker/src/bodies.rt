@@ -10,17 +10,9 @@ ghost use Rattle.checker.specs.Work.{Working, Quiet, Next, Started, Settled, Lef
 
 use crate::walk::Turn;
 use format::Sections;
-use nodes::list::Waiting;
-
-// All bodies have a typing, or this one is the first that has none.
-#[derive(Clone, Copy)]
-pub(crate) enum Verdict {
-    Typed,
-    Untyped(usize),
-}
 
 // Walks from node k, the first that waits.
-fn visit(
+fn visit<const ALONE: bool>(
     file: &[u8],
     c: Sections,
     code: &[u8],
@@ -47,7 +39,7 @@ fn visit(
 }
 
 // Walks from nodes that wait until none does.
-fn drain(
+fn drain<const ALONE: bool>(
     file: &[u8],
     c: Sections,
     code: &[u8],
@@ -63,11 +55,10 @@ fn drain(
     ensures { Left file.now table.now (body_of owner) room.old marks.old room.new marks.new result (Quiet marks.new) }
 {
     loop {
-        let found = nodes::list::first(marks);
-        let Waiting::Node(k) = found else {
+        let Some(k) = nodes::list::first(marks) else {
             return true;
         };
-        let whole = visit(file, c, code, table, owner, k, room, marks, st);
+        let whole = visit::<ALONE>(file, c, code, table, owner, k, room, marks, st);
         if !whole {
             return false;
         }
@@ -75,7 +66,7 @@ fn drain(
 }
 
 // Walks from the body's start, whose record is st.
-fn begin(
+fn begin<const ALONE: bool>(
     file: &[u8],
     c: Sections,
     code: &[u8],
@@ -100,8 +91,9 @@ fn begin(
     }
 }
 
-// Whether a body has a typing.
-fn check_body(
+// Whether a body has a typing. It is judged alone or among all bodies: each of the two has its own copy of these four functions,
+// which are compiled into their caller as where they have but one.
+pub fn check_body<const ALONE: bool>(
     file: &[u8],
     c: Sections,
     code: &[u8],
@@ -117,11 +109,11 @@ fn check_body(
     ensures { Left file.now table.now (body_of owner) room.old marks.old room.new marks.new result (Settled file.now table.now room.new marks.new (body_of owner)) }
 {
     nodes::starts::seed(file, c, owner, st);
-    let started = begin(file, c, code, table, owner, room, marks, st);
+    let started = begin::<ALONE>(file, c, code, table, owner, room, marks, st);
     if !started {
         return false;
     }
-    drain(file, c, code, table, owner, room, marks, st)
+    drain::<ALONE>(file, c, code, table, owner, room, marks, st)
 }
 
 // All bodies, the entry first. Functions from i on come after the owner.
@@ -133,22 +125,23 @@ pub(crate) fn bodies(
     room: &mut [u8],
     marks: &mut [u16],
     st: &mut [u8],
-) -> Verdict
+) -> Result<(), usize>
     requires packed { Packed file.now c × (refusal file.now ≡ 0) × Tabled file.now table.now }
     requires fits { Fits (labels file.now) room.old marks.old × Blank marks.old × (length st.old ≡ 64) }
     requires keyed { Keyed file.now code.now 0 }
     ensures { VerdictIs file.now table.now room.old marks.old room.new marks.new result }
 {
+    // Count and owner go up together, the entry first: a `for` over either would have to make the other of it by a test.
     let n = c.functions;
     let mut owner = 0xffff_ffff;
     let mut i = 0;
     loop {
-        let typed = check_body(file, c, code, table, owner, room, marks, st);
+        let typed = check_body::<false>(file, c, code, table, owner, room, marks, st);
         if !typed {
-            return Verdict::Untyped(owner);
+            return Err(owner);
         }
         if i == n {
-            return Verdict::Typed;
+            return Ok(());
         }
         owner = i;
         i += 1;

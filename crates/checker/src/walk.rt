@@ -8,13 +8,12 @@ ghost use Rattle.nodes.specs.Nodes.{done_of};
 ghost use Rattle.checker.specs.Work.{Working, Standing, Recorded, WalkedIn, Left, Heads, targets, Turned, TurnLeads};
 
 use format::Sections;
-use keys::Decoded;
 use records::Transfer;
 
 // The number of the entry.
 const ENTRY: usize = 0xffff_ffff;
 
-// A walk is refused, ends at nodes, or goes on at a place.
+// A walk is refused, ends at nodes, or goes on at a place. (As a Result of an Option its two other cases would have no name.)
 #[derive(Clone, Copy)]
 pub enum Turn {
     Breaks,
@@ -159,8 +158,7 @@ pub fn walk(
     let e = nodes::starts::end(file, c, owner);
     let mut at = p;
     loop {
-        let decoded = keys::decode(code, at, e);
-        let Decoded::Instruction(key) = decoded else {
+        let Some(key) = keys::decode(code, at, e) else {
             return owner == ENTRY;
         };
         let next = transfer::transfer(file, c, code, owner, at, key, st);

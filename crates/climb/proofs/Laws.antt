@@ -15,9 +15,7 @@ use Rattle.rules.specs.ModuleFile.{edition, refusal, labels, code_length, read, 
 use Rattle.format.specs.declared.Sections.{Sections}
 use Rattle.format.specs.Layout.{Packed}
 use Rattle.reader.specs.declared.entries.FunctionRecord.{FunctionRecord}
-use Rattle.reader.specs.declared.entries.FoundFunction.TheVariants.{Record}
 use Rattle.reader.specs.declared.entries.LabelRecord.{LabelRecord}
-use Rattle.reader.specs.declared.entries.FoundLabel.TheVariants as FoundLabel
 use Rattle.reader.specs.Answers.{function_found, label_in}
 use Rattle.soundness.specs.Tests.{decide, some_inj, eqb_is, eqb_isnt, ltb_yes, ltb_no}
 use Rattle.soundness.specs.Readable.{params_length, label_is}
@@ -28,13 +26,13 @@ use Rattle.tracks.specs.Plans.{result_slots}
 use Rattle.tracks.specs.Walks.{offset_of, Arrived}
 use Rattle.tracks.specs.Leads.{noted}
 use Rattle.climb.specs.declared.walk.Spot.{Spot}
-use Rattle.climb.specs.declared.walk.Turn.TheVariants.{Ends, Goes}
+use Rattle.std.specs.Prelude.{Some, None}
 use Rattle.climb.specs.Turns.{spot, CallIs, JumpIs, OtherIs}
 
 -- ---- signatures
 
-module _ (s : List ℕ) (k : ℕ) (g : FunctionRecord) (is : function_found s k (Record g) ≡ (read s).function k) (F : Function) (e : (read s).function k ≡ some F) where
-  same : function_found s k (Record g) ≡ some F
+module _ (s : List ℕ) (k : ℕ) (g : FunctionRecord) (is : function_found s k (Some g) ≡ (read s).function k) (F : Function) (e : (read s).function k ≡ some F) where
+  same : function_found s k (Some g) ≡ some F
   same = is ∙ e
 
   pub slots_params : g.params ≡ length F.params
@@ -101,17 +99,17 @@ module _ (s : List ℕ) (c : Sections) (packed : Packed s c) (readable : refusal
       (omega arith, j.0, ap (λ x. get_or table x 0) (sym e) ∙ j.1, omega arith)
 
   -- the label that was found
-  pub found_label : (l : LabelRecord) → label_in (FoundLabel.Record l) ≡ (read s).label k → (b : Body) (p : ℕ) → (read s).label k ≡ some (b, p) → p ≡ l.place
+  pub found_label : (l : LabelRecord) → label_in (Some l) ≡ (read s).label k → (b : Body) (p : ℕ) → (read s).label k ≡ some (b, p) → p ≡ l.place
   found_label l f b p q = ap (λ (x : Body × ℕ). x.1) (some_inj (b, p) (body_of l.owner, l.place) (sym q ∙ sym f))
 
-  pub node_value : (l : LabelRecord) → label_in (FoundLabel.Record l) ≡ (read s).label k → (v : ℕ) → v ≡ get_or table l.place 0 → ((b : Body) × (p : ℕ) × ((read s).label k ≡ some (b, p))) → (1 ≤ v) × (v - 1 < 256)
+  pub node_value : (l : LabelRecord) → label_in (Some l) ≡ (read s).label k → (v : ℕ) → v ≡ get_or table l.place 0 → ((b : Body) × (p : ℕ) × ((read s).label k ≡ some (b, p))) → (1 ≤ v) × (v - 1 < 256)
   node_value l f v e x =
       let n : (x.1 < length table) × (n : ℕ) × (get_or table x.1 0 ≡ suc n) × (n < 256) = label_node x.0 x.1 x.2 in
       let z : x.1 ≡ l.place = found_label l f x.0 x.1 x.2 in
       let w : v ≡ suc n.1 = e ∙ ap (λ y. get_or table y 0) (sym z) ∙ n.2 in
       let u : n.1 < 256 = n.3 in (omega arith, omega arith)
 
-  pub jump_is : (l : LabelRecord) → label_in (FoundLabel.Record l) ≡ (read s).label k → (v ground_level : ℕ) → v ≡ get_or table l.place 0 → (marks grounds marks' grounds' : List ℕ)
+  pub jump_is : (l : LabelRecord) → label_in (Some l) ≡ (read s).label k → (v ground_level : ℕ) → v ≡ get_or table l.place 0 → (marks grounds marks' grounds' : List ℕ)
       → Arrived (v - 1) ground_level marks grounds marks' grounds' → JumpIs s table k ground_level marks grounds marks' grounds'
   jump_is l f v ground_level e marks grounds marks' grounds' a b p q =
       let n : (p < length table) × (n : ℕ) × (get_or table p 0 ≡ suc n) × (n < 256) = label_node b p q in
@@ -123,7 +121,7 @@ module _ (s : List ℕ) (c : Sections) (packed : Packed s c) (readable : refusal
 -- ---- an instruction of number x, whose word is w; n is w, as it was read
 
 module _ (s table : List ℕ) (w x : ℕ) (p : Spot) (row marks grounds : List ℕ) where
-  pub other_stops : x ≡ 20 → OtherIs s table w x p row marks grounds Ends row marks grounds
+  pub other_stops : x ≡ 20 → OtherIs s table w x p row marks grounds None row marks grounds
   other_stops e =
       record {
         stores = λ z. absurd (omega arith);
@@ -135,27 +133,27 @@ module _ (s table : List ℕ) (w x : ℕ) (p : Spot) (row marks grounds : List �
 
   pub other_stores : x ≡ 16 → (n : ℕ) → n ≡ w → (q : Spot)
       → (n < p.locals → q ≡ spot (p.at + 5) p.locals p.ground_level (p.height - 1)) × (p.locals ≤ n → q ≡ spot (p.at + 5) (p.locals + 1) p.height p.height)
-      → OtherIs s table w x p row marks grounds (Goes q) row marks grounds
+      → OtherIs s table w x p row marks grounds (Some q) row marks grounds
   other_stores e n d q f =
       record {
-        stores = λ z. ((λ h. ap Goes (f.0 (omega arith))), (λ h. ap Goes (f.1 (omega arith))), refl, refl, refl);
+        stores = λ z. ((λ h. ap Some (f.0 (omega arith))), (λ h. ap Some (f.1 (omega arith))), refl, refl, refl);
         jumps = λ z. absurd (omega arith);
         forks = λ z. absurd (omega arith);
         calls = λ z. absurd (omega arith);
         stops = λ z. absurd (omega arith);
       }
 
-  pub other_calls : x ≡ 19 → (n : ℕ) → n ≡ w → (q : Spot) (row' : List ℕ) → CallIs s n p row q row' → OtherIs s table w x p row marks grounds (Goes q) row' marks grounds
+  pub other_calls : x ≡ 19 → (n : ℕ) → n ≡ w → (q : Spot) (row' : List ℕ) → CallIs s n p row q row' → OtherIs s table w x p row marks grounds (Some q) row' marks grounds
   other_calls e n d q row' f =
       record {
         stores = λ z. absurd (omega arith);
         jumps = λ z. absurd (omega arith);
         forks = λ z. absurd (omega arith);
-        calls = λ z. ((λ F h. let y = subst (λ k. CallIs s k p row q row') d f F h in (ap Goes y.0, y.1)), refl, refl);
+        calls = λ z. ((λ F h. let y = subst (λ k. CallIs s k p row q row') d f F h in (ap Some y.0, y.1)), refl, refl);
         stops = λ z. absurd (omega arith);
       }
 
-  pub other_jumps : x ≡ 17 → (n : ℕ) → n ≡ w → (marks' grounds' : List ℕ) → JumpIs s table n p.ground_level marks grounds marks' grounds' → OtherIs s table w x p row marks grounds Ends row marks' grounds'
+  pub other_jumps : x ≡ 17 → (n : ℕ) → n ≡ w → (marks' grounds' : List ℕ) → JumpIs s table n p.ground_level marks grounds marks' grounds' → OtherIs s table w x p row marks grounds None row marks' grounds'
   other_jumps e n d marks' grounds' f =
       record {
         stores = λ z. absurd (omega arith);
@@ -166,7 +164,7 @@ module _ (s table : List ℕ) (w x : ℕ) (p : Spot) (row marks grounds : List �
       }
 
   pub other_forks : x ≡ 18 → (n : ℕ) → n ≡ w → (marks' grounds' : List ℕ) → JumpIs s table n p.ground_level marks grounds marks' grounds'
-      → OtherIs s table w x p row marks grounds (Goes (spot (p.at + 5) p.locals p.ground_level (p.height - 1))) row marks' grounds'
+      → OtherIs s table w x p row marks grounds (Some (spot (p.at + 5) p.locals p.ground_level (p.height - 1))) row marks' grounds'
   other_forks e n d marks' grounds' f =
       record {
         stores = λ z. absurd (omega arith);

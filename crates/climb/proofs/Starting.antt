@@ -1,6 +1,6 @@
 -- A body's start and its parameters.
 use mathlib.Core.Path.{◌≡◌, refl, sym, ap, ◌∙◌, subst}
-use Prim.Native.Nat.{ℕ, ◌-◌, ◌≤◌, ◌<◌}
+use Prim.Native.Nat.{ℕ, ◌≤◌, ◌<◌}
 use native.Mathlib.Omega.{arith}
 use mathlib.Core.Option.{Option, none, some}
 use mathlib.Core.List.{List, []}
@@ -12,7 +12,7 @@ use Rattle.rules.specs.Tables.{fn, Function, body_of, body_start, body_end, func
 use Rattle.rules.specs.ModuleFile.{edition, functions_in, functions, refusal, read, bodies_in, tables_in, code_in, code_length}
 use Rattle.rules.specs.Typing.{start_of}
 use Rattle.reader.specs.declared.entries.FunctionRecord.{FunctionRecord}
-use Rattle.reader.specs.declared.entries.FoundFunction.TheVariants.{Record}
+use Rattle.std.specs.Prelude.{Some}
 use Rattle.reader.specs.Answers.{function_found}
 use Rattle.format.specs.declared.Sections.{Sections}
 use Rattle.soundness.specs.Tests.{none_some, some_inj}
@@ -47,7 +47,7 @@ module _ (s : List ℕ) (rd : refusal s ≡ 0) (owner : ℕ) (not_entry : owner 
   pub function_there : (read s).function owner ≡ none → ⊥
   function_there e = none_some (sym e ∙ callee.1)
 
-  pub function_starts : (g : FunctionRecord) → function_found s owner (Record g) ≡ (read s).function owner → Starts s (body_of owner) (body_start (bodies_in s) (body_of owner)) g.params
+  pub function_starts : (g : FunctionRecord) → function_found s owner (Some g) ≡ (read s).function owner → Starts s (body_of owner) (body_start (bodies_in s) (body_of owner)) g.params
   function_starts g is =
       let y = start_is (tables_in s) (good_file s rd) (fn owner) found.0 found.1 in
       subst (λ b. Starts s b (body_start (bodies_in s) b) g.params) (sym is_fn)

@@ -19,7 +19,7 @@ use Rattle.soundness.specs.Invariant.{owned_is}
 use Rattle.soundness.specs.Readable.{orderly, place_inside}
 use Rattle.soundness.specs.Cutting.{good_file, few_functions, code_length_lem}
 use Rattle.keys.specs.Keys.{Keyed, decoded}
-use Rattle.keys.specs.declared.Decoded.TheVariants.{Instruction as Key, End}
+use Rattle.std.specs.Prelude.{Some, None}
 use Rattle.keys.proofs.Places.{at_end_lem, at_key}
 use Rattle.keys.proofs.Files.{code_long}
 use Rattle.rules.specs.Need.{called}
@@ -31,7 +31,6 @@ use Rattle.tracks.specs.Leads.{Leads, noted, plain_leads, store_leads, ret_ends,
 use Rattle.tracks.specs.Jumps.{labelled, node_of, arrival_climbs, arrival_grows, arrival_met, jump_place, jump_ends, fork_place, fork_leads, call_leads}
 use Rattle.tracks.specs.Loop.{Finished, Walking, walking_ends, walking_on, walking_node}
 use Rattle.climb.specs.declared.walk.Spot.{Spot}
-use Rattle.climb.specs.declared.walk.Turn.TheVariants.{Ends, Goes}
 use Rattle.climb.specs.Turns.{spot, Callable, OtherAsks, OtherIs}
 
 means_plain : (x w : ℕ) (i : Instruction) → Means x w i → x < 16 → (plan_of i ≡ falls (x % 8)) × (size i ≡ 1 + 4 * (x / 8))
@@ -152,13 +151,13 @@ module _ (s : List ℕ) (c : Sections) (table : List ℕ) (owner : ℕ) (R : Rea
             }
 
         -- what it leaves where the walk ends
-        pub other_ends : (Q' M' G' : List ℕ) → OtherIs s table w x (spot at locals ground_level h) Q M G Ends Q' M' G' → Finished s table b p₀ f₀ M₀ G₀ Q₀ x₀ M' G' Q' most
+        pub other_ends : (Q' M' G' : List ℕ) → OtherIs s table w x (spot at locals ground_level h) Q M G None Q' M' G' → Finished s table b p₀ f₀ M₀ G₀ Q₀ x₀ M' G' Q' most
         other_ends Q' M' G' o =
             decide (eqb x 17) (λ y. jumped (eqb_is x 17 y))
             (λ y. decide (eqb x 20) (λ z. stopped (eqb_is x 20 z))
             (λ z. absurd (rest (eqb_isnt x 17 y) (eqb_isnt x 20 z))))
           where
-            clash : (t : Spot) → Ends ≡ Goes t → ⊥
+            clash : (t : Spot) → None ≡ Some t → ⊥
             clash t e = let z : ◌≡◌ {A = ℕ} 0 1 = cc in omega arith
 
             rest : x ≢ 17 → x ≢ 20 → ⊥
@@ -198,17 +197,17 @@ module _ (s : List ℕ) (c : Sections) (table : List ℕ) (owner : ℕ) (R : Rea
         abbrev On : List ℕ → List ℕ → List ℕ → Spot → Type 0
         On Q' M' G' t = Climbing s table b M' G' Q' most × Grows M G Q most M' G' Q' most × Leads s table b M' G' Q' most at W.standing.given ground_level t.at t.locals t.ground_level t.height
 
-        pub other_goes : (t : Spot) (Q' M' G' : List ℕ) → OtherIs s table w x (spot at locals ground_level h) Q M G (Goes t) Q' M' G' → On Q' M' G' t
+        pub other_goes : (t : Spot) (Q' M' G' : List ℕ) → OtherIs s table w x (spot at locals ground_level h) Q M G (Some t) Q' M' G' → On Q' M' G' t
         other_goes t Q' M' G' o =
             decide (eqb x 16) (λ y. stored (eqb_is x 16 y))
             (λ y. decide (eqb x 18) (λ z. forked (eqb_is x 18 z))
             (λ z. decide (eqb x 19) (λ v. called' (eqb_is x 19 v))
             (λ v. absurd (rest (eqb_isnt x 16 y) (eqb_isnt x 18 z) (eqb_isnt x 19 v)))))
           where
-            clash : Goes t ≡ Ends → ⊥
+            clash : Some t ≡ None → ⊥
             clash e = let z : ◌≡◌ {A = ℕ} 0 1 = cc in omega arith
 
-            inj : (p q : Spot) → Goes p ≡ Goes q → p ≡ q
+            inj : (p q : Spot) → Some p ≡ Some q → p ≡ q
             inj p q e = cc
 
             rest : x ≢ 16 → x ≢ 18 → x ≢ 19 → ⊥
@@ -290,7 +289,7 @@ module _ (s : List ℕ) (c : Sections) (table : List ℕ) (owner : ℕ) (R : Rea
               λ M₂ G₂ a. walking_node s c table owner R p₀ f₀ M₀ G₀ Q₀ x₀ M G Q most at locals ground_level h W M₁ G₁ Q₁ most C g at' locals' ground' h' L r e (v - 1) l t M₂ G₂ a,
             )
 
-    module _ (end : ℕ) (end_is : end ≡ body_end (bodies_in s) (body_of owner)) (k : ℕ) (f : decoded code at end ≡ Key k) where
+    module _ (end : ℕ) (end_is : end ≡ body_end (bodies_in s) (body_of owner)) (k : ℕ) (f : decoded code at end ≡ Some k) where
       -- a key was decoded
       pub keyed : (at < body_end (bodies_in s) (body_of owner)) × (k ≡ byte code at % 64) × (k < 64) × (at ≤ 16384)
       keyed =
@@ -309,15 +308,15 @@ module _ (s : List ℕ) (c : Sections) (table : List ℕ) (owner : ℕ) (R : Rea
         pub other_asks : 16 ≤ x → OtherAsks s code x (spot at locals ground_level h) Q M G
         other_asks l = asks keyed.0 k x keyed.1 eff l
 
-        pub other_finishes : 16 ≤ x → (Q' M' G' : List ℕ) → OtherIs s table (word 4 code (at + 1)) x (spot at locals ground_level h) Q M G Ends Q' M' G' → Finished s table (body_of owner) p₀ f₀ M₀ G₀ Q₀ x₀ M' G' Q' most
+        pub other_finishes : 16 ≤ x → (Q' M' G' : List ℕ) → OtherIs s table (word 4 code (at + 1)) x (spot at locals ground_level h) Q M G None Q' M' G' → Finished s table (body_of owner) p₀ f₀ M₀ G₀ Q₀ x₀ M' G' Q' most
         other_finishes l = other_ends keyed.0 k x keyed.1 eff l
 
-        pub other_step : 16 ≤ x → (t : Spot) (Q' M' G' : List ℕ) → OtherIs s table (word 4 code (at + 1)) x (spot at locals ground_level h) Q M G (Goes t) Q' M' G' → (r : ℕ) → r ≡ max most t.height
+        pub other_step : 16 ≤ x → (t : Spot) (Q' M' G' : List ℕ) → OtherIs s table (word 4 code (at + 1)) x (spot at locals ground_level h) Q M G (Some t) Q' M' G' → (r : ℕ) → r ≡ max most t.height
             → Step M' G' Q' t.at t.locals t.ground_level t.height r
         other_step l t Q' M' G' o r e =
             let y = other_goes keyed.0 k x keyed.1 eff l t Q' M' G' o in step M' G' Q' y.0 y.1 t.at t.locals t.ground_level t.height y.2 r e
 
-    pub ends_here : (end : ℕ) → end ≡ body_end (bodies_in s) (body_of owner) → decoded code at end ≡ End → Finished s table (body_of owner) p₀ f₀ M₀ G₀ Q₀ x₀ M G Q most
+    pub ends_here : (end : ℕ) → end ≡ body_end (bodies_in s) (body_of owner) → decoded code at end ≡ None → Finished s table (body_of owner) p₀ f₀ M₀ G₀ Q₀ x₀ M G Q most
     ends_here end e f = let l : end ≤ at = at_end_lem code at end f in walk_ends (subst (λ z. z ≤ at) e l)
 
   pub code_fits : (code : List ℕ) → Keyed s code 0 → (end : ℕ) → end ≡ body_end (bodies_in s) (body_of owner) → (at : ℕ) → (read s).is_place (body_of owner) at ≡ true → end ≤ length code

@@ -1,5 +1,5 @@
 -- What one instruction of a walk leaves, by numbers.
-use Rattle.std.specs.Prelude.{◌≡◌, ℕ, suc, ◌+◌, ◌-◌, ◌≤◌, ◌<◌, List, length, get_or}
+use Rattle.std.specs.Prelude.{◌≡◌, ℕ, suc, ◌+◌, ◌-◌, ◌≤◌, ◌<◌, List, length, get_or, Some, None}
 use Rattle.std.proofs.Math.Option.{some}
 use Rattle.rules.specs.Bytes.{word}
 use Rattle.rules.specs.Tables.{Body, Function}
@@ -9,8 +9,7 @@ use Rattle.tracks.specs.Walks.{Arrived}
 use Rattle.tracks.specs.Leads.{noted}
 use Rattle.climb.specs.Waits.{Sizes}
 use Rattle.climb.specs.declared.walk.Spot.{Spot}
-use Rattle.climb.specs.declared.walk.Turn.{Turn}
-use Rattle.climb.specs.declared.walk.Turn.TheVariants.{Ends, Goes}
+use Rattle.std.specs.declared.option.Option.{Option}
 
 abbrev pub spot : ℕ → ℕ → ℕ → ℕ → Spot
 spot p n g h = record { at = p; locals = n; ground_level = g; height = h }
@@ -44,12 +43,12 @@ pub record OtherAsks (s code : List ℕ) (x : ℕ) (p : Spot) (row marks grounds
   pub calls : x ≡ 19 → Callable s (word 4 code (p.at + 1)) p.height
   pub up_to : x ≤ 20
 
-pub record OtherIs (s table : List ℕ) (w x : ℕ) (p : Spot) (row marks grounds : List ℕ) (r : Turn) (row' marks' grounds' : List ℕ) : Type 0 where
-  pub stores : x ≡ 16 → (w < p.locals → r ≡ Goes (spot (p.at + 5) p.locals p.ground_level (p.height - 1))) × (p.locals ≤ w → r ≡ Goes (spot (p.at + 5) (p.locals + 1) p.height p.height))
+pub record OtherIs (s table : List ℕ) (w x : ℕ) (p : Spot) (row marks grounds : List ℕ) (r : Option Spot) (row' marks' grounds' : List ℕ) : Type 0 where
+  pub stores : x ≡ 16 → (w < p.locals → r ≡ Some (spot (p.at + 5) p.locals p.ground_level (p.height - 1))) × (p.locals ≤ w → r ≡ Some (spot (p.at + 5) (p.locals + 1) p.height p.height))
       × (row' ≡ row) × (marks' ≡ marks) × (grounds' ≡ grounds)
-  pub jumps : x ≡ 17 → (r ≡ Ends) × (row' ≡ row) × JumpIs s table w p.ground_level marks grounds marks' grounds'
-  pub forks : x ≡ 18 → (r ≡ Goes (spot (p.at + 5) p.locals p.ground_level (p.height - 1))) × (row' ≡ row) × JumpIs s table w p.ground_level marks grounds marks' grounds'
+  pub jumps : x ≡ 17 → (r ≡ None) × (row' ≡ row) × JumpIs s table w p.ground_level marks grounds marks' grounds'
+  pub forks : x ≡ 18 → (r ≡ Some (spot (p.at + 5) p.locals p.ground_level (p.height - 1))) × (row' ≡ row) × JumpIs s table w p.ground_level marks grounds marks' grounds'
   pub calls : x ≡ 19 → ((F : Function) → (read s).function w ≡ some F
-      → (r ≡ Goes (spot (p.at + 5) p.locals p.ground_level (p.height - length F.params + result_slots F.result))) × (row' ≡ noted row w (p.height - length F.params + 1)))
+      → (r ≡ Some (spot (p.at + 5) p.locals p.ground_level (p.height - length F.params + result_slots F.result))) × (row' ≡ noted row w (p.height - length F.params + 1)))
       × (marks' ≡ marks) × (grounds' ≡ grounds)
-  pub stops : x ≡ 20 → (r ≡ Ends) × (row' ≡ row) × (marks' ≡ marks) × (grounds' ≡ grounds)
+  pub stops : x ≡ 20 → (r ≡ None) × (row' ≡ row) × (marks' ≡ marks) × (grounds' ≡ grounds)

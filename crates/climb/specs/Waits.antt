@@ -1,8 +1,7 @@
 -- Nodes that wait: what the code's parts leave.
-use Rattle.std.specs.Prelude.{◌≡◌, ◌≢◌, ℕ, ◌+◌, ◌*◌, ◌≤◌, ◌<◌, min, max, List, length, set}
+use Rattle.std.specs.Prelude.{◌≡◌, ◌≢◌, ℕ, ◌+◌, ◌*◌, ◌≤◌, ◌<◌, min, max, List, length, set, Some, None}
 use Rattle.tracks.specs.Walks.{mark_of, ground_of, low_of, high_of}
-use Rattle.climb.specs.declared.waits.Picked.{Picked}
-use Rattle.climb.specs.declared.waits.Picked.TheVariants.{Node, Nothing}
+use Rattle.std.specs.declared.option.Option.{Option}
 
 abbrev pub Sizes : List ℕ → List ℕ → Type 0
 Sizes marks grounds = (length marks ≡ 256) × (length grounds ≡ 258)
@@ -35,6 +34,6 @@ pub record Narrowed (marks grounds grounds' : List ℕ) : Type 0 where
   pub kept : (n : ℕ) → n < 256 → ground_of grounds' n ≡ ground_of grounds n
   pub bounded : Bounded marks grounds'
 
-abbrev pub PickedIs : List ℕ → Picked → Type 0
-PickedIs marks (Node k) = (mark_of marks k ≡ 1) × (k < 256)
-PickedIs marks Nothing = (n : ℕ) → mark_of marks n ≡ 1 → ⊥
+abbrev pub PickedIs : List ℕ → Option ℕ → Type 0
+PickedIs marks (Some k) = (mark_of marks k ≡ 1) × (k < 256)
+PickedIs marks None = (n : ℕ) → mark_of marks n ≡ 1 → ⊥

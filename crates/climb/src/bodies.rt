@@ -5,7 +5,6 @@ ghost use Rattle.keys.specs.Keys.{Keyed};
 ghost use Rattle.tracks.specs.Walks.{mark_of, Ready, Climbing};
 ghost use Rattle.tracks.specs.Visits.{Shown, Visited, Drained, Quiet};
 
-use crate::waits::Picked;
 use crate::walk::Spot;
 use format::Sections;
 
@@ -28,15 +27,15 @@ fn visit(
     requires shown { Shown file.now room.now × (mark_of marks.old k ≡ 1) × (k < 256) }
     ensures { Visited file.now table.now (body_of owner) marks.old grounds.old row.old most marks.new grounds.new row.new result }
 {
-    let ground_level = crate::waits::wide(grounds[k]);
+    let ground_level = usize::from(grounds[k]);
     let s = Spot {
         at: nodes::table::place_of(file, c, k),
-        locals: crate::effects::wide(room[64 * k + 1]),
+        locals: usize::from(room[64 * k + 1]),
         ground_level,
-        height: ground_level + crate::effects::wide(room[64 * k + 2]),
+        height: ground_level + usize::from(room[64 * k + 2]),
     };
     let r = crate::walk::walk(file, c, code, table, owner, s, most, row, marks, grounds);
-    if crate::waits::wide(grounds[k]) == ground_level {
+    if usize::from(grounds[k]) == ground_level {
         marks[k] = 2;
         return r;
     }
@@ -65,8 +64,7 @@ pub fn drain(
     let mut most = from;
     let mut last = 0;
     loop {
-        let found = crate::waits::pick(room, marks, grounds, last);
-        let Picked::Node(k) = found else {
+        let Some(k) = crate::waits::pick(room, marks, grounds, last) else {
             return most;
         };
         last = crate::waits::key(room, grounds, k);

@@ -10,12 +10,6 @@ pub const CALL: usize = 19;
 
 pub const RET: usize = 20;
 
-pub fn wide(x: u8) -> usize
-    ensures { (result ≡ x) × (result < 256) }
-{
-    x as usize
-}
-
 // Below 8: one byte, and the height changes by this less 2. From 8 to 15: five bytes, and the height changes by this less 10. Then those that do
 // more: `store`, `jmp`, a branch, `call`, `ret`. Numbers that are no key count as `ret`. Even and odd keys stand apart: neighbours in one arm would be
 // compared and not looked up.

@@ -11,7 +11,6 @@ ghost use Rattle.tracks.specs.Summing.{Fresh, Starts, Done};
 
 use crate::walk::Spot;
 use format::Sections;
-use reader::entries::FoundFunction;
 
 const ENTRY: usize = 0xffff_ffff;
 
@@ -23,8 +22,7 @@ fn parameters(file: &[u8], c: Sections, owner: usize) -> usize
     if owner == ENTRY {
         return 0;
     }
-    let found = view::function(file, c, owner);
-    let FoundFunction::Record(f) = found else {
+    let Some(f) = view::function(file, c, owner) else {
         return 0;
     };
     f.params

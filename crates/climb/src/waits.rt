@@ -5,50 +5,13 @@ ghost use Rattle.std.specs.Prelude.{◌≡◌, ℕ, ◌+◌, ◌*◌, ◌<◌, �
 ghost use Rattle.tracks.specs.Walks.{mark_of, Arrived};
 ghost use Rattle.climb.specs.Waits.{Sizes, spread_to, FirstIs, LastIs, Bounded, Roomy, Narrowed, PickedIs};
 
-// The node to walk from next, or none waits.
-#[derive(Clone, Copy)]
-pub enum Picked {
-    Node(usize),
-    Nothing,
-}
-
-pub fn wide(x: u16) -> usize
-    ensures { (result ≡ x) × (result < 65536) }
-{
-    x as usize
-}
-
-fn octet(x: u8) -> usize
-    ensures { (result ≡ x) × (result < 256) }
-{
-    x as usize
-}
-
-fn smaller(x: usize, y: usize) -> usize
-    ensures { result ≡ min x y }
-{
-    if x < y {
-        return x;
-    }
-    y
-}
-
-pub fn larger(x: usize, y: usize) -> usize
-    ensures { result ≡ max x y }
-{
-    if x < y {
-        return y;
-    }
-    x
-}
-
 // Node k waits too.
 fn spread(k: usize, grounds: &mut [u16])
     requires { (k < 256) × (length grounds.old ≡ 258) }
     ensures { grounds.new ≡ spread_to k grounds.old }
 {
-    let low = smaller(wide(grounds[256]), k);
-    let high = larger(wide(grounds[257]), k + 1);
+    let low = usize::from(grounds[256]).min(k);
+    let high = usize::from(grounds[257]).max(k + 1);
     grounds[256] = low as u16;
     grounds[257] = high as u16;
 }
@@ -73,7 +36,7 @@ pub fn arrive(k: usize, ground_level: usize, marks: &mut [u8], grounds: &mut [u1
         wait(k, ground_level, marks, grounds);
         return;
     }
-    if ground_level <= wide(grounds[k]) {
+    if ground_level <= usize::from(grounds[k]) {
         return;
     }
     if mark == 1 {
@@ -88,7 +51,7 @@ pub fn arrive(k: usize, ground_level: usize, marks: &mut [u8], grounds: &mut [u1
 pub fn key(room: &[u8], grounds: &[u16], k: usize) -> usize
     requires { (k < 256) × (64 * k + 64 ≤ length room.now) × (length grounds.now ≡ 258) }
 {
-    65536 * (255 - octet(room[64 * k + 1])) + wide(grounds[k])
+    65536 * (255 - usize::from(room[64 * k + 1])) + usize::from(grounds[k])
 }
 
 // The first node from `low` on that waits, or `high`.
@@ -96,14 +59,12 @@ fn first(marks: &[u8], low: usize, high: usize) -> usize
     requires { (high ≤ 256) × (length marks.now ≡ 256) }
     ensures { FirstIs marks.now low high result }
 {
-    let mut i = low;
-    while i < high {
+    for i in low..high {
         if marks[i] == 1 {
             return i;
         }
-        i += 1;
     }
-    i
+    low.max(high)
 }
 
 // One more than the last node below `high` that waits, where `low` does.
@@ -111,14 +72,12 @@ fn last(marks: &[u8], low: usize, high: usize) -> usize
     requires { (low < high) × (high ≤ 256) × (length marks.now ≡ 256) × (mark_of marks.now low ≡ 1) }
     ensures { LastIs marks.now low high result }
 {
-    let mut i = high;
-    while low + 1 < i {
-        if marks[i - 1] == 1 {
-            return i;
+    for i in (low + 1..high).rev() {
+        if marks[i] == 1 {
+            return i + 1;
         }
-        i -= 1;
     }
-    i
+    low + 1
 }
 
 // Of node i, if it waits, and of the best before it, the first in order.
@@ -141,30 +100,28 @@ fn best(room: &[u8], marks: &[u8], grounds: &[u16], low: usize, high: usize, bef
     ensures { (mark_of marks.now result ≡ 1) × (result < 256) }
 {
     let mut found = low;
-    let mut i = low + 1;
-    while i < high {
+    for i in low + 1..high {
         if key(room, grounds, found) == before {
             return found;
         }
         found = better(room, marks, grounds, found, i);
-        i += 1;
     }
     found
 }
 
-// The node to walk from next.
-pub fn pick(room: &[u8], marks: &[u8], grounds: &mut [u16], before: usize) -> Picked
+// The node to walk from next, where one waits.
+pub fn pick(room: &[u8], marks: &[u8], grounds: &mut [u16], before: usize) -> Option<usize>
     requires { Sizes marks.now grounds.old × Roomy room.now marks.now × Bounded marks.now grounds.old }
     ensures narrowed { Narrowed marks.now grounds.old grounds.new }
     ensures picked_is { PickedIs marks.now result }
 {
-    let to = wide(grounds[257]);
-    let low = first(marks, wide(grounds[256]), to);
+    let to = usize::from(grounds[257]);
+    let low = first(marks, usize::from(grounds[256]), to);
     if to <= low {
-        return Picked::Nothing;
+        return None;
     }
     let high = last(marks, low, to);
     grounds[256] = low as u16;
     grounds[257] = high as u16;
-    Picked::Node(best(room, marks, grounds, low, high, before))
+    Some(best(room, marks, grounds, low, high, before))
 }

@@ -15,8 +15,6 @@ ghost use Rattle.climb.specs.Waits.{Sizes};
 ghost use Rattle.climb.specs.Turns.{spot, Callable, JumpIs, CallIs, OtherAsks, OtherIs};
 
 use format::Sections;
-use keys::Decoded;
-use reader::entries::{FoundFunction, FoundLabel};
 
 // A place, how many locals there are, where the operands begin, and the height; both counted from the frame's first slot.
 #[derive(Clone, Copy)]
@@ -25,13 +23,6 @@ pub struct Spot {
     pub locals: usize,
     pub ground_level: usize,
     pub height: usize,
-}
-
-// The walk ends, or goes on.
-#[derive(Clone, Copy)]
-pub enum Turn {
-    Ends,
-    Goes(Spot),
 }
 
 // How many slots a function takes and gives.
@@ -66,8 +57,7 @@ fn slots(file: &[u8], c: Sections, k: usize) -> Signature
     requires { Packed file.now c }
     ensures { (F : Function) → (read file.now).function k ≡ some F → (result.params ≡ length F.params) × (result.results ≡ result_slots F.result) }
 {
-    let found = view::function(file, c, k);
-    let FoundFunction::Record(f) = found else {
+    let Some(f) = view::function(file, c, k) else {
         return Signature {
             params: 0,
             results: 0,
@@ -90,7 +80,7 @@ fn note(k: usize, x: usize, row: &mut [u16])
     requires { (k < 128) × (x < 65536) × (length row.old ≡ 128) }
     ensures { row.new ≡ noted row.old k x }
 {
-    if crate::waits::wide(row[k]) < x {
+    if usize::from(row[k]) < x {
         row[k] = x as u16;
     }
 }
@@ -125,8 +115,7 @@ fn jump(
     requires ground_bound { (ground_level ≤ 512) × Sizes marks.old grounds.old × ((b : Body) × (p : ℕ) × ((read file.now).label k ≡ some (b, p))) }
     ensures { JumpIs file.now table.now k ground_level marks.old grounds.old marks.new grounds.new }
 {
-    let found = view::label(file, c, k);
-    let FoundLabel::Record(l) = found else {
+    let Some(l) = view::label(file, c, k) else {
         return;
     };
     let place = l.place;
@@ -145,26 +134,26 @@ fn other(
     row: &mut [u16],
     marks: &mut [u8],
     grounds: &mut [u16],
-) -> Turn
+) -> Option<Spot>
     requires packed { Packed file.now c × (refusal file.now ≡ 0) × Tabled file.now table.now }
     requires other_asks { OtherAsks file.now code.now x s row.old marks.old grounds.old }
     ensures { OtherIs file.now table.now (word 4 code.now (s.at + 1)) x s row.old marks.old grounds.old result row.new marks.new grounds.new }
 {
     if x == crate::effects::RET {
-        return Turn::Ends;
+        return None;
     }
     let n = keys::operand(code, s.at) as usize;
     if x == crate::effects::STORE {
-        return Turn::Goes(store(n, s));
+        return Some(store(n, s));
     }
     if x == crate::effects::CALL {
-        return Turn::Goes(call(file, c, n, s, row));
+        return Some(call(file, c, n, s, row));
     }
     jump(file, c, table, n, s.ground_level, marks, grounds);
     if x == crate::effects::JMP {
-        return Turn::Ends;
+        return None;
     }
-    Turn::Goes(Spot {
+    Some(Spot {
         at: s.at + 5,
         locals: s.locals,
         ground_level: s.ground_level,
@@ -206,17 +195,16 @@ pub fn walk(
     let mut locals = from.locals;
     let mut ground_level = from.ground_level;
     let mut height = from.height;
-    let mut most = crate::waits::larger(known, height);
+    let mut most = known.max(height);
     loop {
-        let found = keys::decode(code, at, end);
-        let Decoded::Instruction(b) = found else {
+        let Some(b) = keys::decode(code, at, end) else {
             return most;
         };
         let x = crate::effects::effect(b);
         if x < 16 {
             at = at + 1 + 4 * (x / 8);
             height = height + x % 8 - 2;
-            most = crate::waits::larger(most, height);
+            most = most.max(height);
             if met(table, at, end) {
                 crate::waits::arrive(
                     nodes::table::node_at(table, at) - 1,
@@ -244,14 +232,14 @@ pub fn walk(
             marks,
             grounds,
         );
-        let Turn::Goes(t) = turned else {
+        let Some(t) = turned else {
             return most;
         };
         at = t.at;
         locals = t.locals;
         ground_level = t.ground_level;
         height = t.height;
-        most = crate::waits::larger(most, height);
+        most = most.max(height);
         if met(table, at, end) {
             crate::waits::arrive(
                 nodes::table::node_at(table, at) - 1,

@@ -2,15 +2,16 @@
 #![tactic(auto)]
 
 ghost use Rattle.rules.specs.Grammar.{StopsAt};
+ghost use Rattle.rules.specs.Results.{write_answer};
 ghost use Rattle.promises.specs.FormulaPromises.{FormulaKeeps};
 
-use rules::WriteAnswer;
+use rules::Refusal;
 
 pub mod host;
 
 // Compiles a formula line and writes its module into the lent output, or refuses and changes nothing.
-pub fn formula(line: &[u8], out: &mut [u8]) -> WriteAnswer
-    ensures { FormulaKeeps line.now out.old result out.new }
+pub fn formula(line: &[u8], out: &mut [u8]) -> Result<u64, Refusal>
+    ensures { FormulaKeeps line.now out.old (write_answer result) out.new }
 {
     formula::compile(line, out)
 }

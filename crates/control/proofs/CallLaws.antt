@@ -8,6 +8,7 @@ use mathlib.Core.Option.{Option, none, some}
 use mathlib.Core.List.{List}
 use lib.ListN.{length}
 use borrow.Author.Tests.{lt-ltb, le-ltb, le-leb, lt-leb, eq-eqb, ne_eqb}
+use Rattle.rules.specs.declared.Exception.TheVariants as Exception
 use Rattle.rules.specs.declared.Instruction.TheVariants.{Call}
 use Rattle.rules.specs.Bytes.{byte, maybe}
 use Rattle.rules.specs.declared.Num.TheVariants.{Int as int, Long as long, Double as double}
@@ -18,7 +19,7 @@ use Rattle.rules.specs.Stack.{slot_at, slots_of}
 use Rattle.rules.specs.Machine.{exec_in, kinds_match}
 use Rattle.soundness.specs.Readable.{params_length, pointer_ty, managed_ty}
 use Rattle.reader.specs.declared.entries.FunctionRecord.{FunctionRecord}
-use Rattle.reader.specs.declared.entries.FoundFunction.TheVariants.{Record}
+use Rattle.std.specs.Prelude.{Some}
 use Rattle.reader.specs.Answers.{function_found}
 use Rattle.state.specs.State.{depth_of, state_of, Ready, Does, DoesOrLacks}
 use Rattle.state.specs.declared.Registers.{Registers}
@@ -74,19 +75,19 @@ module _ (s : List ℕ) (a : ℕ) (p t : List ℕ) (b : ℕ) where
 -- ---- call
 
 -- the registers at the start of the function that a record tells
-pub entered_same : (s : List ℕ) (i : ℕ) (g : FunctionRecord) → function_found s i (Record g) ≡ (read s).function i → i < function_count (edition s) (functions_in s) → (a h : ℕ)
+pub entered_same : (s : List ℕ) (i : ℕ) (g : FunctionRecord) → function_found s i (Some g) ≡ (read s).function i → i < function_count (edition s) (functions_in s) → (a h : ℕ)
     → entered_at (function_of (edition s) (functions_in s) (function_at (edition s) i)) a h ≡ record { place = g.start; stop = g.end; floor = h; frame = a; height = h }
 unfolding module_of
 entered_same s i g is l a h =
-    let q : function_found s i (Record g) ≡ some (function_of (edition s) (functions_in s) (function_at (edition s) i)) = rw (lt-ltb i (function_count (edition s) (functions_in s)) l) at is in
+    let q : function_found s i (Some g) ≡ some (function_of (edition s) (functions_in s) (function_at (edition s) i)) = rw (lt-ltb i (function_count (edition s) (functions_in s)) l) at is in
     ap (λ (o : Option Function). maybe o (first_at 0 0 0) (λ F. entered_at F a h)) (sym q)
 
 module _ (cap : ℕ) (r : Registers) (p t f : List ℕ) (k : Ready cap r p t f) (s : List ℕ) (i : ℕ) where
-  pub call_28 : (read s).function i ≡ none → Does cap r (Stops 28) p t f p t f (exec_in (read s) cap (Call i) (state_of r p t f))
+  pub call_28 : (read s).function i ≡ none → Does cap r (Stops Exception.FunctionOutOfRange) p t f p t f (exec_in (read s) cap (Call i) (state_of r p t f))
   unfolding exec_in
-  call_28 e = stopping cap r p t f k 28 _ (rw e refl)
+  call_28 e = stopping cap r p t f k Exception.FunctionOutOfRange _ (rw e refl)
 
-  module _ (g : FunctionRecord) (is : function_found s i (Record g) ≡ (read s).function i) where
+  module _ (g : FunctionRecord) (is : function_found s i (Some g) ≡ (read s).function i) where
     abbrev n : ℕ
     n = g.params
 
@@ -96,26 +97,26 @@ module _ (cap : ℕ) (r : Registers) (p t f : List ℕ) (k : Ready cap r p t f) 
     count : length params ≡ n
     count = params_length (functions_in s) (function_at (edition s) i + 10) n
 
-    pub call_21 : r.height < n + r.floor → Does cap r (Stops 21) p t f p t f (exec_in (read s) cap (Call i) (state_of r p t f))
+    pub call_21 : r.height < n + r.floor → Does cap r (Stops Exception.StackEmpty) p t f p t f (exec_in (read s) cap (Call i) (state_of r p t f))
     unfolding exec_in
-    call_21 h = stopping cap r p t f k 21 _ (rw (← is, count, length_slots p t r.height, lt-leb (n + r.floor) r.height h) refl)
+    call_21 h = stopping cap r p t f k Exception.StackEmpty _ (rw (← is, count, length_slots p t r.height, lt-leb (n + r.floor) r.height h) refl)
 
     module _ (enough : n + r.floor ≤ r.height) where
       top : r.height - n + n ≡ r.height
       top = omega arith
 
-      pub call_22 : kinds_match params (slots_of p t (r.height - n + n)) ≡ false → Does cap r (Stops 22) p t f p t f (exec_in (read s) cap (Call i) (state_of r p t f))
+      pub call_22 : kinds_match params (slots_of p t (r.height - n + n)) ≡ false → Does cap r (Stops Exception.StackDifferentType) p t f p t f (exec_in (read s) cap (Call i) (state_of r p t f))
       unfolding exec_in
       call_22 e =
-          stopping cap r p t f k 22 _
+          stopping cap r p t f k Exception.StackDifferentType _
           (rw (← is, count, length_slots p t r.height, le-leb (n + r.floor) r.height enough, rw top at e) refl)
 
       module _ (kinds : kinds_match params (slots_of p t (r.height - n + n)) ≡ true) where
         -- all 64 frames are in use
-        call_64 : length f ≡ 1536 → length f < r.frame + 48 → Does cap r (Stops 20) p t f p t f (exec_in (read s) cap (Call i) (state_of r p t f))
+        call_64 : length f ≡ 1536 → length f < r.frame + 48 → Does cap r (Stops Exception.StackOverflow) p t f p t f (exec_in (read s) cap (Call i) (state_of r p t f))
         unfolding exec_in
         call_64 all h =
-            stopping cap r p t f k 20 _
+            stopping cap r p t f k Exception.StackOverflow _
             (rw (
               ← is,
               count,
@@ -127,7 +128,7 @@ module _ (cap : ℕ) (r : Registers) (p t f : List ℕ) (k : Ready cap r p t f) 
             ) refl)
 
         -- no words for another frame: all are in use, or fewer were lent
-        pub call_20 : length f < r.frame + 48 → DoesOrLacks cap r (Stops 20) p t f p t f (exec_in (read s) cap (Call i) (state_of r p t f))
+        pub call_20 : length f < r.frame + 48 → DoesOrLacks cap r (Stops Exception.StackOverflow) p t f p t f (exec_in (read s) cap (Call i) (state_of r p t f))
         call_20 h =
             ⊎_elim
             (λ (l : length f < 1536). inr (record { stops_with = refl; fewer = l; keeps_payloads = refl; keeps_types = refl; keeps_words = refl }))

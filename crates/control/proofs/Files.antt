@@ -17,7 +17,7 @@ use Rattle.soundness.specs.Tests.{decide, none_some, some_inj}
 use Rattle.soundness.specs.Readable.{Has, ResultByte, pointer_back, byte_back, result_type, few_parameters, label_is, params_length, ends_rise, fills, starts_after}
 use Rattle.soundness.specs.Cutting.{few_functions, little_code, good_file, functions_good}
 use Rattle.reader.specs.declared.entries.FunctionRecord.{FunctionRecord}
-use Rattle.reader.specs.declared.entries.FoundFunction.TheVariants.{Record}
+use Rattle.std.specs.Prelude.{Some}
 use Rattle.reader.specs.declared.entries.LabelRecord.{LabelRecord}
 use Rattle.reader.specs.Answers.{function_found}
 
@@ -46,7 +46,7 @@ not_null z t (inr (inr (inr h))) q = let l : 202 ≤ t = h.0 in omega arith
 module _ (s : List ℕ) (readable : refusal s ≡ 0) where
   -- its number, its count of parameters and its end
   module _ (k : ℕ) (g : FunctionRecord) where
-    pub callee : function_found s k (Record g) ≡ (read s).function k
+    pub callee : function_found s k (Some g) ≡ (read s).function k
         → (k < function_count (edition s) (functions_in s)) × (g.params ≤ 8) × (g.end ≤ 16384) × (g.params ≡ byte (functions_in s) (function_at (edition s) k + 8))
     unfolding module_of function_of end_before
     callee e = go (ltb k (function_count (edition s) (functions_in s))) refl
@@ -57,7 +57,7 @@ module _ (s : List ℕ) (readable : refusal s ≡ 0) where
             let h : k < function_count (edition s) (functions_in s) = ltb-true k (function_count (edition s) (functions_in s)) y in
             let a : ℕ = function_at (edition s) k in
             let fs : List ℕ = functions_in s in
-            let q : function_found s k (Record g) ≡ some (function_of (edition s) fs a) = rw y at e in
+            let q : function_found s k (Some g) ≡ some (function_of (edition s) fs a) = rw y at e in
             let ends : g.end ≡ word 4 fs a + word 4 fs (a + 4) = ap (λ (o : Option Function). maybe o 0 (λ F. F.end)) q in
             let counts : length (params_from fs (a + 10) g.params) ≡ length (params_from fs (a + 10) (byte fs (a + 8))) =
             ap (λ (o : Option Function). maybe o 0 (λ F. length F.params)) q in
@@ -75,7 +75,7 @@ module _ (s : List ℕ) (readable : refusal s ≡ 0) where
             )
 
     -- its return type is that of its byte
-    pub returned : function_found s k (Record g) ≡ (read s).function k → (g.result ≡ 0 → ⊥) → type_byte (ty_of g.result) ≡ g.result
+    pub returned : function_found s k (Some g) ≡ (read s).function k → (g.result ≡ 0 → ⊥) → type_byte (ty_of g.result) ≡ g.result
     unfolding module_of function_of
     returned e ne = type_back g.result (λ q. go (result_type (bodies_in s) (functions_good s readable) k (callee e).0) q)
       where
@@ -87,7 +87,7 @@ module _ (s : List ℕ) (readable : refusal s ≡ 0) where
 
         same : some (ty_of g.result) ≡ result_of y
         same =
-            let q : function_found s k (Record g) ≡ some (function_of (edition s) fs (function_at (edition s) k)) = rw (lt-ltb k (function_count (edition s) fs) (callee e).0) at e in
+            let q : function_found s k (Some g) ≡ some (function_of (edition s) fs (function_at (edition s) k)) = rw (lt-ltb k (function_count (edition s) fs) (callee e).0) at e in
             rw (ne_eqb g.result 0 ne) at (ap (λ (o : Option Function). maybe o none (λ F. F.result)) q)
 
         go : (y ≡ 0) ⊎ ResultByte (structure_count (bodies_in s).structures) y → type_byte (ty_of g.result) ≡ 128 → ⊥

@@ -10,6 +10,7 @@ use lib.Dec.{eqb, leb}
 use denote.Enum.Declared.{tag_of}
 use types.Run.{OneOf}
 use borrow.Author.Tests.{eq-eqb, ne_eqb, eqb-true, eqb-false}
+use Rattle.rules.specs.declared.Exception.TheVariants as Exception
 use Rattle.rules.specs.declared.Slot.{Slot}
 use Rattle.rules.specs.declared.Condition.{Condition}
 use Rattle.rules.specs.declared.Instruction.TheVariants.{Jmp, Branch}
@@ -60,9 +61,9 @@ module _ (o b q : ℕ) (good : Owner o) where
 module _ (cap : ℕ) (r : Registers) (p t f : List ℕ) (k : Ready cap r p t f) (m : Module) (l : ℕ) where
   -- ---- jmp
 
-  pub jmp_27 : owned (top_of r f).body (m.label l) ≡ none → Does cap r (Stops 27) p t f p t f (exec_in m cap (Jmp l) (state_of r p t f))
+  pub jmp_27 : owned (top_of r f).body (m.label l) ≡ none → Does cap r (Stops Exception.LabelOutOfRange) p t f p t f (exec_in m cap (Jmp l) (state_of r p t f))
   unfolding exec_in
-  jmp_27 e = stopping cap r p t f k 27 _ (rw e refl)
+  jmp_27 e = stopping cap r p t f k Exception.LabelOutOfRange _ (rw e refl)
 
   pub jmp_goes : (q : ℕ) → owned (top_of r f).body (m.label l) ≡ some q
       → Does cap r (Goes (moved_to r q r.height)) p t f p t f (exec_in m cap (Jmp l) (state_of r p t f))
@@ -72,20 +73,20 @@ module _ (cap : ℕ) (r : Registers) (p t f : List ℕ) (k : Ready cap r p t f) 
   -- ---- a conditional branch
 
   module _ (o : Condition) where
-    pub branch_27 : owned (top_of r f).body (m.label l) ≡ none → Does cap r (Stops 27) p t f p t f (exec_in m cap (Branch o l) (state_of r p t f))
+    pub branch_27 : owned (top_of r f).body (m.label l) ≡ none → Does cap r (Stops Exception.LabelOutOfRange) p t f p t f (exec_in m cap (Branch o l) (state_of r p t f))
     unfolding exec_in
-    branch_27 e = stopping cap r p t f k 27 _ (rw e refl)
+    branch_27 e = stopping cap r p t f k Exception.LabelOutOfRange _ (rw e refl)
 
     module _ (q : ℕ) (e : owned (top_of r f).body (m.label l) ≡ some q) where
-      pub branch_21 : r.height < r.floor + 1 → Does cap r (Stops 21) p t f p t f (exec_in m cap (Branch o l) (state_of r p t f))
+      pub branch_21 : r.height < r.floor + 1 → Does cap r (Stops Exception.StackEmpty) p t f p t f (exec_in m cap (Branch o l) (state_of r p t f))
       unfolding exec_in
-      branch_21 h = stopping cap r p t f k 21 _ (rw e (take1_short p t r.floor r.height _ h))
+      branch_21 h = stopping cap r p t f k Exception.StackEmpty _ (rw e (take1_short p t r.floor r.height _ h))
 
       module _ (v : Slot) (one : r.floor + 1 ≤ r.height) (top : v ≡ slot_at p t (r.height - 1)) where
-        pub branch_22 : (v.kind ≡ 3 → ⊥) → Does cap r (Stops 22) p t f p t f (exec_in m cap (Branch o l) (state_of r p t f))
+        pub branch_22 : (v.kind ≡ 3 → ⊥) → Does cap r (Stops Exception.StackDifferentType) p t f p t f (exec_in m cap (Branch o l) (state_of r p t f))
         unfolding exec_in
         branch_22 ne =
-            stopping cap r p t f k 22 _ (rw e (take1_has p t r.floor r.height _ one ∙ rw (← top, ne_eqb v.kind 3 ne) refl))
+            stopping cap r p t f k Exception.StackDifferentType _ (rw e (take1_has p t r.floor r.height _ one ∙ rw (← top, ne_eqb v.kind 3 ne) refl))
 
         pub branch_goes : v.kind ≡ 3
             → Does cap r (Goes (moved_to r (cond (holds o (low v.payload)) q (r.place + 5)) (r.height - 1))) p t f p t f (exec_in m cap (Branch o l) (state_of r p t f))

@@ -9,6 +9,7 @@ use mathlib.Core.List.{List, [], ◌∷◌, ◌++◌}
 use lib.ListN.{length, get_or, drop}
 use lib.Dec.{eqb}
 use borrow.Author.Tests.{le-ltb, eq-eqb, ne_eqb, eqb-true}
+use Rattle.rules.specs.declared.Exception.TheVariants as Exception
 use Rattle.rules.specs.declared.Slot.{Slot}
 use Rattle.rules.specs.declared.Instruction.TheVariants.{Ret}
 use Rattle.rules.specs.Instructions.{type_byte, ty_of, kind_of}
@@ -19,7 +20,7 @@ use Rattle.rules.specs.Machine.{exec_in, own, leaving}
 use Rattle.soundness.specs.Started.{all_at}
 use Rattle.soundness.specs.Kinds.{Kind, OfKind, Kinded}
 use Rattle.reader.specs.declared.entries.FunctionRecord.{FunctionRecord}
-use Rattle.reader.specs.declared.entries.FoundFunction.TheVariants.{Record}
+use Rattle.std.specs.Prelude.{Some}
 use Rattle.reader.specs.Answers.{function_found}
 use Rattle.state.specs.Slots.{payloads_with, types_with}
 use Rattle.state.specs.State.{body_in, depth_of, memory_of, state_of, frame_at, callers_of, Waiting, Caller, Ready, Does}
@@ -115,11 +116,11 @@ module _ (cap : ℕ) (r : Registers) (p t f : List ℕ) (k : Ready cap r p t f) 
     abbrev body : ℕ
     body = get_or f r.frame 0
 
-    pub ret_30 : (read s).function body ≡ none → Does cap r (Stops 30) p t f p t f (exec_in (read s) cap Ret (state_of r p t f))
+    pub ret_30 : (read s).function body ≡ none → Does cap r (Stops Exception.FunctionTopOfCallStack) p t f p t f (exec_in (read s) cap Ret (state_of r p t f))
     unfolding exec_in
-    ret_30 e = stopping cap r p t f k 30 _ (rw (own_is s few body, e) refl)
+    ret_30 e = stopping cap r p t f k Exception.FunctionTopOfCallStack _ (rw (own_is s few body, e) refl)
 
-    module _ (g : FunctionRecord) (is : function_found s body (Record g) ≡ (read s).function body) where
+    module _ (g : FunctionRecord) (is : function_found s body (Some g) ≡ (read s).function body) where
       abbrev x : ℕ
       x = g.result
 
@@ -131,17 +132,17 @@ module _ (cap : ℕ) (r : Registers) (p t f : List ℕ) (k : Ready cap r p t f) 
           (omega (arith, k.low, k.over, k.high)) refl refl refl refl (depth_of r) refl)
 
       module _ (valued : x ≡ 0 → ⊥) where
-        pub ret_21 : r.height < r.floor + 1 → Does cap r (Stops 21) p t f p t f (exec_in (read s) cap Ret (state_of r p t f))
+        pub ret_21 : r.height < r.floor + 1 → Does cap r (Stops Exception.StackEmpty) p t f p t f (exec_in (read s) cap Ret (state_of r p t f))
         unfolding exec_in
         ret_21 h =
-            stopping cap r p t f k 21 _
+            stopping cap r p t f k Exception.StackEmpty _
             (rw (own_is s few body, ← is, ne_eqb x 0 valued) (take1_short p t r.floor r.height _ h))
 
         module _ (v : Slot) (one : r.floor + 1 ≤ r.height) (top : v ≡ slot_at p t (r.height - 1)) where
-          pub ret_22 : (v.kind ≡ kind_of (ty_of x) → ⊥) → Does cap r (Stops 22) p t f p t f (exec_in (read s) cap Ret (state_of r p t f))
+          pub ret_22 : (v.kind ≡ kind_of (ty_of x) → ⊥) → Does cap r (Stops Exception.StackDifferentType) p t f p t f (exec_in (read s) cap Ret (state_of r p t f))
           unfolding exec_in
           ret_22 ne =
-              stopping cap r p t f k 22 _
+              stopping cap r p t f k Exception.StackDifferentType _
               (rw (own_is s few body, ← is, ne_eqb x 0 valued) (take1_has p t r.floor r.height _ one ∙ rw (← top, ne_eqb v.kind (kind_of (ty_of x)) ne) refl))
 
           -- the value is written at the frame's first slot

@@ -1,5 +1,5 @@
 -- What the functions of this crate find, write and read: targets, the words of frames, registers of another frame.
-use Rattle.std.specs.Prelude.{ℕ, zero, suc, ◌+◌, ◌-◌, ◌*◌, ◌<◌, cond, List, get_or, set}
+use Rattle.std.specs.Prelude.{ℕ, zero, suc, ◌+◌, ◌-◌, ◌*◌, ◌<◌, cond, List, get_or, set, Some, None, Ok, Err}
 use Rattle.std.proofs.Math.Option.{Option, none, some}
 use Rattle.rules.specs.declared.Condition.{Condition}
 use Rattle.rules.specs.declared.Instruction.TheVariants.{Branch}
@@ -10,14 +10,13 @@ use Rattle.state.specs.State.{state_of, moved_to, Ready, Does}
 use Rattle.state.specs.declared.Registers.{Registers}
 use Rattle.state.specs.declared.Progress.{Progress}
 use Rattle.state.specs.declared.Progress.TheVariants.{Goes, Finishes, Stops}
-use Rattle.control.specs.declared.jumps.FoundPlace.{FoundPlace}
-use Rattle.control.specs.declared.jumps.FoundPlace.TheVariants.{At, Nothing}
-use Rattle.control.specs.declared.jumps.Popped.{Popped}
-use Rattle.control.specs.declared.jumps.Popped.TheVariants.{Int, Refused}
+use Rattle.std.specs.declared.option.Option as found
+use Rattle.std.specs.declared.result.Result.{Result}
+use Rattle.rules.specs.declared.Exception.{Exception}
 
-abbrev pub place_of : FoundPlace → Option ℕ
-place_of (At q) = some q
-place_of Nothing = none
+abbrev pub place_of : found.Option ℕ → Option ℕ
+place_of (Some q) = some q
+place_of None = none
 
 -- ready with a capacity that the instruction does not ask for
 abbrev pub Prepared : Registers → List ℕ → List ℕ → List ℕ → Type 0
@@ -34,10 +33,10 @@ abbrev pub Branches : Condition → Progress → Registers → List ℕ → List
 Branches o a r p t f m l = (cap : ℕ) → ActsOn cap r a p t f p t f (exec_in m cap (Branch o l))
 
 -- what each branch does then: it tests v, with q as its label's place, or stops
-abbrev pub PoppedIs : Popped → Registers → List ℕ → List ℕ → List ℕ → Module → ℕ → Type 0
-PoppedIs (Int v q) r p t f m l =
+abbrev pub PoppedIs : Result (ℕ × ℕ) Exception → Registers → List ℕ → List ℕ → List ℕ → Module → ℕ → Type 0
+PoppedIs (Ok (v, q)) r p t f m l =
     (0 < r.height) × ((o : Condition) → Branches o (Goes (moved_to r (cond (holds o v) q (r.place + 5)) (r.height - 1))) r p t f m l)
-PoppedIs (Refused e) r p t f m l = (o : Condition) → Branches o (Stops e) r p t f m l
+PoppedIs (Err e) r p t f m l = (o : Condition) → Branches o (Stops e) r p t f m l
 
 -- ---- what a call writes
 

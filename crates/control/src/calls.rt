@@ -12,12 +12,8 @@ ghost use Rattle.format.specs.Layout.{Packed};
 ghost use Rattle.state.specs.State.{depth_of, state_of, Ready, DoesOrLacks};
 ghost use Rattle.control.specs.Control.{ActsOn, Prepared, saved_in, arguments_in, opened_in, first_at, entered_at, restored_at, past_frame};
 
-use crate::exceptions::{
-    FUNCTION_OUTOFRANGE, FUNCTION_TOPOFCALLSTACK, STACK_DIFFERENTTYPE, STACK_EMPTY, STACK_OVERFLOW,
-};
-use crate::wide;
 use format::Sections;
-use reader::entries::FoundFunction;
+use rules::Exception;
 use state::{Progress, Registers};
 
 // ---- call
@@ -42,9 +38,7 @@ fn alike(file: &[u8], c: Sections, k: usize, n: usize, base: usize, t: &[u8]) ->
     requires k_lt_functions { (k < c.functions) × (n ≡ byte (functions_in file.now) (function_at (edition file.now) k + 8)) × (base + n ≤ length t.now) }
     ensures { (p : List ℕ) → result ≡ kinds_match (params_from (functions_in file.now) (function_at (edition file.now) k + 10) n) (slots_of p t.now (base + n)) }
 {
-    let mut j = n;
-    while 0 < j {
-        j -= 1;
+    for j in (0..n).rev() {
         let wanted = kind_of(reader::entries::param(file, c, k, j));
         if t[base + j] != wanted {
             return false;
@@ -70,10 +64,8 @@ fn bind_arguments(a: usize, base: usize, n: usize, f: &mut [u16])
     ensures { f.new ≡ arguments_in f.old a base n }
 {
     let at = a + 4;
-    let mut j = 0;
-    while j < n {
+    for j in 0..n {
         f[at + j] = (base + j) as u16;
-        j += 1;
     }
 }
 
@@ -134,23 +126,21 @@ pub fn call(
     ensures { (cap : ℕ) (p : List ℕ) → Ready cap r p t.now f.old → DoesOrLacks cap r result p t.now f.old p t.now f.new (exec_in (read file.now) cap (Call (word 4 code.now (r.place + 1))) (state_of r p t.now f.old)) }
 {
     let k = keys::operand(code, r.place) as usize;
-    let found = view::function(file, c, k);
-    let FoundFunction::Record(g) = found else {
-        return Progress::Stops(FUNCTION_OUTOFRANGE);
+    let Some(g) = view::function(file, c, k) else {
+        return Progress::Stops(Exception::FunctionOutOfRange);
     };
     let h = r.height;
     let n = g.params;
     if h < n + r.floor {
-        return Progress::Stops(STACK_EMPTY);
+        return Progress::Stops(Exception::StackEmpty);
     }
     let base = h - n;
-    let same = alike(file, c, k, n, base, t);
-    if !same {
-        return Progress::Stops(STACK_DIFFERENTTYPE);
+    if !alike(file, c, k, n, base, t) {
+        return Progress::Stops(Exception::StackDifferentType);
     }
     let frame = r.frame;
     if f.len() < frame + 48 {
-        return Progress::Stops(STACK_OVERFLOW);
+        return Progress::Stops(Exception::StackOverflow);
     }
     save(r, f);
     open_frame(frame + 24, k, base, n, f);
@@ -165,9 +155,9 @@ fn restored(a: usize, height: usize, f: &[u16]) -> Registers
     ensures { result ≡ restored_at f.now a height }
 {
     Registers {
-        place: wide(f[a + 1]),
-        stop: wide(f[a + 20]),
-        floor: wide(f[a + 21]),
+        place: usize::from(f[a + 1]),
+        stop: usize::from(f[a + 20]),
+        floor: usize::from(f[a + 21]),
         frame: a,
         height,
     }
@@ -199,23 +189,20 @@ pub fn ret(
     ensures { (cap : ℕ) → ActsOn cap r result p.old t.old f.now p.new t.new f.now (exec_in (read file.now) cap Ret) }
 {
     let frame = r.frame;
-    let found = view::function(file, c, wide(f[frame]));
-    let FoundFunction::Record(g) = found else {
-        return Progress::Stops(FUNCTION_TOPOFCALLSTACK);
+    let Some(g) = view::function(file, c, usize::from(f[frame])) else {
+        return Progress::Stops(Exception::FunctionTopOfCallStack);
     };
-    let base = wide(f[frame + 2]);
+    let base = usize::from(f[frame + 2]);
     if g.result == 0 {
         return leave(r, base, f);
     }
     let h = r.height;
     if h < r.floor + 1 {
-        return Progress::Stops(STACK_EMPTY);
+        return Progress::Stops(Exception::StackEmpty);
     }
     let v = state::slot_at(p, t, h - 1);
-    if v.kind != g.result {
-        if v.kind != kind_of(g.result) {
-            return Progress::Stops(STACK_DIFFERENTTYPE);
-        }
+    if v.kind != g.result && v.kind != kind_of(g.result) {
+        return Progress::Stops(Exception::StackDifferentType);
     }
     state::put_slot(p, t, base, v);
     leave(r, base + 1, f)

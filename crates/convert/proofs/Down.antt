@@ -2,18 +2,24 @@
 use Prim.Native.Nat.{ℕ, zero, suc, ◌+◌, ◌*◌, ◌/◌, ◌%◌, ◌<◌}
 use native.Mathlib.Omega.{arith}
 use mathlib.Core.Path.{◌≡◌, refl, sym, ap, ap₂, ◌∙◌}
-use mathlib.Core.Bool.{Bool, true, false, ◌||◌}
+use Rattle.std.specs.Prelude.{Ok, Err}
+use Rattle.std.specs.declared.result.Result.{Result}
+use Rattle.std.specs.Result.{is_ok}
+use Rattle.rules.specs.declared.Refusal.{Refusal}
+use Rattle.rules.specs.Results.{refusal_number, refused}
+use Rattle.reader.proofs.Opening.{refusal_some}
+use mathlib.Core.Bool.{true≢false, Bool, true, false, ◌||◌}
 use mathlib.Core.List.{List, [], ◌∷◌}
 use lib.Dec.{eqb, ltb}
 use lib.ListN.{length}
 use Rattle.rules.specs.Bytes.{word, some_below}
 use Rattle.rules.specs.Tables.{Tables, tables, constant_count, function_count, function_at, label_count, structure_count, bad_constants, bad_structures, due, first_of, content_tests}
-use Rattle.rules.specs.ModuleFile.{edition, functions, constants_in, functions_in, labels_in, code_in, structures_in, entry_length, short, other_edition, other_total, over_limit, not_packed, refusal, tables_in}
+use Rattle.rules.specs.ModuleFile.{edition, constants_in, functions_in, labels_in, code_in, structures_in, entry_length, short, other_edition, other_total, over_limit, not_packed, refusal, tables_in}
 use Rattle.rules.specs.Writing.{too_many, broken, table_refusal}
 use Rattle.rules.specs.Converting.{to_third, third, lowered, refusal_in, profiled, new_type, new_opcode, not_in_third, down_refusal}
 use Rattle.format.specs.declared.Sections.{Sections}
 use Rattle.format.specs.Layout.{header_tests, Packed}
-use Rattle.soundness.specs.Tests.{decide, false_true, eqb_is, eqb_isnt, ltb_yes, ltb_no}
+use Rattle.soundness.specs.Tests.{decide, false_true, eqb_is, ltb_yes, ltb_no}
 use Rattle.soundness.specs.Readable.{AllFalse, none_first, none_below, same_numbers, GoodTables, good_tables}
 use Rattle.editions.specs.Paired.{Paired, lowered_pair, pair_counts}
 use Rattle.editions.specs.Alike.{Known, same_due, fourth_of, Signed}
@@ -198,10 +204,12 @@ not_down s c h = record { allowed = λ y. false_true y; bare = λ y. false_true 
 
 pub goes_down : (s : List ℕ) (c : Sections) → Headed s c → c.structures ≡ 0 → (p : Bool)
     → p ≡ some_below (function_count 4 (functions_in s)) (profiled (functions_in s)) → p ≡ false
-    → (n : ℕ) → n ≡ first_of 6 (content_tests (to_third (tables_in s))) → GoesDown s c (eqb n 0)
-goes_down s c headed bare p is plain n e =
+    → {T : Type 0} (r : Result T Refusal) → refused r ≡ first_of 6 (content_tests (to_third (tables_in s))) → (b : Bool) → b ≡ is_ok r → GoesDown s c b
+goes_down s c headed bare p is plain (Ok x) e b q =
+    record { allowed = λ y. may_go_down s c headed bare (sym is ∙ plain) (sym e); bare = λ y. bare; newer = λ y r. absurd (true≢false (sym q ∙ y)) }
+goes_down s c headed bare p is plain (Err f) e b q =
     record {
-      allowed = λ y. may_go_down s c headed bare (sym is ∙ plain) (sym e ∙ eqb_is n 0 y);
+      allowed = λ y. absurd (true≢false (sym y ∙ q));
       bare = λ y. bare;
-      newer = λ y r. refused_newer s n e (eqb_isnt n 0 y) r;
+      newer = λ y r. refused_newer s (refusal_number f) e (refusal_some f) r;
     }

@@ -7,10 +7,10 @@ use mathlib.Core.List.{List, [], ◌++◌, append_assoc, append-nil}
 use lib.ListN.{length, take, drop, length-append}
 use lib.Seq.{take_at, take-add, drop-drop}
 use borrow.Rule.Slice.PartMut.{put_mid}
-use Rattle.rules.specs.declared.WriteAnswer.TheVariants.{Unwritten, Written}
+use Rattle.rules.specs.AnswerTypes.{Unwritten, Written}
 use Rattle.rules.specs.Bytes.{cut, words, some_below}
 use Rattle.rules.specs.Tables.{Tables, tables, header_size, function_size, function_count, structure_count}
-use Rattle.rules.specs.ModuleFile.{edition, constants, functions, labels, code_length, structures, constants_at, functions_at, labels_at, code_at, constants_in, functions_in, labels_in, code_in, entry_length, tables_in}
+use Rattle.rules.specs.ModuleFile.{edition, constants, functions, labels, code_length, constants_at, functions_at, labels_at, code_at, constants_in, functions_in, labels_in, code_in, entry_length, tables_in}
 use Rattle.rules.specs.Writing.{header_words, header_of, file_length, file_of, table_refusal, wrote, write}
 use Rattle.rules.specs.Converting.{to_fourth, to_third, fourth, third, raised, lowered, profiled, refusal_in, down_refusal, to_edition4, to_edition3}
 use Rattle.format.specs.declared.Sections.{Sections}

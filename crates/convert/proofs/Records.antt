@@ -1,15 +1,14 @@
 -- Bytes put by numbers, and function records of the other edition, one by one, behind those that stand there.
-use Prim.Native.Nat.{ℕ, zero, suc, ◌+◌, ◌-◌, ◌*◌, ◌≤◌, ◌<◌}
+use Prim.Native.Nat.{ℕ, zero, suc, ◌+◌, ◌-◌, ◌*◌, ◌≤◌}
 use native.Mathlib.Numerals.{add-one}
 use native.Mathlib.Omega.{arith}
 use mathlib.Core.Path.{◌≡◌, refl, sym, ap, ◌∙◌}
 use mathlib.Core.List.{List, ◌++◌, append_assoc, append-nil}
-use lib.ListN.{length, get_or, take, drop, length-append, length-drop, take-append-drop, drop_of_length-le}
-use lib.Seq.{take_at, take_all, take-append-le, drop_at, drop-drop, take-add, take-take, length-take-le}
-use Rattle.rules.specs.Bytes.{bytes, word, cut, written, zeros}
+use lib.ListN.{length, take, drop, length-append, length-drop, drop_of_length-le}
+use lib.Seq.{take_at, drop_at, drop-drop}
+use Rattle.rules.specs.Bytes.{bytes, cut, written, zeros}
 use Rattle.rules.specs.Converting.{raised, lowered}
 use Rattle.soundness.specs.Cutting.{length_cut}
-use Rattle.memory.proofs.Copies.{word_bytes}
 use Rattle.convert.specs.Rows.{record_put}
 
 -- P stands at the front of what was `out`: m bytes more behind it
@@ -27,67 +26,6 @@ kept o P out a q h l = let x : length (drop a out) ≡ length out - a = length-d
 word_behind : (o P out : List ℕ) (a m v : ℕ) (new : List ℕ) → o ≡ P ++ drop a out → length P ≡ a → bytes m v ≡ new → written m o a v ≡ (P ++ new) ++ drop (a + m) out
 unfolding written
 word_behind o P out a m v new q h e = ap (λ (x : List ℕ). take a o ++ (x ++ drop (a + m) o)) e ∙ behind o P new out a m q h
-
--- ---- a copy by numbers of eight bytes
-
-module _ (s d : List ℕ) (small : (i : ℕ) → get_or s i 0 < 256) where
-  pub copy_none : d ≡ take 0 s ++ drop 0 d
-  copy_none = refl
-
-  pub copy_more : (o : List ℕ) (i : ℕ) → o ≡ take i s ++ drop i d → i + 8 ≤ length s → length d ≡ length s → (v : ℕ) → v ≡ word 8 s i → (o' : List ℕ) → o' ≡ written 8 o i v
-      → (o' ≡ take (i + 8) s ++ drop (i + 8) d) × (length o' ≡ length d)
-  copy_more o i q l e v w o' r =
-      let t : length (take i s) ≡ i = length-take-le i s (omega arith) in
-      let g : o' ≡ take (i + 8) s ++ drop (i + 8) d =
-      r ∙ word_behind o (take i s) d i 8 v (take 8 (drop i s)) q t (ap (bytes 8) w ∙ word_bytes s small 8 i l)
-      ∙ ap (λ (x : List ℕ). x ++ drop (i + 8) d) (sym (take-add i 8 s)) in
-      (g, kept o' (take (i + 8) s) d (i + 8) g (length-take-le (i + 8) s (omega arith)) (omega arith))
-
-  -- the last eight, from a place that is reached
-  pub copy_last : (o : List ℕ) (i : ℕ) → o ≡ take i s ++ drop i d → 8 ≤ length s → length s - 8 ≤ i → i ≤ length s → length d ≡ length s → (v : ℕ) → v ≡ word 8 s (length s - 8)
-      → (o' : List ℕ) → o' ≡ written 8 o (length s - 8) v → o' ≡ s
-  unfolding written
-  copy_last o i q l h u e v w o' r =
-      let a : ℕ = length s - 8 in
-      let n : a + 8 ≡ length s = omega arith in
-      let t : length (take i s) ≡ i = length-take-le i s u in
-      let len : length o ≡ length s = kept o (take i s) d i q t (omega arith) ∙ e in
-      let front : take a o ≡ take a s = ap (take a) q ∙ take-append-le a (take i s) (drop i d) (omega arith) ∙ take-take a i s h in
-      let none : length o ≤ a + 8 = omega arith in
-      let all : length s ≤ a + 8 = omega arith in
-      let b : bytes 8 v ≡ take 8 (drop a s) = ap (bytes 8) w ∙ word_bytes s small 8 a (omega arith) in
-      r ∙ ap (λ (x : List ℕ). x ++ (bytes 8 v ++ drop (a + 8) o)) front ∙ ap (λ (x : List ℕ). take a s ++ (x ++ drop (a + 8) o)) b
-      ∙ ap (λ (x : List ℕ). take a s ++ (take 8 (drop a s) ++ x)) (drop_of_length-le o none)
-      ∙ ap (λ (x : List ℕ). take a s ++ x) (append-nil (take 8 (drop a s))) ∙ sym (take-add a 8 s) ∙ take_all (a + 8) s all
-
--- ---- a record
-
-module _ (o fs : List ℕ) (a b : ℕ) (small : (i : ℕ) → get_or fs i 0 < 256) (room : a + 20 ≤ length o) (fits : b + 20 ≤ length fs) where
-  pub record_put_lem : (u v w : ℕ) → u ≡ word 8 fs b → v ≡ word 8 fs (b + 8) → w ≡ word 4 fs (b + 16) → (o₁ o₂ o₃ : List ℕ) → o₁ ≡ written 8 o a u → o₂ ≡ written 8 o₁ (a + 8) v
-      → o₃ ≡ written 4 o₂ (a + 16) w → o₃ ≡ record_put o a fs b
-  record_put_lem u v w eu ev ew o₁ o₂ o₃ r₁ r₂ r₃ =
-      let P : List ℕ = take a o in
-      let x : List ℕ = take 8 (drop b fs) in
-      let y : List ℕ = take 8 (drop (b + 8) fs) in
-      let z : List ℕ = take 4 (drop (b + 16) fs) in
-      let lx : length x ≡ 8 = length_cut fs b 8 (omega arith) in
-      let ly : length y ≡ 8 = length_cut fs (b + 8) 8 (omega arith) in
-      let p : length P ≡ a = length-take-le a o (omega arith) in
-      let k₁ : a + 8 + 8 ≡ a + 16 = omega arith in
-      let k₂ : a + 16 + 4 ≡ a + 20 = omega arith in
-      let e₁ : o₁ ≡ (P ++ x) ++ drop (a + 8) o = r₁ ∙ word_behind o P o a 8 u x (sym (take-append-drop a o)) p (ap (bytes 8) eu ∙ word_bytes fs small 8 b (omega arith)) in
-      let e₂ : o₂ ≡ ((P ++ x) ++ y) ++ drop (a + 16) o =
-      r₂ ∙ word_behind o₁ (P ++ x) o (a + 8) 8 v y e₁ (simp length-append (omega arith)) (ap (bytes 8) ev ∙ word_bytes fs small 8 (b + 8) (omega arith))
-      ∙ ap (λ (n : ℕ). ((P ++ x) ++ y) ++ drop n o) k₁ in
-      let e₃ : o₃ ≡ (((P ++ x) ++ y) ++ z) ++ drop (a + 20) o =
-      r₃ ∙ word_behind o₂ ((P ++ x) ++ y) o (a + 16) 4 w z e₂ (simp length-append (omega arith)) (ap (bytes 4) ew ∙ word_bytes fs small 4 (b + 16) (omega arith))
-      ∙ ap (λ (n : ℕ). (((P ++ x) ++ y) ++ z) ++ drop n o) k₂ in
-      let whole : x ++ (y ++ z) ≡ cut fs b 20 =
-      sym (take-add 8 12 (drop b fs) ∙ ap (λ (l : List ℕ). x ++ l) (ap (take 12) (drop-drop 8 b fs) ∙ take-add 8 4 (drop (b + 8) fs) ∙ ap (λ (l : List ℕ). y ++ take 4 l) (drop-drop 8 (b + 8) fs ∙ ap (λ (n : ℕ). drop n fs) (sixteen b)))) in
-      e₃ ∙ simp append_assoc (ap (λ (l : List ℕ). P ++ l) (sym (append_assoc x (y ++ z) (drop (a + 20) o) ∙ ap (λ (l : List ℕ). x ++ l) (append_assoc y z (drop (a + 20) o))) ∙ ap (λ (l : List ℕ). l ++ drop (a + 20) o) whole))
-    where
-      sixteen : (b : ℕ) → b + 8 + 8 ≡ b + 16
-      sixteen b = omega arith
 
 -- ---- records of edition 4
 

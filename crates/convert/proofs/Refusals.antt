@@ -6,15 +6,17 @@ use mathlib.Core.Bool.{Bool, true, false, ◌&&◌}
 use mathlib.Core.List.{List, ◌∷◌}
 use lib.Dec.{eqb, ltb}
 use lib.ListN.{length}
-use Rattle.rules.specs.declared.WriteAnswer.TheVariants.{Unwritten}
+use Rattle.rules.specs.AnswerTypes.{Unwritten}
 use Rattle.rules.specs.Tables.{header_size, differs, unknown_edition, first_of, content_tests}
 use Rattle.rules.specs.ModuleFile.{edition, short, other_edition, other_total, over_limit, not_packed, refusal, tables_in}
 use Rattle.rules.specs.Writing.{wrote, write_with}
 use Rattle.rules.specs.Converting.{fourth, third, refusal_in, not_in_third, down_refusal_with, down_refusal, to_edition4, to_edition3}
-use Rattle.format.specs.Layout.{sections_of, header_tests}
+use Rattle.format.specs.Layout.{header_tests}
 use Rattle.format.proofs.Rows.{first_hit}
-use Rattle.reader.specs.declared.Opened.TheVariants.{Refused}
-use Rattle.reader.specs.Answers.{answer, opened_of}
+use Rattle.rules.specs.declared.Refusal.{Refusal}
+use Rattle.rules.specs.Results.{refusal_number}
+use Rattle.reader.proofs.Opening.{refusal_some}
+use Rattle.writer.proofs.Laws.{refused_with}
 use Rattle.soundness.specs.Tests.{decide, eqb_is, eqb_same, eqb_other, ltb_is, ltb_isnt, ltb_yes, ltb_no, and_both}
 use Rattle.convert.specs.Rows.{FirstRows}
 
@@ -53,23 +55,15 @@ same_refusal e s k q =
     ap (λ (b : Bool). first_of 1 (short s ∷ b ∷ other_total s ∷ over_limit s ∷ not_packed s ∷ content_tests (tables_in s))) (d ∙ sym o)
 
 -- by one of rows 1 to 5
-pub early_refusal : (s : List ℕ) (n : ℕ) → n ≡ first_of 1 (header_tests s) → (n ≡ 0 → ⊥) → n ≡ refusal s
+pub early_refusal : (s : List ℕ) (e : Refusal) → refusal_number e ≡ first_of 1 (header_tests s) → refusal_number e ≡ refusal s
 unfolding refusal
-early_refusal s n e h = e ∙ sym (first_hit 0 (header_tests s) (content_tests (tables_in s)) (λ z. h (e ∙ z)))
-
--- a refusal of an opened file has a number
-pub refused_number : (s : List ℕ) (n : ℕ) → Refused n ≡ opened_of s → n ≡ 0 → ⊥
-refused_number s n opened z = go (refusal s) opened
-  where
-    go : (k : ℕ) → Refused n ≡ answer k (sections_of s) → ⊥
-    go zero g = let y : ◌≡◌ {A = ℕ} 0 1 = cc in absurd (omega arith)
-    go (suc k) g = let y : n ≡ suc k = cc in absurd (omega arith)
+early_refusal s e q = q ∙ sym (first_hit 0 (header_tests s) (content_tests (tables_in s)) (λ z. refusal_some e (q ∙ z)))
 
 -- ---- numbers of the way down
 
-pub down_early : (s : List ℕ) (n : ℕ) → n ≡ refusal_in 4 s → (n ≡ 0 → ⊥) → n ≡ down_refusal s
+pub down_early : (s : List ℕ) (e : Refusal) → refusal_number e ≡ refusal_in 4 s → refusal_number e ≡ down_refusal s
 unfolding down_refusal
-down_early s n e h = go n h ∙ ap (down_refusal_with s) e
+down_early s e q = go (refusal_number e) (refusal_some e) ∙ ap (down_refusal_with s) q
   where
     go : (n : ℕ) → (n ≡ 0 → ⊥) → n ≡ down_refusal_with s n
     go zero h = absurd (h refl)
@@ -85,14 +79,11 @@ down_allowed s e h = rw (e, h) refl
 
 -- ---- answers
 
-with_number : (n : ℕ) (file out : List ℕ) → (n ≡ 0 → ⊥) → wrote (Unwritten n) out ≡ write_with n file out
-with_number zero file out h = absurd (h refl)
-with_number (suc n) file out h = refl
+module _ (s out : List ℕ) (e : Refusal) where
+  pub refused_up : refusal_number e ≡ refusal_in 3 s → wrote (Unwritten (refusal_number e)) out ≡ to_edition4 s out
+  unfolding to_edition4
+  refused_up q = refused_with e (fourth s) out ∙ ap (λ (k : ℕ). write_with k (fourth s) out) q
 
-pub refused_up : (s out : List ℕ) (n : ℕ) → n ≡ refusal_in 3 s → (n ≡ 0 → ⊥) → wrote (Unwritten n) out ≡ to_edition4 s out
-unfolding to_edition4
-refused_up s out n e h = with_number n (fourth s) out h ∙ ap (λ (k : ℕ). write_with k (fourth s) out) e
-
-pub refused_down : (s out : List ℕ) (n : ℕ) → n ≡ down_refusal s → (n ≡ 0 → ⊥) → wrote (Unwritten n) out ≡ to_edition3 s out
-unfolding to_edition3
-refused_down s out n e h = with_number n (third s) out h ∙ ap (λ (k : ℕ). write_with k (third s) out) e
+  pub refused_down : refusal_number e ≡ down_refusal s → wrote (Unwritten (refusal_number e)) out ≡ to_edition3 s out
+  unfolding to_edition3
+  refused_down q = refused_with e (third s) out ∙ ap (λ (k : ℕ). write_with k (third s) out) q

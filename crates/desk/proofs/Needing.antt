@@ -6,10 +6,10 @@ use mathlib.Core.Option.{Option, none, some}
 use mathlib.Core.List.{List, [], ◌∷◌, ◌++◌}
 use lib.Dec.{ltb}
 use lib.ListN.{length, take, set, length-replicate}
-use Rattle.rules.specs.declared.CheckAnswer.{CheckAnswer}
-use Rattle.rules.specs.declared.CheckAnswer.TheVariants.{Refused, Untyped, Accepted}
-use Rattle.rules.specs.declared.NeedAnswer.{NeedAnswer}
-use Rattle.rules.specs.declared.NeedAnswer.TheVariants.{Unreported, ReportUntyped, ReportLoops, Reported}
+use Rattle.rules.specs.AnswerTypes.{CheckAnswer}
+use Rattle.rules.specs.AnswerTypes.{Refused, Untyped, Accepted}
+use Rattle.rules.specs.AnswerTypes.{NeedAnswer}
+use Rattle.rules.specs.AnswerTypes.{Unreported, ReportUntyped, ReportLoops, Reported}
 use Rattle.rules.specs.Bytes.{word, zeros}
 use Rattle.rules.specs.Tables.{Body}
 use Rattle.rules.specs.ModuleFile.{functions, read}
@@ -20,9 +20,13 @@ use Rattle.rules.specs.Reporting.{need_number, first_looping, Reporting, reporti
 use Rattle.soundness.specs.Tests.{decide, ltb_isnt}
 use Rattle.desk.specs.declared.checks.Said.{Said}
 use Rattle.desk.specs.Text.{Adds, Fills}
-use Rattle.desk.specs.Needs.{entry_line, function_lines, need_lines, need_text, report_of, ReportsNeed}
+use Rattle.desk.specs.Checks.{text_said}
+use Rattle.desk.specs.Needs.{number_said, entry_line, function_lines, need_lines, need_text, report_of, ReportsNeed}
 use Rattle.desk.proofs.Texts.{then, adds_none}
-use Rattle.desk.proofs.Checking.{said}
+use Rattle.std.specs.Prelude.{Ok, Err}
+use Rattle.std.specs.declared.result.Result.{Result}
+use Rattle.rules.specs.Results.{need_answer}
+use Rattle.rules.specs.declared.NeedError.{NeedError}
 
 -- ---- the entry's line
 
@@ -95,27 +99,22 @@ lengthy s room report = go (check s room).answer
     go (Untyped b) = tt
     go Accepted = on (first_looping (read s) (functions s) (bodies (functions s)))
 
-module _ (s room' report' out' : List ℕ) (a : NeedAnswer) (q : reporting a room' report' ≡ report_of s) where
-  answered : (b : NeedAnswer) → a ≡ b → (x : Said) → x.number ≡ need_number b → Fills (need_text b report') out' x.text → ReportsNeed s x out'
+module _ (s room' report' out' : List ℕ) (a : Result ℕ NeedError) (q : reporting (need_answer a) room' report' ≡ report_of s) where
+  answered : (b : Result ℕ NeedError) → a ≡ b → (x : Result ℕ (Said NeedError)) → number_said x ≡ need_number (need_answer b) → Fills (need_text (need_answer b) report') out' (text_said x)
+      → ReportsNeed s x out'
   answered b e x n f =
-      let w : b ≡ (report_of s).answer = sym e ∙ ap (λ (z : Reporting). z.answer) q in
+      let w : need_answer b ≡ (report_of s).answer = sym (ap need_answer e) ∙ ap (λ (z : Reporting). z.answer) q in
       let v : report' ≡ (report_of s).report = ap (λ (z : Reporting). z.report) q in
       record {
         number_is = n ∙ ap need_number w;
-        lines = subst (λ z. Fills (need_text (report_of s).answer z) out' x.text) v (subst (λ z. Fills (need_text z report') out' x.text) w f);
+        lines = subst (λ z. Fills (need_text (report_of s).answer z) out' (text_said x)) v (subst (λ z. Fills (need_text z report') out' (text_said x)) w f);
       }
 
-  pub unreported : (n k : ℕ) → a ≡ Unreported n → Fills (refused_line n) out' k → ReportsNeed s (said n k) out'
-  unreported n k e f = answered (Unreported n) e (said n k) refl f
+  pub unreported : (e : NeedError) (x : Said NeedError) → a ≡ Err e → x.error ≡ e → Fills (need_text (need_answer (Err e)) report') out' x.text → ReportsNeed s (Err x) out'
+  unreported e x w m f = answered (Err e) w (Err x) (ap (λ (z : NeedError). need_number (need_answer (Err z))) m) f
 
-  pub without_typing : (b k : ℕ) → a ≡ ReportUntyped b → Fills (line2 11 b) out' k → ReportsNeed s (said 11 k) out'
-  without_typing b k e f = answered (ReportUntyped b) e (said 11 k) refl f
-
-  pub calls_back : (b k : ℕ) → a ≡ ReportLoops b → Fills (line2 47 b) out' k → ReportsNeed s (said 47 k) out'
-  calls_back b k e f = answered (ReportLoops b) e (said 47 k) refl f
-
-  pub reported : (n k : ℕ) → a ≡ Reported n → Fills (need_lines report' (n / 8 - 1)) out' k → ReportsNeed s (said 0 k) out'
-  reported n k e f = answered (Reported n) e (said 0 k) refl f
+  pub reported : (n k : ℕ) → a ≡ Ok n → Fills (need_lines report' (n / 8 - 1)) out' k → ReportsNeed s (Ok k) out'
+  reported n k e f = answered (Ok n) e (Ok k) refl f
 
 -- the length that is answered: eight bytes a body, of at most 129
 pub length_is : (s room' report' : List ℕ) (n : ℕ) → reporting (Reported n) room' report' ≡ report_of s → (8 ≤ n) × (n ≤ 1032) × (8 * suc (n / 8 - 1) ≤ 1032) × (n / 8 - 1 ≤ 128)

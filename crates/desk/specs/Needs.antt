@@ -1,12 +1,16 @@
 -- What the report of the stack that a module needs promises.
-use Rattle.std.specs.Prelude.{ℕ, zero, suc, ◌+◌, ◌-◌, ◌*◌, ◌/◌, ◌≡◌, List, [], ◌∷◌, ◌++◌}
-use Rattle.rules.specs.declared.NeedAnswer.{NeedAnswer}
-use Rattle.rules.specs.declared.NeedAnswer.TheVariants.{Unreported, ReportUntyped, ReportLoops, Reported}
+use Rattle.std.specs.Prelude.{ℕ, zero, suc, ◌+◌, ◌-◌, ◌*◌, ◌/◌, ◌≡◌, List, [], ◌∷◌, ◌++◌, Ok, Err}
+use Rattle.std.specs.declared.result.Result.{Result}
+use Rattle.rules.specs.Results.{need_answer}
+use Rattle.rules.specs.declared.NeedError.{NeedError}
+use Rattle.rules.specs.AnswerTypes.{NeedAnswer}
+use Rattle.rules.specs.AnswerTypes.{Unreported, ReportUntyped, ReportLoops, Reported}
 use Rattle.rules.specs.Bytes.{word, zeros}
 use Rattle.rules.specs.Program.{line2, line3, refused_line}
 use Rattle.rules.specs.Reporting.{need_number, Reporting, report_needs}
 use Rattle.desk.specs.declared.checks.Said.{Said}
 use Rattle.desk.specs.Text.{Fills}
+use Rattle.desk.specs.Checks.{text_said}
 
 -- "entry ", need and frames
 abbrev pub entry_line : ℕ → ℕ → List ℕ
@@ -32,7 +36,12 @@ need_text (Reported n) r = need_lines r (n / 8 - 1)
 abbrev pub report_of : List ℕ → Reporting
 report_of s = report_needs s (zeros 16384) (zeros 1032)
 
+-- the number of what is said, 0 for a report
+abbrev pub number_said : Result ℕ (Said NeedError) → ℕ
+number_said (Ok k) = 0
+number_said (Err x) = need_number (need_answer (Err x.error))
+
 -- the number, and its lines in the buffer
-pub record ReportsNeed (s : List ℕ) (said : Said) (out : List ℕ) : Type 0 where
-  pub number_is : said.number ≡ need_number (report_of s).answer
-  pub lines : Fills (need_text (report_of s).answer (report_of s).report) out said.text
+pub record ReportsNeed (s : List ℕ) (said : Result ℕ (Said NeedError)) (out : List ℕ) : Type 0 where
+  pub number_is : number_said said ≡ need_number (report_of s).answer
+  pub lines : Fills (need_text (report_of s).answer (report_of s).report) out (text_said said)

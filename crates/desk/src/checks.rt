@@ -1,89 +1,62 @@
 // What the program says of checks that keep a record, in a lent buffer.
-ghost use Rattle.std.specs.Prelude.{◌≤◌, length};
-ghost use Rattle.rules.specs.Program as Program;
+ghost use Rattle.std.specs.Prelude.{◌≡◌, ◌≤◌, length};
 ghost use Rattle.desk.specs.Text.{Fills};
-ghost use Rattle.desk.specs.Checks.{ReportsRecording, ReportsBody};
+ghost use Rattle.desk.specs.Checks.{error_line, ReportsRecording, ReportsBody};
 
 use crate::{reports, text};
-use rules::{CheckAnswer, RecordingAnswer};
+use rules::CheckError;
 
-const NO_TYPING: u32 = 11;
+// The number that is printed where the error names a body.
+const NO_TYPING: u64 = 11;
 
-// An answer's number, and how many bytes of the buffer its line has.
-#[derive(Clone, Copy)]
-pub struct Said {
-    pub number: u32,
+// Why a check does not accept, and how many bytes of the buffer the line that says so has.
+#[derive(Clone, Copy, Debug)]
+pub struct Said<E> {
+    pub error: E,
     pub text: usize,
 }
 
-// 11 and the body without typing on a line.
-fn untyped_text(body: u32, out: &mut [u8]) -> usize
+// The line of a check that does not accept: a refusal's number, or 11 and the body without typing.
+fn error_text(error: CheckError, out: &mut [u8]) -> Said<CheckError>
     requires { 42 ≤ length out.old }
-    ensures { Fills (Program.line2 11 body) out.new result }
+    ensures { (result.error ≡ error) × Fills (error_line error) out.new result.text }
 {
-    text::put_line2(NO_TYPING as u64, body as u64, out, 0)
+    let text = match error {
+        CheckError::Refused(refusal) => reports::refusal_text(refusal, out),
+        CheckError::Untyped(b) => text::put_line2(NO_TYPING, b as u64, out, 0),
+    };
+    Said { error, text }
 }
 
 // The full check in enough room, with the record in `beside`.
-pub fn recording_report(file: &[u8], beside: &mut [u8], out: &mut [u8]) -> Said
+pub fn recording_report(
+    file: &[u8],
+    beside: &mut [u8],
+    out: &mut [u8],
+) -> Result<usize, Said<CheckError>>
     requires { 42 ≤ length out.old }
     ensures { ReportsRecording file.now beside.old result beside.new out.new }
 {
     let mut room = [0u8; 16384];
-    let answer = rechecking::check_recording(file, &mut room, beside);
-    match answer {
-        RecordingAnswer::Unrecorded(n) => {
-            let text = reports::number_text(n as u64, out);
-            Said {
-                number: n,
-                text: text,
-            }
-        }
-        RecordingAnswer::RecordedUntyped(b) => {
-            let text = untyped_text(b, out);
-            Said {
-                number: NO_TYPING,
-                text: text,
-            }
-        }
-        RecordingAnswer::Recorded(_n) => {
-            let text = reports::number_text(0, out);
-            Said {
-                number: 0,
-                text: text,
-            }
-        }
+    match rechecking::check_recording(file, &mut room, beside) {
+        Ok(_) => Ok(reports::number_text(0, out)),
+        Err(error) => Err(error_text(error, out)),
     }
 }
 
 // The check of one body beside a record.
-pub fn body_report(file: &[u8], body: u32, beside: &mut [u8], out: &mut [u8]) -> Said
+pub fn body_report(
+    file: &[u8],
+    body: u32,
+    beside: &mut [u8],
+    out: &mut [u8],
+) -> Result<usize, Said<CheckError>>
     requires { 42 ≤ length out.old }
     ensures { ReportsBody file.now body beside.old result beside.new out.new }
 {
-    let answer = rechecking::check_body(file, body, beside);
-    match answer {
-        CheckAnswer::Refused(n) => {
-            let text = reports::number_text(n as u64, out);
-            Said {
-                number: n,
-                text: text,
-            }
-        }
-        CheckAnswer::Untyped(b) => {
-            let text = untyped_text(b, out);
-            Said {
-                number: NO_TYPING,
-                text: text,
-            }
-        }
-        CheckAnswer::Accepted => {
-            let text = reports::number_text(0, out);
-            Said {
-                number: 0,
-                text: text,
-            }
-        }
+    match rechecking::check_body(file, body, beside) {
+        Ok(()) => Ok(reports::number_text(0, out)),
+        Err(error) => Err(error_text(error, out)),
     }
 }
 
@@ -93,8 +66,5 @@ pub fn record_length(beside: &[u8]) -> usize
     ensures { result ≤ length beside.now }
 {
     let count = memory::load32(beside, 0) as usize;
-    if beside.len() - 8 < count {
-        return beside.len();
-    }
-    8 + count
+    8 + count.min(beside.len() - 8)
 }

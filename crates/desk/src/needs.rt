@@ -5,11 +5,12 @@ ghost use Rattle.desk.specs.Needs.{entry_line, function_lines, need_lines, Repor
 
 use crate::checks::Said;
 use crate::{reports, text};
-use rules::NeedAnswer;
+use rules::NeedError;
 
-const NO_TYPING: u32 = 11;
+// The numbers that are printed where the error names a body.
+const NO_TYPING: u64 = 11;
 
-const CALLS_LOOP: u32 = 47;
+const CALLS_LOOP: u64 = 47;
 
 // The entry's line.
 fn put_entry(need: u64, frames: u64, out: &mut [u8]) -> usize
@@ -31,12 +32,10 @@ fn put_functions(report: &[u8], n: usize, out: &mut [u8], at: usize) -> usize
     ensures { Adds (63 * n) out.old at (function_lines report.now n) out.new result }
 {
     let mut e = at;
-    let mut k = 0;
-    while k < n {
+    for k in 0..n {
         let need = memory::load32(report, 8 * k + 8);
         let frames = memory::load32(report, 8 * k + 12);
         e = text::put_line3(k as u64, need as u64, frames as u64, out, e);
-        k += 1;
     }
     e
 }
@@ -53,42 +52,37 @@ fn needs_text(report: &[u8], n: usize, out: &mut [u8]) -> usize
 }
 
 // The report of the stack that a module needs, in enough room: a line for each body, or the refusal's.
-pub fn need_report(file: &[u8], out: &mut [u8]) -> Said
+pub fn need_report(file: &[u8], out: &mut [u8]) -> Result<usize, Said<NeedError>>
     requires { 8112 ≤ length out.old }
     ensures { ReportsNeed file.now result out.new }
 {
     let mut room = [0u8; 16384];
     let mut report = [0u8; 1032];
-    let answer = measuring::need(file, &mut room, &mut report);
-    match answer {
-        NeedAnswer::Unreported(n) => {
-            let text = reports::number_text(n as u64, out);
-            Said {
-                number: n,
-                text: text,
-            }
-        }
-        NeedAnswer::ReportUntyped(b) => {
-            let text = text::put_line2(NO_TYPING as u64, b as u64, out, 0);
-            Said {
-                number: NO_TYPING,
-                text: text,
-            }
-        }
-        NeedAnswer::ReportLoops(b) => {
-            let text = text::put_line2(CALLS_LOOP as u64, b as u64, out, 0);
-            Said {
-                number: CALLS_LOOP,
-                text: text,
-            }
-        }
-        NeedAnswer::Reported(n) => {
+    match measuring::need(file, &mut room, &mut report) {
+        Ok(n) => {
             let functions = (n / 8 - 1) as usize;
-            let text = needs_text(&report, functions, out);
-            Said {
-                number: 0,
-                text: text,
-            }
+            Ok(needs_text(&report, functions, out))
+        }
+        Err(NeedError::Refused(refusal)) => {
+            let text = reports::refusal_text(refusal, out);
+            Err(Said {
+                error: NeedError::Refused(refusal),
+                text,
+            })
+        }
+        Err(NeedError::Untyped(b)) => {
+            let text = text::put_line2(NO_TYPING, b as u64, out, 0);
+            Err(Said {
+                error: NeedError::Untyped(b),
+                text,
+            })
+        }
+        Err(NeedError::Loops(b)) => {
+            let text = text::put_line2(CALLS_LOOP, b as u64, out, 0);
+            Err(Said {
+                error: NeedError::Loops(b),
+                text,
+            })
         }
     }
 }

@@ -2,21 +2,24 @@
 // refusal.
 ghost use Rattle.std.specs.Prelude.{◌≤◌, length, ◌≡◌};
 ghost use Rattle.rules.specs.Host.{height_after};
+ghost use Rattle.rules.specs.Results.{refusal_number, run_answer, write_answer};
 ghost use Rattle.rules.specs.Writing.{wrote};
 ghost use Rattle.rules.specs.Program as Program;
 ghost use Rattle.desk.specs.Text.{Fills, lent_of, tally_lines, accepted_lines};
 ghost use Rattle.desk.specs.Commands.{Refuses, ReportsLine, size_in, convert_to, ReportsConversion};
 
 use crate::text;
-use rules::{CheckAnswer, RunAnswer, Tally, WriteAnswer};
+use rules::{CheckError, Refusal, RunError, Tally};
 
 const ENTRY: u32 = 0xffff_ffff;
 
 const ALLOWANCE: u64 = 1_000_000;
 
+// The number that is printed where the error names a body.
 const NO_TYPING: u64 = 11;
 
-const NOT_IN_GRAMMAR: u64 = 41;
+// The number as the text of a refused line asks for it.
+const NOT_IN_GRAMMAR: u32 = 41;
 
 // A number alone on a line.
 pub(crate) fn number_text(n: u64, out: &mut [u8]) -> usize
@@ -24,6 +27,14 @@ pub(crate) fn number_text(n: u64, out: &mut [u8]) -> usize
     ensures { Fills (Program.refused_line n) out.new result }
 {
     text::put_number(n, b'\n', out, 0)
+}
+
+// A refusal's number, likewise.
+pub(crate) fn refusal_text(refusal: Refusal, out: &mut [u8]) -> usize
+    requires { 21 ≤ length out.old }
+    ensures { Fills (Program.refused_line (refusal_number refusal)) out.new result }
+{
+    number_text(u64::from(u32::from(refusal)), out)
 }
 
 // Outcome, steps and height, then the slots.
@@ -37,14 +48,17 @@ fn tally_text(number: u64, tally: Tally, p: &[u8], t: &[u8], out: &mut [u8]) -> 
 }
 
 // What a run answered.
-fn run_text(answer: RunAnswer, p: &[u8], t: &[u8], out: &mut [u8]) -> usize
-    requires { (32768 ≤ length p.now) × (4096 ≤ length t.now) × (172095 ≤ length out.old) × (height_after answer 0 ≤ 4096) }
-    ensures { Fills (Program.run_lines answer (lent_of p.now t.now)) out.new result }
+fn run_text(answer: Result<Tally, RunError>, p: &[u8], t: &[u8], out: &mut [u8]) -> usize
+    requires { (32768 ≤ length p.now) × (4096 ≤ length t.now) × (172095 ≤ length out.old) × (height_after (run_answer answer) 0 ≤ 4096) }
+    ensures { Fills (Program.run_lines (run_answer answer) (lent_of p.now t.now)) out.new result }
 {
     match answer {
-        RunAnswer::Rejected(n) => number_text(n as u64, out),
-        RunAnswer::Stopped(n, tally) => tally_text(n as u64, tally, p, t, out),
-        RunAnswer::Finished(tally) => tally_text(0, tally, p, t, out),
+        Ok(tally) => tally_text(0, tally, p, t, out),
+        Err(RunError::Rejected(refusal)) => refusal_text(refusal, out),
+        Err(RunError::Stopped(exception, tally)) => {
+            let number = u64::from(u32::from(exception));
+            tally_text(number, tally, p, t, out)
+        }
     }
 }
 
@@ -93,13 +107,10 @@ pub fn run_report(
     ensures { Fills (Program.printed_run file.now function (lent_of arg_payloads.now arg_types.now) profile) out.new result }
 {
     let mut room = [0u8; 16384];
-    let answer = checking::check(file, &mut room);
-    match answer {
-        CheckAnswer::Refused(n) => number_text(n as u64, out),
-        CheckAnswer::Untyped(_body) => number_text(NO_TYPING, out),
-        CheckAnswer::Accepted => {
-            accepted_text(file, function, arg_payloads, arg_types, profile, out)
-        }
+    match checking::check(file, &mut room) {
+        Ok(()) => accepted_text(file, function, arg_payloads, arg_types, profile, out),
+        Err(CheckError::Refused(refusal)) => refusal_text(refusal, out),
+        Err(CheckError::Untyped(_)) => number_text(NO_TYPING, out),
     }
 }
 
@@ -113,40 +124,33 @@ pub fn report(input: &[u8], out: &mut [u8]) -> usize
     run_report(input, ENTRY, none, none, 0, out)
 }
 
-// What a buffer holds: a module, for standard output, or a refusal, for standard error.
-#[derive(Clone, Copy)]
-pub enum Compiled {
-    Module(usize),
-    Refusal(usize),
-}
-
 // The text of a refused formula line.
-fn refusal_text(line: &[u8], number: u64, out: &mut [u8]) -> usize
+fn line_text(line: &[u8], refusal: Refusal, out: &mut [u8]) -> usize
     requires { 42 ≤ length out.old }
-    ensures { Refuses line.now number out.new result }
+    ensures { Refuses line.now (refusal_number refusal) out.new result }
 {
+    let number = u32::from(refusal);
     if number == NOT_IN_GRAMMAR {
         let place = compiling::formula_stop(line);
-        return text::put_line2(number, place as u64, out, 0);
+        return text::put_line2(u64::from(number), place as u64, out, 0);
     }
-    number_text(number, out)
+    number_text(u64::from(number), out)
 }
 
-// The module of a formula line, or its refusal.
-pub fn formula_report(line: &[u8], out: &mut [u8]) -> Compiled
+// The module of a formula line, for standard output, or its refusal, for standard error: how many bytes of the buffer it is.
+pub fn formula_report(line: &[u8], out: &mut [u8]) -> Result<usize, usize>
     requires { 42 ≤ length out.old }
     ensures { ReportsLine line.now out.old result out.new }
 {
-    let answer = compiling::formula(line, out);
-    match answer {
-        WriteAnswer::Unwritten(n) => Compiled::Refusal(refusal_text(line, n as u64, out)),
-        WriteAnswer::Written(n) => Compiled::Module(n as usize),
+    match compiling::formula(line, out) {
+        Ok(n) => Ok(n as usize),
+        Err(refusal) => Err(line_text(line, refusal, out)),
     }
 }
 
 // A file in edition 4, or in edition 3.
-fn convert(up: bool, file: &[u8], out: &mut [u8]) -> WriteAnswer
-    ensures { wrote result out.new ≡ convert_to up file.now out.old }
+fn convert(up: bool, file: &[u8], out: &mut [u8]) -> Result<u64, Refusal>
+    ensures { wrote (write_answer result) out.new ≡ convert_to up file.now out.old }
 {
     if up {
         return converting::to_edition_4(file, out);
@@ -154,14 +158,13 @@ fn convert(up: bool, file: &[u8], out: &mut [u8]) -> WriteAnswer
     converting::to_edition_3(file, out)
 }
 
-// The module in edition 4 or 3, or its refusal.
-pub fn convert_report(up: bool, file: &[u8], out: &mut [u8]) -> Compiled
+// The module in edition 4 or 3, or its refusal, likewise.
+pub fn convert_report(up: bool, file: &[u8], out: &mut [u8]) -> Result<usize, usize>
     requires { 21 ≤ length out.old }
     ensures { ReportsConversion up file.now out.old result out.new × (size_in result ≤ length out.new) }
 {
-    let answer = convert(up, file, out);
-    match answer {
-        WriteAnswer::Unwritten(n) => Compiled::Refusal(number_text(n as u64, out)),
-        WriteAnswer::Written(n) => Compiled::Module(n as usize),
+    match convert(up, file, out) {
+        Ok(n) => Ok(n as usize),
+        Err(refusal) => Err(refusal_text(refusal, out)),
     }
 }

@@ -1,5 +1,5 @@
 -- A double cut toward zero, by the tests that the code makes: each law once over the width n. Assumes nothing.
-use Rattle.std.proofs.Common.{◌≡◌, ℕ, zero, suc, ◌+◌, ◌-◌, ◌*◌, ◌/◌, ◌%◌, ◌^◌, ◌<◌, ◌≤◌, min, Bool, true, false, ◌||◌, T, ltb, leb, ℤ, pos, neg_ℤ, sym, refl, ◌∙◌, subst, le_trans, lt_of_lt_of_le, mod-eq_of_lt, div-lt_iff_lt-mul, le-div_iff_mul-le, mul-one, arith, lit<, lit≤, pow_pos, pow_mono, ltb-false, ltb-true, le-ltb, lt-ltb, le-leb}
+use Rattle.std.proofs.Common.{◌≡◌, ℕ, zero, suc, ◌+◌, ◌-◌, ◌*◌, ◌/◌, ◌%◌, ◌^◌, ◌<◌, ◌≤◌, min, Bool, true, false, T, ltb, leb, ℤ, pos, neg_ℤ, sym, refl, ◌∙◌, subst, le_trans, lt_of_lt_of_le, mod-eq_of_lt, div-lt_iff_lt-mul, le-div_iff_mul-le, mul-one, arith, pow_pos, pow_mono, ltb-false, ltb-true, le-ltb, lt-ltb, le-leb}
 use native.Mathlib.Nat.{sub-zero, mod_self, div-eq_of_lt}
 use lib.Pow.{pow-lt}
 use lib.Ieee.{Float, nan, inf, fin, up, down, lt, neg, to_unsigned}
@@ -7,7 +7,7 @@ use lib.Ieee.Fits.{down_pos}
 use borrow.Author.Tests.{lt-leb}
 use Rattle.rules.specs.Words.{pattern_of, neg_of}
 use Rattle.rules.specs.Doubles.{truncated, in_range, cut_fits, cut_of}
-use Rattle.doubles.specs.Width.{width}
+use Rattle.words.proofs.Laws.{twice}
 
 -- -1 and 2 ^ 64
 abbrev pub lowest : Float
@@ -43,7 +43,7 @@ minus_asks (fin false m k) e f = clash (above m k) e
 
 -- ---- -t: its range and its pattern
 
-half_lt : (n : ℕ) → 0 < n → 2 ^ (n - 1) < 2 ^ n
+pub half_lt : (n : ℕ) → 0 < n → 2 ^ (n - 1) < 2 ^ n
 half_lt n p = pow-lt (let h : n - 1 < n = omega arith in h)
 
 range_minus : (n t : ℕ) → in_range n (neg_ℤ (pos t)) ≡ leb t (2 ^ (n - 1))
@@ -145,21 +145,9 @@ module _ (n t : ℕ) (x : Float) where
     pub minus_over : 2 ^ (n - 1) < t → Gives n x false (2 ^ (n - 1))
     minus_over h = out_of_range n x (minus_whole.1 ∙ range_minus n t ∙ lt-leb t (2 ^ (n - 1)) h)
 
--- ---- both widths
+-- the code's test of a whole number: of its half
+pub under_width : (n t : ℕ) → 0 < n → t / 2 < 2 ^ (n - 1) → t < 2 ^ n
+under_width n t p h = let e = twice n p in omega arith
 
-pub some_bits : (w : Bool) → 0 < width w
-some_bits true = lit< tt
-some_bits false = lit< tt
-
-pub most_bits : (w : Bool) → width w ≤ 64
-most_bits true = lit≤ tt
-most_bits false = lit≤ tt
-
--- the code's test of a whole number below 2 ^ 64
-pub under_width : (w : Bool) (t : ℕ) → t < 2 ^ 64 → (w || ltb t (2 ^ 32)) ≡ true → t < 2 ^ width w
-under_width true t l h = l
-under_width false t l h = ltb-true t (2 ^ 32) h
-
-pub over_width : (w : Bool) (t : ℕ) → (w || ltb t (2 ^ 32)) ≡ false → 2 ^ width w ≤ t
-over_width true t h = clash refl h
-over_width false t h = ltb-false t (2 ^ 32) h
+pub over_width : (n t : ℕ) → 0 < n → 2 ^ (n - 1) ≤ t / 2 → 2 ^ n ≤ t
+over_width n t p h = let e = twice n p in omega arith

@@ -1,11 +1,13 @@
 // Doubles: from patterns and back, their order, and conversions from and to whole numbers.
 #![tactic(auto)]
 
-ghost use Rattle.std.specs.Prelude.{◌≡◌, ◌-◌, ◌^◌, ◌≤◌, not, ◌||◌};
+ghost use Rattle.std.specs.Prelude.{◌≡◌, not, ◌||◌};
 ghost use Rattle.std.specs.Float.Ieee as Ieee;
-ghost use Rattle.rules.specs.Words.{order_of, neg_of};
-ghost use Rattle.rules.specs.Doubles.{decode_of, encode_of, cut_fits, cut_of, tod_of};
-ghost use Rattle.doubles.specs.Width.{width};
+ghost use Rattle.rules.specs.Words.{order_of};
+ghost use Rattle.rules.specs.Doubles.{decode_of, encode_of, tod_of};
+ghost use Rattle.doubles.specs.Truncated.{Truncates};
+
+use words::Word;
 
 // Whether a pattern is a number's, and no NaN's. Doubling drops the sign.
 fn number(p: u64) -> bool
@@ -19,8 +21,7 @@ fn number(p: u64) -> bool
 pub fn decode(p: u64) -> f64
     ensures { result ≡ decode_of p }
 {
-    let n = number(p);
-    if n {
+    if number(p) {
         return f64::from_bits(p);
     }
     0.0 / 0.0
@@ -73,66 +74,26 @@ pub fn tod_long(a: u64) -> f64
     (upper as f64) * 4294967296.0 + (lower as f64)
 }
 
-// A double cut toward zero: whether the whole number is in range, and its pattern, or the one with only the top bit set.
-#[derive(Clone, Copy)]
-pub struct Truncated {
-    pub fits: bool,
-    pub pattern: u64,
-}
-
-// The pattern with only the top bit set, of an int, or of a long where `wide`.
-fn top_bit(wide: bool) -> u64
-    ensures { result ≡ 2 ^ (width wide - 1) }
+// A double cut toward zero, the word of the whole number where it is in range, for `toi` and `tol`. The range is tested on the whole
+// number. A NaN fails every test.
+pub fn truncate<W: Word>(x: f64) -> Option<W>
+    ensures { Truncates W.value W.width x result }
 {
-    if wide {
-        return 0x8000_0000_0000_0000;
-    }
-    0x8000_0000
-}
-
-// The pattern of -t.
-fn minus(wide: bool, t: u64) -> u64
-    requires { t ≤ 2 ^ (width wide - 1) }
-    ensures { result ≡ neg_of (width wide) t }
-{
-    if wide {
-        return words::neg64(t);
-    }
-    words::neg32(t as u32) as u64
-}
-
-// For `toi`, or for `tol` where `wide`. The range is tested on the whole number. A NaN fails every test.
-pub fn truncate(wide: bool, x: f64) -> Truncated
-    ensures { (result.fits ≡ cut_fits (width wide) x) × (result.pattern ≡ cut_of (width wide) x) }
-{
-    let top = top_bit(wide);
     if x > -1.0 {
         if x < 18446744073709551616.0 {
             let t = std::num::truncating_f64_to_u64(x);
-            if wide | (t < 0x1_0000_0000) {
-                return Truncated {
-                    fits: true,
-                    pattern: t,
-                };
+            if t / 2 < W::top() {
+                return Some(W::cut(t));
             }
         }
-        return Truncated {
-            fits: false,
-            pattern: top,
-        };
+        return None;
     }
     let y = -x;
     if y < 18446744073709551616.0 {
         let t = std::num::truncating_f64_to_u64(y);
-        if t <= top {
-            return Truncated {
-                fits: true,
-                pattern: minus(wide, t),
-            };
+        if t <= W::top() {
+            return Some(words::neg(W::cut(t)));
         }
     }
-    Truncated {
-        fits: false,
-        pattern: top,
-    }
+    None
 }

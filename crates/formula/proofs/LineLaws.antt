@@ -12,7 +12,7 @@ use Rattle.soundness.specs.Tests.{ltb_yes, ltb_no, none_some, some_inj}
 use Rattle.soundness.specs.Saves.{length_file}
 use Rattle.rules.specs.Bytes.{written}
 use Rattle.rules.specs.Tables.{Tables, tables}
-use Rattle.rules.specs.declared.WriteAnswer.TheVariants.{Unwritten, Written}
+use Rattle.rules.specs.AnswerTypes.{Unwritten, Written}
 use Rattle.rules.specs.Writing.{wrote, file_length, file_of, delivered}
 use Rattle.rules.specs.Grammar.{Tree, depth}
 use Rattle.rules.specs.Reading.{Part, sum, whole_of, whole, reading, enough}
@@ -20,7 +20,8 @@ use Rattle.rules.specs.Formula.{answer, postfix, assembled, code_bytes, need, fo
 use Rattle.grammar.specs.Scanned.{Stopped, Reads}
 use Rattle.writer.specs.Output.{filled_with}
 use Rattle.formula.specs.Tokens.{Skipped}
-use Rattle.formula.specs.Readers.{Cursor, Bad, Read, Wrote, SumIs, Signed}
+use Rattle.std.specs.Prelude.{Some, None}
+use Rattle.formula.specs.Readers.{Cursor, Wrote, SumIs, Signed}
 use Rattle.formula.specs.Lines.{one_function, Unread, LineIs}
 use Rattle.formula.proofs.ReaderLaws.{assembled_append}
 
@@ -58,19 +59,19 @@ module _ (line code pool : List ℕ) (at : ℕ) (p : Skipped line 0 at) (short :
   summed : (t : Tree) → reading line ≡ some t → sum (enough line) (drop at line) ≡ some (t, [])
   summed t e = whole_some (sum (enough line) (drop at line)) t (sym reading_is ∙ e)
 
-  pub line_bad : (code' pool' code'' pool'' : List ℕ) → SumIs line code pool (begin at) 0 0 code' pool' Bad → LineIs line code'' pool'' Bad
+  pub line_bad : (code' pool' code'' pool'' : List ℕ) → SumIs line code pool (begin at) 0 0 code' pool' None → LineIs line code'' pool'' None
   line_bad code' pool' code'' pool'' y t e = omega (arith, y (enough line) (omega arith) t [] (summed t e))
 
-  module _ (code' pool' : List ℕ) (c : Cursor) (y : SumIs line code pool (begin at) 0 0 code' pool' (Read c)) where
+  module _ (code' pool' : List ℕ) (c : Cursor) (y : SumIs line code pool (begin at) 0 0 code' pool' (Some c)) where
     pub line_room : length code ≡ 771 → c.code < length code'
     line_room l = omega (arith, y.1.code_in, y.1.upto, y.1.code_room)
 
     -- bytes are left
-    pub line_left : (code'' pool'' : List ℕ) → c.at < length line → LineIs line code'' pool'' Bad
+    pub line_left : (code'' pool'' : List ℕ) → c.at < length line → LineIs line code'' pool'' None
     line_left code'' pool'' l t e =
         absurd (some_left c.at line l (ap (λ (x : Tree × List ℕ). x.1) (some_inj (y.0, drop c.at line) (t, []) (sym (y.2 (enough line) (omega arith)) ∙ summed t e))))
 
-    pub line_read : (code'' : List ℕ) (r : Cursor) → length line ≤ c.at → Signed code' c 40 code'' r → LineIs line code'' pool' (Read r)
+    pub line_read : (code'' : List ℕ) (r : Cursor) → length line ≤ c.at → Signed code' c 40 code'' r → LineIs line code'' pool' (Some r)
     line_read code'' r l g =
         let w : Wrote y.0 line code pool (begin at) 0 0 code' pool' c = y.1 in
         let q : code_bytes y.0 ≡ assembled (postfix 0 y.0) ++ (40 ∷ []) = assembled_append (postfix 0 y.0) (answer ∷ []) in (
@@ -136,7 +137,7 @@ module _ (line : List ℕ) (h : length line ≤ 256) where
   unfolding formula
   formula_42 d x y out = rw (fits, x.1, ltb_yes 16 (depth x.0) (y x.0 x.1)) refl
 
-  module _ (out code pool : List ℕ) (c : Cursor) (y : LineIs line code pool (Read c)) where
+  module _ (out code pool : List ℕ) (c : Cursor) (y : LineIs line code pool (Some c)) where
     shallow : ltb 16 (depth y.0) ≡ false
     shallow = ltb_no 16 (depth y.0) y.2
 

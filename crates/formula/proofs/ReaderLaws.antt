@@ -14,8 +14,10 @@ use Rattle.rules.specs.Grammar.{Sign, plus, dash, star, slash, Tree, number, nam
 use Rattle.rules.specs.Reading.{Lead, numeral, letter, sign, opening, closing, lead, Part, onward, closed, factor_of, product_sign, sum_sign, sum, factor}
 use Rattle.rules.specs.Formula.{numbers, Step, negate, operate, postfix, assembled, step_bytes, ints, need, sign_bytes}
 use Rattle.grammar.specs.Steps.{factor_suc, factor_number, factor_name}
-use Rattle.formula.specs.Tokens.{Capped, Leads, AfterMinuses, negatives, Follow, Signs}
-use Rattle.formula.specs.Readers.{Cursor, Answer, Bad, Read, Ready, AfterSign, Wrote, Enough, TooDeep, PartIs, FactorIs, SumIs, bracketed_of, BracketedIs, Signed, Completed, Negated}
+use Rattle.formula.specs.Tokens.{Capped, Leads, AfterMinuses, negatives, SignAt, Signs}
+use Rattle.std.specs.Prelude.{Some, None}
+use Rattle.std.specs.declared.option.Option as found
+use Rattle.formula.specs.Readers.{Cursor, Ready, AfterSign, Wrote, Enough, TooDeep, PartIs, FactorIs, SumIs, bracketed_of, BracketedIs, Signed, Completed, Negated}
 use Rattle.formula.proofs.DepthLaws.{onward_some, closed_group, minuses, depth_minuses, negatives_read, negatives_some}
 
 -- ---- lists
@@ -223,17 +225,17 @@ module _ (s code pool : List ℕ) (c : Cursor) (d h : ℕ) where
 
   -- ---- what the readers give
 
-  pub factor_none : ((m o : List ℕ → Part) → factor_of (lead (drop c.at s)) m o ≡ none) → (code' pool' : List ℕ) → FactorIs s code pool c d h code' pool' Bad
+  pub factor_none : ((m o : List ℕ → Part) → factor_of (lead (drop c.at s)) m o ≡ none) → (code' pool' : List ℕ) → FactorIs s code pool c d h code' pool' None
   factor_none n code' pool' zero z t x e = absurd (omega arith)
   factor_none n code' pool' (suc f) z t x e = none_some (sym (factor_suc f (drop c.at s) ∙ n _ _) ∙ e)
 
-  pub factor_large : (n v : ℕ) (x : List ℕ) → lead (drop c.at s) ≡ numeral n x → Capped v n → 4294967295 < v → (code' pool' : List ℕ) → FactorIs s code pool c d h code' pool' Bad
+  pub factor_large : (n v : ℕ) (x : List ℕ) → lead (drop c.at s) ≡ numeral n x → Capped v n → 4294967295 < v → (code' pool' : List ℕ) → FactorIs s code pool c d h code' pool' None
   factor_large n v x e k l code' pool' =
       let q : leb n 4294967295 ≡ false = sym k.same ∙ decide (leb v 4294967295) (λ z. absurd (omega (arith, leb_is v 4294967295 z))) (λ z. z) in
       factor_none (λ m o. rw (e, q) refl) code' pool'
 
   pub factor_of_number : (n v next : ℕ) → Leads s c.at next (numeral n) → Capped v n → v ≤ 4294967295 → (code' pool' : List ℕ) (r : Cursor) → Wrote (number v) s code pool c d h code' pool' r → r.at ≡ next
-      → FactorIs s code pool c d h code' pool' (Read r)
+      → FactorIs s code pool c d h code' pool' (Some r)
   factor_of_number n v next e k l code' pool' r w q = (number v, w, go)
     where
       go : (f : ℕ) → Enough s c.at 1 f → factor f (drop c.at s) ≡ some (number v, drop r.at s)
@@ -241,7 +243,7 @@ module _ (s code pool : List ℕ) (c : Cursor) (d h : ℕ) where
       go (suc f) z = let y : v ≡ n = k.value l in rw (q, y) (factor_number f (drop c.at s) n (drop next s) e.is (rw y at l))
 
   pub factor_of_name : (i next : ℕ) → Leads s c.at next (letter i) → (code' pool' : List ℕ) (r : Cursor) → Wrote (name i) s code pool c d h code' pool' r → r.at ≡ next
-      → FactorIs s code pool c d h code' pool' (Read r)
+      → FactorIs s code pool c d h code' pool' (Some r)
   factor_of_name i next e code' pool' r w q = (name i, w, go)
     where
       go : (f : ℕ) → Enough s c.at 1 f → factor f (drop c.at s) ≡ some (name i, drop r.at s)
@@ -253,13 +255,13 @@ module _ (s code pool : List ℕ) (c : Cursor) (d h : ℕ) where
   bracketed_suc f next e = factor_suc f (drop c.at s) ∙ rw e.is refl
 
   -- a factor that is an opening bracket and what follows it
-  pub factor_of_bracketed : (next : ℕ) → Leads s c.at next opening → (code' pool' : List ℕ) (a : Answer) → BracketedIs s code pool c next d h code' pool' a → FactorIs s code pool c d h code' pool' a
-  factor_of_bracketed next e code' pool' Bad y = go
+  pub factor_of_bracketed : (next : ℕ) → Leads s c.at next opening → (code' pool' : List ℕ) (a : found.Option Cursor) → BracketedIs s code pool c next d h code' pool' a → FactorIs s code pool c d h code' pool' a
+  factor_of_bracketed next e code' pool' None y = go
     where
       go : (f : ℕ) → Enough s c.at 1 f → TooDeep d (factor f (drop c.at s))
       go zero z t x q = absurd (omega arith)
       go (suc f) z t x q = y f (omega (arith, e.on, e.upto)) t x (sym (bracketed_suc f next e) ∙ q)
-  factor_of_bracketed next e code' pool' (Read r) y = (y.0, y.1, go)
+  factor_of_bracketed next e code' pool' (Some r) y = (y.0, y.1, go)
     where
       go : (f : ℕ) → Enough s c.at 1 f → factor f (drop c.at s) ≡ some (y.0, drop r.at s)
       go zero z = absurd (omega arith)
@@ -270,13 +272,13 @@ module _ (s code pool : List ℕ) (c : Cursor) (d h : ℕ) where
     behind : (f : ℕ) → Enough s c.at 1 f → Enough s next 1 (f - n) × (factor f (drop c.at s) ≡ negatives n (factor (f - n) (drop next s)))
     behind f z = let q : f ≡ n + (f - n) = omega (arith, m.from, m.upto) in (omega (arith, m.from, m.upto), ap (λ (k : ℕ). factor k (drop c.at s)) q ∙ m.is (f - n))
 
-    pub factor_bad : (code' pool' code'' pool'' : List ℕ) → FactorIs s code pool (at_place c next) d h code' pool' Bad → FactorIs s code pool c d h code'' pool'' Bad
+    pub factor_bad : (code' pool' code'' pool'' : List ℕ) → FactorIs s code pool (at_place c next) d h code' pool' None → FactorIs s code pool c d h code'' pool'' None
     factor_bad code' pool' code'' pool'' y f z t x e =
         let b = behind f z in
         let p = negatives_some n (factor (f - n) (drop next s)) t x (sym b.1 ∙ e) in
         omega (arith, y (f - n) b.0 p.0 p.1 p.2, p.3)
 
-    pub factor_read : (code' pool' code'' : List ℕ) (r r' : Cursor) → FactorIs s code pool (at_place c next) d h code' pool' (Read r) → Negated code' r n code'' r' → FactorIs s code pool c d h code'' pool' (Read r')
+    pub factor_read : (code' pool' code'' : List ℕ) (r r' : Cursor) → FactorIs s code pool (at_place c next) d h code' pool' (Some r) → Negated code' r n code'' r' → FactorIs s code pool c d h code'' pool' (Some r')
     factor_read code' pool' code'' r r' y g = (
       minuses n y.0,
       negated_wrote y.0 n next code' pool' code'' r r' m.from y.1 g,
@@ -284,14 +286,14 @@ module _ (s code pool : List ℕ) (c : Cursor) (d h : ℕ) where
     )
 
   -- what follows an opening bracket is one deeper
-  pub bracketed_deep : (next : ℕ) (code' pool' : List ℕ) → 16 ≤ d → BracketedIs s code pool c next d h code' pool' Bad
+  pub bracketed_deep : (next : ℕ) (code' pool' : List ℕ) → 16 ≤ d → BracketedIs s code pool c next d h code' pool' None
   unfolding bracketed_of
   bracketed_deep next code' pool' l f z t x e =
       let p = onward_some (sum f (drop next s)) (λ u y. closed u y) t x e in
       let q : t ≡ group p.0 = closed_group (lead p.1) p.0 t x p.3 in
       rw q (omega arith)
 
-  pub bracketed_bad : (next : ℕ) (code' pool' code'' pool'' : List ℕ) → SumIs s code pool (at_place c next) (d + 1) h code' pool' Bad → BracketedIs s code pool c next d h code'' pool'' Bad
+  pub bracketed_bad : (next : ℕ) (code' pool' code'' pool'' : List ℕ) → SumIs s code pool (at_place c next) (d + 1) h code' pool' None → BracketedIs s code pool c next d h code'' pool'' None
   unfolding bracketed_of
   bracketed_bad next code' pool' code'' pool'' y f z t x e =
       let p = onward_some (sum f (drop next s)) (λ u y. closed u y) t x e in
@@ -299,14 +301,14 @@ module _ (s code pool : List ℕ) (c : Cursor) (d h : ℕ) where
       rw q (omega (arith, y f z p.0 p.1 p.2))
 
   -- no closing bracket follows
-  pub bracketed_open : (next : ℕ) (code' pool' code'' pool'' : List ℕ) (r : Cursor) → SumIs s code pool (at_place c next) (d + 1) h code' pool' (Read r)
-      → ((t : Tree) → closed t (drop r.at s) ≡ none) → BracketedIs s code pool c next d h code'' pool'' Bad
+  pub bracketed_open : (next : ℕ) (code' pool' code'' pool'' : List ℕ) (r : Cursor) → SumIs s code pool (at_place c next) (d + 1) h code' pool' (Some r)
+      → ((t : Tree) → closed t (drop r.at s) ≡ none) → BracketedIs s code pool c next d h code'' pool'' None
   unfolding bracketed_of
   bracketed_open next code' pool' code'' pool'' r y n f z t x e =
       none_some (sym (ap (λ (p : Part). onward p (λ u y. closed u y)) (y.2 f z) ∙ n y.0) ∙ e)
 
-  pub bracketed_read : (next end : ℕ) (code' pool' : List ℕ) (r : Cursor) → c.at < next → SumIs s code pool (at_place c next) (d + 1) h code' pool' (Read r) → Leads s r.at end closing
-      → BracketedIs s code pool c next d h code' pool' (Read (at_place r end))
+  pub bracketed_read : (next end : ℕ) (code' pool' : List ℕ) (r : Cursor) → c.at < next → SumIs s code pool (at_place c next) (d + 1) h code' pool' (Some r) → Leads s r.at end closing
+      → BracketedIs s code pool c next d h code' pool' (Some (at_place r end))
   unfolding bracketed_of
   bracketed_read next end code' pool' r l y e =
       (group y.0, group_wrote y.0 next end code' pool' r l y.1 e.on e.upto, λ f z. rw (y.2 f z, e.is) refl)
@@ -377,14 +379,14 @@ module _ (R : ℕ → List ℕ → Part) (n : ℕ) (P : ℕ → List ℕ → Par
   module _ (m-small : m ≤ 2) (n-is : n ≡ suc m) (R-suc : (f : ℕ) (x : List ℕ) → R (suc f) x ≡ onward (P f x) (λ t r. M f t r))
       (M-deep : (f : ℕ) (t : Tree) (x : List ℕ) (u : Tree) (r : List ℕ) → M f t x ≡ some (u, r) → depth t ≤ depth u) where
     -- one part more
-    begun : (code pool : List ℕ) (r : Cursor) → PartIs P m s code₀ pool₀ c₀ c₀.at d h code pool (Read r) → Along code pool r
+    begun : (code pool : List ℕ) (r : Cursor) → PartIs P m s code₀ pool₀ c₀ c₀.at d h code pool (Some r) → Along code pool r
     begun code pool r y = record { tree = y.0; wrote = y.1; goes = λ f z. go f z }
       where
         go : (f : ℕ) → Enough s c₀.at n f → (g : ℕ) × (4 * (length s - r.at) + 1 ≤ g) × (R f (drop c₀.at s) ≡ M g y.0 (drop r.at s))
         go zero z = absurd (omega arith)
         go (suc f) z = (f, omega (arith, y.1.on, y.1.upto), R-suc f (drop c₀.at s) ∙ rw (y.2 f (omega arith)) refl)
 
-    added : (op under : ℕ) (code pool code' pool' code'' : List ℕ) (c r r' : Cursor) → Behind op under code pool c → PartIs P m s code pool c c.at d under code' pool' (Read r) → Signed code' r op code'' r' → Along code'' pool' r'
+    added : (op under : ℕ) (code pool code' pool' code'' : List ℕ) (c r r' : Cursor) → Behind op under code pool c → PartIs P m s code pool c c.at d under code' pool' (Some r) → Signed code' r op code'' r' → Along code'' pool' r'
     added op under code pool code' pool' code'' c r r' b y g =
         let w : Wrote y.0 s code pool (at_place b.end c.at) d (h + 1) code' pool' r = subst (λ (k : ℕ). Wrote y.0 s code pool (at_place b.end c.at) d k code' pool' r) b.held (subst (λ (k : Cursor). Wrote y.0 s code pool k d under code' pool' r) b.place y.1) in
         let q : r'.at ≡ r.at = rw g.cursor refl in
@@ -395,7 +397,7 @@ module _ (R : ℕ → List ℕ → Part) (n : ℕ) (P : ℕ → List ℕ → Par
           goes = λ f z. let x = b.goes f z in (x.0, omega (arith, x.1, y.1.on, y.1.upto, q), x.2 ∙ rw (y.2 x.0 (omega (arith, x.1)), q) refl);
         }
 
-    pub loop_along : (op under : ℕ) (code pool code' pool' code'' : List ℕ) (c r r' : Cursor) → Loop op under code pool c → PartIs P m s code pool c c.at d under code' pool' (Read r) → Completed code' r op code'' r'
+    pub loop_along : (op under : ℕ) (code pool code' pool' code'' : List ℕ) (c r r' : Cursor) → Loop op under code pool c → PartIs P m s code pool c c.at d under code' pool' (Some r) → Completed code' r op code'' r'
         → Along code'' pool' r'
     loop_along zero under code pool code' pool' code'' c r r' i y g =
         let e = i.waits in
@@ -403,8 +405,8 @@ module _ (R : ℕ → List ℕ → Part) (n : ℕ) (P : ℕ → List ℕ → Par
     loop_along (suc k) under code pool code' pool' code'' c r r' i y g = added (suc k) under code pool code' pool' code'' c r r' i.waits y g
 
     -- no part
-    pub loop_bad : (op under : ℕ) (code pool code' pool' code'' pool'' : List ℕ) (c : Cursor) → Loop op under code pool c → PartIs P m s code pool c c.at d under code' pool' Bad
-        → PartIs R n s code₀ pool₀ c₀ c₀.at d h code'' pool'' Bad
+    pub loop_bad : (op under : ℕ) (code pool code' pool' code'' pool'' : List ℕ) (c : Cursor) → Loop op under code pool c → PartIs P m s code pool c c.at d under code' pool' None
+        → PartIs R n s code₀ pool₀ c₀ c₀.at d h code'' pool'' None
     loop_bad zero under code pool code' pool' code'' pool'' c i y = go
       where
         go : (f : ℕ) → Enough s c₀.at n f → TooDeep d (R f (drop c₀.at s))
@@ -424,14 +426,14 @@ module _ (R : ℕ → List ℕ → Part) (n : ℕ) (P : ℕ → List ℕ → Par
       (M-suc : (f : ℕ) (t : Tree) (x : List ℕ) → M (suc f) t x ≡ S (lead x) (some (t, x)) (λ o r. onward (P f r) (λ u r'. M f (both o t u) r')))
       (S-sign : (b : ℕ) (o : Sign) → K b o → (x : List ℕ) (e : Part) (k : Sign → List ℕ → Part) → S (sign o x) e k ≡ k o x)
       (code pool : List ℕ) (r : Cursor) (a : Along code pool r) where
-    pub loop_stops : Signs S K s r.at Follow.Nothing → PartIs R n s code₀ pool₀ c₀ c₀.at d h code pool (Read r)
+    pub loop_stops : Signs S K s r.at None → PartIs R n s code₀ pool₀ c₀ c₀.at d h code pool (Some r)
     loop_stops e = (a.tree, a.wrote, λ f z. let x = a.goes f z in x.2 ∙ go x.0 x.1)
       where
         go : (g : ℕ) → 4 * (length s - r.at) + 1 ≤ g → M g a.tree (drop r.at s) ≡ some (a.tree, drop r.at s)
         go zero z = absurd (omega arith)
         go (suc g) z = M-suc g a.tree (drop r.at s) ∙ e (some (a.tree, drop r.at s)) _
 
-    behind_sign : (op next : ℕ) → Signs S K s r.at (Follow.Sign op next) → Behind op (h + 1) code pool (at_place r next)
+    behind_sign : (op next : ℕ) → SignAt K s r.at op next → Behind op (h + 1) code pool (at_place r next)
     behind_sign op next e =
         record {
           tree = a.tree;
@@ -451,7 +453,7 @@ module _ (R : ℕ → List ℕ → Part) (n : ℕ) (P : ℕ → List ℕ → Par
         go f zero z q = absurd (omega arith)
         go f (suc g) z q = (g, omega (arith, e.4.on, e.4.upto), q ∙ M-suc g a.tree (drop r.at s) ∙ rw e.4.is (S-sign e.1 e.0 e.2 (drop next s) _ _))
 
-    pub loop_again : (op next : ℕ) → Ready 0 s code₀ pool₀ c₀ d h → Signs S K s r.at (Follow.Sign op next) → Loop op (h + 1) code pool (at_place r next)
+    pub loop_again : (op next : ℕ) → Ready 0 s code₀ pool₀ c₀ d h → SignAt K s r.at op next → Loop op (h + 1) code pool (at_place r next)
     loop_again op next y e =
         record {
           ready = ready_moved s code pool r d h 1 next d (h + 1) (ready_on s code₀ pool₀ c₀ d h a.tree code pool r y a.wrote) (omega (arith, e.4.on)) e.4.upto y.shallow (omega (arith, y.few, a.wrote.on, e.4.on));
@@ -459,10 +461,6 @@ module _ (R : ℕ → List ℕ → Part) (n : ℕ) (P : ℕ → List ℕ → Par
           waits = go op e;
         }
       where
-        go : (op : ℕ) → Signs S K s r.at (Follow.Sign op next) → Waits op (h + 1) code pool (at_place r next)
+        go : (op : ℕ) → SignAt K s r.at op next → Waits op (h + 1) code pool (at_place r next)
         go zero e = absurd (opcoded e.0 e.3)
         go (suc k) e = behind_sign (suc k) next e
-
--- what holds of a call holds of its answer's case, and of the cursor that it was given
-pub known : (P : Cursor → Answer → Type 0) {b b' : Cursor} {a a' : Answer} → b ≡ b' → a ≡ a' → P b a → P b' a'
-known P {b} {b'} {a} {a'} p q x = subst (λ y. P y a') p (subst (λ y. P b y) q x)

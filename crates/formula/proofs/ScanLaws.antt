@@ -15,7 +15,9 @@ use Rattle.rules.specs.Reading.{is_digit}
 use Rattle.grammar.specs.Steps.{digit_is}
 use Rattle.grammar.specs.Scan.{before, standing, is_name, is_sign, before_byte, close_one, after_byte, scan_byte, scanned, at_start, Accepting}
 use Rattle.grammar.specs.Scanned.{Stopped, Reads, stops_exact, ends_early, accepts_exact, scanned_byte}
-use Rattle.formula.specs.Scans.{State, Next, mode_of, state_of, Legal, step_of, Keeps, Moves}
+use Rattle.std.specs.Prelude.{Some, None}
+use Rattle.std.specs.declared.option.Option as found
+use Rattle.formula.specs.Scans.{State, mode_of, state_of, Legal, step_of, Keeps, Moves}
 
 -- ---- the modes
 
@@ -61,48 +63,48 @@ wanting : (n d : ℕ) → Legal (record { wanted = 1; value = 0; brackets = n; d
 wanting n d = record { upto = omega arith; fresh = λ z. refl }
 
 module _ (at : State) (c : ℕ) (legal : Legal at) where
-  pub digit_over : is_digit c ≡ true → 4294967295 < 10 * at.value + (c - 48) → Moves at c Next.Refused
+  pub digit_over : is_digit c ≡ true → 4294967295 < 10 * at.value + (c - 48) → Moves at c None
   digit_over h l = record { is = sym (digit_refused at.brackets at.deepest c at.wanted at.value legal.fresh h l); keeps = tt }
 
   pub digit_kept : is_digit c ≡ true → 10 * at.value + (c - 48) ≤ 4294967295
-      → Moves at c (Next.To (record { wanted = 0; value = 10 * at.value + (c - 48); brackets = at.brackets; deepest = at.deepest }))
+      → Moves at c (Some (record { wanted = 0; value = 10 * at.value + (c - 48); brackets = at.brackets; deepest = at.deepest }))
   digit_kept h l =
       record { is = sym (digit_taken at.brackets at.deepest c at.wanted at.value legal.fresh h l); keeps = (record { upto = omega arith; fresh = λ z. absurd (omega arith) }, omega arith) }
 
   module _ (h : 0 < at.wanted) (g : is_digit c ≡ false) where
-    pub front_name : is_name c ≡ true → Moves at c (Next.To (record { wanted = 0; value = 4294967296; brackets = at.brackets; deepest = at.deepest }))
+    pub front_name : is_name c ≡ true → Moves at c (Some (record { wanted = 0; value = 4294967296; brackets = at.brackets; deepest = at.deepest }))
     front_name e =
         record { is = sym (before_byte_lem at.brackets at.deepest c at.wanted at.value h ∙ rw (g, e) refl); keeps = (complete at.brackets at.deepest, omega arith) }
 
-    pub front_open : c ≡ 40 → (k : ℕ) → k ≡ max at.deepest (suc at.brackets) → Moves at c (Next.To (record { wanted = 1; value = 0; brackets = at.brackets + 1; deepest = k }))
+    pub front_open : c ≡ 40 → (k : ℕ) → k ≡ max at.deepest (suc at.brackets) → Moves at c (Some (record { wanted = 1; value = 0; brackets = at.brackets + 1; deepest = k }))
     front_open e k q =
         record { is = sym (before_byte_lem at.brackets at.deepest c at.wanted at.value h ∙ rw (e, q, add-one at.brackets) refl); keeps = (wanting (at.brackets + 1) k, omega arith) }
 
     module _ (m : is_name c ≡ false) (o : c ≢ 40) where
-      pub front_on : (eqb c 32 || eqb c 45) ≡ true → Moves at c (Next.To at)
+      pub front_on : (eqb c 32 || eqb c 45) ≡ true → Moves at c (Some at)
       front_on e =
           record { is = sym (before_byte_lem at.brackets at.deepest c at.wanted at.value h ∙ rw (g, m, eqb_other c 40 o, e, mode_before at.wanted at.value h) refl); keeps = (legal, omega arith) }
 
-      pub front_none : (eqb c 32 || eqb c 45) ≡ false → Moves at c Next.Refused
+      pub front_none : (eqb c 32 || eqb c 45) ≡ false → Moves at c None
       front_none e = record { is = sym (before_byte_lem at.brackets at.deepest c at.wanted at.value h ∙ rw (g, m, eqb_other c 40 o, e) refl); keeps = tt }
 
   module _ (h : at.wanted ≡ 0) (g : is_digit c ≡ false) where
     on : scan_byte (standing (mode_of at.wanted at.value) at.brackets at.deepest) c ≡ after_byte at.brackets at.deepest c
     on = behind_byte at.brackets at.deepest c at.wanted at.value h g
 
-    pub behind_sign : is_sign c ≡ true → Moves at c (Next.To (record { wanted = 1; value = 0; brackets = at.brackets; deepest = at.deepest }))
+    pub behind_sign : is_sign c ≡ true → Moves at c (Some (record { wanted = 1; value = 0; brackets = at.brackets; deepest = at.deepest }))
     behind_sign e = record { is = sym (on ∙ rw e refl); keeps = (wanting at.brackets at.deepest, omega arith) }
 
-    pub behind_space : c ≡ 32 → Moves at c (Next.To (record { wanted = 0; value = 4294967296; brackets = at.brackets; deepest = at.deepest }))
+    pub behind_space : c ≡ 32 → Moves at c (Some (record { wanted = 0; value = 4294967296; brackets = at.brackets; deepest = at.deepest }))
     behind_space e = record { is = sym (on ∙ rw e refl); keeps = (complete at.brackets at.deepest, omega arith) }
 
-    pub behind_none : is_sign c ≡ false → c ≢ 41 → c ≢ 32 → Moves at c Next.Refused
+    pub behind_none : is_sign c ≡ false → c ≢ 41 → c ≢ 32 → Moves at c None
     behind_none e p q = record { is = sym (on ∙ rw (e, eqb_other c 41 p, eqb_other c 32 q) refl); keeps = tt }
 
-    pub behind_shut : c ≡ 41 → at.brackets ≡ 0 → Moves at c Next.Refused
+    pub behind_shut : c ≡ 41 → at.brackets ≡ 0 → Moves at c None
     behind_shut e z = record { is = sym (on ∙ rw (e, z) refl); keeps = tt }
 
-    pub behind_close : c ≡ 41 → at.brackets ≢ 0 → Moves at c (Next.To (record { wanted = 0; value = 4294967296; brackets = at.brackets - 1; deepest = at.deepest }))
+    pub behind_close : c ≡ 41 → at.brackets ≢ 0 → Moves at c (Some (record { wanted = 0; value = 4294967296; brackets = at.brackets - 1; deepest = at.deepest }))
     behind_close e z = record { is = sym (on ∙ rw e (closed at.brackets z)); keeps = (complete (at.brackets - 1) at.deepest, omega arith) }
       where
         closed : (n : ℕ) → n ≢ 0 → close_one n at.deepest ≡ some (standing (mode_of 0 4294967296) (n - 1) at.deepest)
@@ -121,13 +123,13 @@ accepted zero v n d a = (refl, decide (leb v 4294967295) (λ e. rw e at a) (λ e
 accepted (suc w) v n d a = absurd a
 
 module _ (line : List ℕ) (i : ℕ) (at : State) (is : scanned at_start (take i line) ≡ some (state_of at)) where
-  module _ (l : i < length line) (r : Next) (m : Moves at (get_or line i 0) r) where
-    pub stops : r ≡ Next.Refused → Stopped line i
+  module _ (l : i < length line) (r : found.Option State) (m : Moves at (get_or line i 0) r) where
+    pub stops : r ≡ None → Stopped line i
     stops e = stops_exact line (state_of at) i l is (sym m.is ∙ ap step_of e)
 
-    pub goes_on : (next : State) → r ≡ Next.To next → at.brackets ≤ i → (i + 1 ≤ length line) × Legal next × (next.brackets ≤ i + 1) × (scanned at_start (take (i + 1) line) ≡ some (state_of next))
+    pub goes_on : (next : State) → r ≡ Some next → at.brackets ≤ i → (i + 1 ≤ length line) × Legal next × (next.brackets ≤ i + 1) × (scanned at_start (take (i + 1) line) ≡ some (state_of next))
     goes_on next e b =
-        let k : Keeps at.brackets (Next.To next) = rw e at m.keeps in
+        let k : Keeps at.brackets (Some next) = rw e at m.keeps in
         (omega arith, k.0, omega arith, rw (add-one i) (scanned_byte line (state_of at) i l is ∙ sym m.is ∙ ap step_of e))
 
   module _ (u : i ≤ length line) (l : length line ≤ i) where

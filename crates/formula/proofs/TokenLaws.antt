@@ -1,5 +1,5 @@
 -- Laws of `tokens`.
-use mathlib.Core.Path.{◌≡◌, refl, sym, ap, ◌∙◌, subst}
+use mathlib.Core.Path.{◌≡◌, refl, sym, ap, ◌∙◌}
 use mathlib.Core.Logic.{◌≢◌}
 use Prim.Native.Nat.{ℕ, suc, ◌+◌, ◌*◌, ◌-◌, ◌≤◌, ◌<◌}
 use native.Mathlib.Omega.{arith}
@@ -14,7 +14,9 @@ use Rattle.soundness.specs.Tests.{decide, eqb_is, eqb_same, eqb_other, leb_is, l
 use Rattle.rules.specs.Grammar.{Sign, plus, dash, star, slash, Digit, is_r, is_g, is_b, SumSign, is_dash, ProductSign}
 use Rattle.rules.specs.Reading.{is_digit, skip, digits, Lead, numeral, letter, sign, opening, closing, nothing, lead, mark_of, Part, closed_by, factor_of, product_sign, sum_sign, factor}
 use Rattle.grammar.specs.Steps.{digit_is, digits_on, lead_digit, lead_sum, lead_product, lead_name, lead_open, lead_close, factor_suc}
-use Rattle.formula.specs.Tokens.{Skipped, Capped, Grown, Counted, Leads, name_of, Plain, negatives, Follow, SumFollow, ProductFollow, CloseFollow}
+use Rattle.std.specs.Prelude.{Some, None}
+use Rattle.std.proofs.lemmas.Option.{none-some, same_Some}
+use Rattle.formula.specs.Tokens.{Skipped, Capped, Grown, Counted, Leads, name_of, Plain, negatives, SumFollow, ProductFollow, CloseFollow}
 
 front : (s : List ℕ) (i : ℕ) → i < length s → drop i s ≡ get_or s i 0 ∷ drop (i + 1) s
 front s i h = rw (add-one i) (drop-cons s i 0 h)
@@ -122,13 +124,13 @@ module _ (s : List ℕ) (at r : ℕ) (h : at < length s) (p : Skipped s (at + 1)
   pub leads_open : get_or s at 0 ≡ 40 → Leads s at r opening
   leads_open e = leads opening 40 e (λ x. lead_open x)
 
-  pub leads_name : name_of (get_or s at 0) ≤ 2 → Leads s at r (letter (name_of (get_or s at 0)))
-  leads_name l =
+  pub leads_name : (i : ℕ) → Some i ≡ name_of (get_or s at 0) → Leads s at r (letter i)
+  leads_name i q =
       let c : ℕ = get_or s at 0 in
-      decide (eqb c 114) (λ e. rw e (leads (letter 0) 114 (eqb_is c 114 e) (λ x. lead_name is_r x))) (λ e₁.
-      decide (eqb c 103) (λ e. rw (e₁, e) (leads (letter 1) 103 (eqb_is c 103 e) (λ x. lead_name is_g x))) (λ e₂.
-      decide (eqb c 98) (λ e. rw (e₁, e₂, e) (leads (letter 2) 98 (eqb_is c 98 e) (λ x. lead_name is_b x))) (λ e₃.
-      absurd (let z : name_of c ≡ 3 = rw (e₁, e₂, e₃) refl in omega arith))))
+      decide (eqb c 114) (λ e. let k : i ≡ 0 = same_Some i 0 (q ∙ rw e refl) in rw k (leads (letter 0) 114 (eqb_is c 114 e) (λ x. lead_name is_r x))) (λ e₁.
+      decide (eqb c 103) (λ e. let k : i ≡ 1 = same_Some i 1 (q ∙ rw (e₁, e) refl) in rw k (leads (letter 1) 103 (eqb_is c 103 e) (λ x. lead_name is_g x))) (λ e₂.
+      decide (eqb c 98) (λ e. let k : i ≡ 2 = same_Some i 2 (q ∙ rw (e₁, e₂, e) refl) in rw k (leads (letter 2) 98 (eqb_is c 98 e) (λ x. lead_name is_b x))) (λ e₃.
+      absurd (none-some i (sym (q ∙ rw (e₁, e₂, e₃) refl))))))
 
 -- digits, and the spaces after them
 module _ (s : List ℕ) (at v e : ℕ) (h : at < length s) (d : is_digit (get_or s at 0) ≡ true) (k : Counted s (at + 1) (get_or s at 0 - 48) v e) where
@@ -139,17 +141,17 @@ module _ (s : List ℕ) (at v e : ℕ) (h : at < length s) (d : is_digit (get_or
   leads_number r p = record { is = lead_number ∙ ap (numeral k.number) (sym p.rest); on = omega (arith, k.from, p.from); upto = p.upto }
 
 -- a byte that begins no factor
-pub begins_none : (s : List ℕ) (at : ℕ) → at < length s → is_digit (get_or s at 0) ≡ false → Plain s at → get_or s at 0 ≢ 40 → 2 < name_of (get_or s at 0)
+pub begins_none : (s : List ℕ) (at : ℕ) → at < length s → is_digit (get_or s at 0) ≡ false → Plain s at → get_or s at 0 ≢ 40 → None ≡ name_of (get_or s at 0)
     → (m o : List ℕ → Part) → factor_of (lead (drop at s)) m o ≡ none
 unfolding lead
 begins_none s at h d n b l m o =
     let c : ℕ = get_or s at 0 in
     rw (front s at h, d)
     (marks (λ x. factor_of x m o ≡ none) c (skip (drop (at + 1) s)) (λ e. refl) (λ e. absurd (n h e)) (λ e. refl) (λ e. refl) (λ e. absurd (b e)) (λ e. refl)
-    (λ e. absurd (named e refl (omega arith))) (λ e. absurd (named e refl (omega arith))) (λ e. absurd (named e refl (omega arith))) refl)
+    (λ e. absurd (named e refl)) (λ e. absurd (named e refl)) (λ e. absurd (named e refl)) refl)
   where
-    named : {k i : ℕ} → get_or s at 0 ≡ k → name_of k ≡ i → i ≤ 2 → ⊥
-    named {k} {i} e q u = let z : 2 < name_of k = subst (λ (x : ℕ). 2 < name_of x) e l in omega arith
+    named : {k i : ℕ} → get_or s at 0 ≡ k → name_of k ≡ Some i → ⊥
+    named {k} {i} e q = none-some i (l ∙ ap name_of e ∙ q)
 
 pub begins_end : (s : List ℕ) (at : ℕ) → length s ≤ at → (m o : List ℕ → Part) → factor_of (lead (drop at s)) m o ≡ none
 begins_end s at h m o = leads_end (λ x. factor_of x m o ≡ none) s at h refl
@@ -157,29 +159,29 @@ begins_end s at h m o = leads_end (λ x. factor_of x m o ≡ none) s at h refl
 -- ---- signs
 
 module _ (s : List ℕ) (at : ℕ) where
-  pub product_none : at < length s → get_or s at 0 ≢ 42 → get_or s at 0 ≢ 47 → ProductFollow s at Follow.Nothing
+  pub product_none : at < length s → get_or s at 0 ≢ 42 → get_or s at 0 ≢ 47 → ProductFollow s at None
   product_none h p q d k =
       leads_byte (λ x. product_sign x d k ≡ d) s at h (λ n x. refl)
       (λ x. marks (λ y. product_sign y d k ≡ d) (get_or s at 0) x (λ e. refl) (λ e. refl) (λ e. absurd (p e)) (λ e. absurd (q e)) (λ e. refl) (λ e. refl) (λ e. refl) (λ e. refl) (λ e. refl) refl)
 
-  pub sum_none : at < length s → get_or s at 0 ≢ 43 → get_or s at 0 ≢ 45 → SumFollow s at Follow.Nothing
+  pub sum_none : at < length s → get_or s at 0 ≢ 43 → get_or s at 0 ≢ 45 → SumFollow s at None
   sum_none h p q d k =
       leads_byte (λ x. sum_sign x d k ≡ d) s at h (λ n x. refl)
       (λ x. marks (λ y. sum_sign y d k ≡ d) (get_or s at 0) x (λ e. absurd (p e)) (λ e. absurd (q e)) (λ e. refl) (λ e. refl) (λ e. refl) (λ e. refl) (λ e. refl) (λ e. refl) (λ e. refl) refl)
 
-  pub close_none : at < length s → get_or s at 0 ≢ 41 → CloseFollow s at Follow.Nothing
+  pub close_none : at < length s → get_or s at 0 ≢ 41 → CloseFollow s at None
   close_none h p t =
       leads_byte (λ x. closed_by t x ≡ none) s at h (λ n x. refl)
       (λ x. marks (λ y. closed_by t y ≡ none) (get_or s at 0) x (λ e. refl) (λ e. refl) (λ e. refl) (λ e. refl) (λ e. refl) (λ e. absurd (p e)) (λ e. refl) (λ e. refl) (λ e. refl) refl)
 
   module _ (h : length s ≤ at) where
-    pub product_end : ProductFollow s at Follow.Nothing
+    pub product_end : ProductFollow s at None
     product_end d k = leads_end (λ x. product_sign x d k ≡ d) s at h refl
 
-    pub sum_end : SumFollow s at Follow.Nothing
+    pub sum_end : SumFollow s at None
     sum_end d k = leads_end (λ x. sum_sign x d k ≡ d) s at h refl
 
-    pub close_end : CloseFollow s at Follow.Nothing
+    pub close_end : CloseFollow s at None
     close_end t = leads_end (λ x. closed_by t x ≡ none) s at h refl
 
 -- ---- minuses

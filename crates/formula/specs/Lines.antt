@@ -1,14 +1,15 @@
 -- What the functions on whole lines promise.
-use Rattle.std.specs.Prelude.{◌≡◌, ℕ, ◌*◌, ◌≤◌, ◌<◌, List, [], ◌∷◌, take}
+use Rattle.std.specs.Prelude.{◌≡◌, ℕ, ◌*◌, ◌≤◌, ◌<◌, List, [], ◌∷◌, take, Some, None}
 use Rattle.std.proofs.Math.Option.{some}
 use Rattle.rules.specs.Tables.{Tables, tables}
-use Rattle.rules.specs.declared.WriteAnswer.TheVariants.{Unwritten}
+use Rattle.rules.specs.AnswerTypes.{Unwritten}
 use Rattle.rules.specs.Writing.{wrote}
 use Rattle.rules.specs.Files.{constant_bytes, function, function_bytes}
 use Rattle.rules.specs.Grammar.{Tree, depth}
 use Rattle.rules.specs.Reading.{reading}
 use Rattle.rules.specs.Formula.{need, numbers, ints, code_bytes, formula}
-use Rattle.formula.specs.Readers.{Cursor, Answer, Bad, Read}
+use Rattle.std.specs.declared.option.Option as found
+use Rattle.formula.specs.Readers.{Cursor}
 
 -- the tables of one function of three ints to an int, with these constants and this code
 abbrev pub one_function : List ℕ → List ℕ → Tables
@@ -30,6 +31,6 @@ Unread line = (t : Tree) → reading line ≡ some t → 16 < depth t
 abbrev pub Refuses : List ℕ → ℕ → Type 0
 Refuses line n = (out : List ℕ) → wrote (Unwritten n) out ≡ formula line out
 
-abbrev pub LineIs : List ℕ → List ℕ → List ℕ → Answer → Type 0
-LineIs line code pool Bad = Unread line
-LineIs line code pool (Read c) = (t : Tree) × (reading line ≡ some t) × (depth t ≤ 16) × Whole code pool c t
+abbrev pub LineIs : List ℕ → List ℕ → List ℕ → found.Option Cursor → Type 0
+LineIs line code pool None = Unread line
+LineIs line code pool (Some c) = (t : Tree) × (reading line ≡ some t) × (depth t ≤ 16) × Whole code pool c t

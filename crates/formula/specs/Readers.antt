@@ -1,5 +1,5 @@
 -- What the readers promise.
-use Rattle.std.specs.Prelude.{◌≡◌, ℕ, zero, suc, ◌+◌, ◌*◌, ◌-◌, ◌≤◌, ◌<◌, max, List, [], ◌∷◌, ◌++◌, length, drop, take, replicate}
+use Rattle.std.specs.Prelude.{◌≡◌, ℕ, zero, suc, ◌+◌, ◌*◌, ◌-◌, ◌≤◌, ◌<◌, max, List, [], ◌∷◌, ◌++◌, length, drop, take, replicate, Some, None}
 use Rattle.std.proofs.Math.Option.{some}
 use Rattle.rules.specs.Files.{constant_bytes}
 use Rattle.rules.specs.Grammar.{Tree}
@@ -7,8 +7,7 @@ use Rattle.rules.specs.Grammar as Grammar
 use Rattle.rules.specs.Reading.{Part, onward, closed, sum, product, factor}
 use Rattle.rules.specs.Formula.{numbers, postfix, assembled, ints, need}
 pub use Rattle.formula.specs.declared.readers.Cursor.{Cursor}
-pub use Rattle.formula.specs.declared.readers.Answer.{Answer}
-pub use Rattle.formula.specs.declared.readers.Answer.TheVariants.{Bad, Read}
+use Rattle.std.specs.declared.option.Option as found
 
 -- room for what is still to be written. Operands and signs take turns, so that n bytes of a line give at most 3 n + 2 bytes of code and (n + 1) / 2 constants; k is 1
 -- after an operand, 0 before one
@@ -50,25 +49,25 @@ abbrev pub TooDeep : ℕ → Part → Type 0
 TooDeep depth p = (t : Tree) (rest : List ℕ) → p ≡ some (t, rest) → 16 < depth + Grammar.depth t
 
 -- what the reader R gives from the place `from` on, which is c's or after a sign there
-abbrev pub PartIs : (ℕ → List ℕ → Part) → ℕ → List ℕ → List ℕ → List ℕ → Cursor → ℕ → ℕ → ℕ → List ℕ → List ℕ → Answer → Type 0
-PartIs R n s code pool c from depth held code' pool' Bad = (f : ℕ) → Enough s from n f → TooDeep depth (R f (drop from s))
-PartIs R n s code pool c from depth held code' pool' (Read r) =
+abbrev pub PartIs : (ℕ → List ℕ → Part) → ℕ → List ℕ → List ℕ → List ℕ → Cursor → ℕ → ℕ → ℕ → List ℕ → List ℕ → found.Option Cursor → Type 0
+PartIs R n s code pool c from depth held code' pool' None = (f : ℕ) → Enough s from n f → TooDeep depth (R f (drop from s))
+PartIs R n s code pool c from depth held code' pool' (Some r) =
     (t : Tree) × Wrote t s code pool c depth held code' pool' r × ((f : ℕ) → Enough s from n f → R f (drop from s) ≡ some (t, drop r.at s))
 
-abbrev pub FactorIs : List ℕ → List ℕ → List ℕ → Cursor → ℕ → ℕ → List ℕ → List ℕ → Answer → Type 0
+abbrev pub FactorIs : List ℕ → List ℕ → List ℕ → Cursor → ℕ → ℕ → List ℕ → List ℕ → found.Option Cursor → Type 0
 FactorIs s code pool c = PartIs factor 1 s code pool c c.at
 
-abbrev pub ProductIs : List ℕ → List ℕ → List ℕ → Cursor → ℕ → ℕ → List ℕ → List ℕ → Answer → Type 0
+abbrev pub ProductIs : List ℕ → List ℕ → List ℕ → Cursor → ℕ → ℕ → List ℕ → List ℕ → found.Option Cursor → Type 0
 ProductIs s code pool c = PartIs product 2 s code pool c c.at
 
-abbrev pub SumIs : List ℕ → List ℕ → List ℕ → Cursor → ℕ → ℕ → List ℕ → List ℕ → Answer → Type 0
+abbrev pub SumIs : List ℕ → List ℕ → List ℕ → Cursor → ℕ → ℕ → List ℕ → List ℕ → found.Option Cursor → Type 0
 SumIs s code pool c = PartIs sum 3 s code pool c c.at
 
 -- after an opening bracket
 unfoldable pub bracketed_of : ℕ → List ℕ → Part
 bracketed_of f s = onward (sum f s) (λ t r. closed t r)
 
-abbrev pub BracketedIs : List ℕ → List ℕ → List ℕ → Cursor → ℕ → ℕ → ℕ → List ℕ → List ℕ → Answer → Type 0
+abbrev pub BracketedIs : List ℕ → List ℕ → List ℕ → Cursor → ℕ → ℕ → ℕ → List ℕ → List ℕ → found.Option Cursor → Type 0
 BracketedIs = PartIs bracketed_of 3
 
 -- one byte of code more

@@ -1,11 +1,11 @@
 -- What the functions of `tokens` promise.
-use Rattle.std.specs.Prelude.{◌≡◌, ◌≢◌, ℕ, zero, suc, ◌+◌, ◌*◌, ◌-◌, ◌≤◌, ◌<◌, cond, List, [], ◌∷◌, length, drop, get_or, leb, eqb}
+use Rattle.std.specs.Prelude.{◌≡◌, ◌≢◌, ℕ, zero, suc, ◌+◌, ◌*◌, ◌-◌, ◌≤◌, ◌<◌, cond, List, [], ◌∷◌, length, drop, get_or, leb, eqb, Some, None}
 use Rattle.std.proofs.Math.Option.{none}
 use Rattle.rules.specs.Grammar.{Sign, Tree, SumSign, ProductSign}
 use Rattle.rules.specs.Reading.{skip, digits, Lead, sign, closing, lead, Part, onward, negated, closed, product_sign, sum_sign, factor}
 use Rattle.rules.specs.Formula.{sign_bytes}
 pub use Rattle.formula.specs.declared.tokens.Follow.{Follow}
-pub use Rattle.formula.specs.declared.tokens.Follow.TheVariants as Follow
+use Rattle.std.specs.declared.option.Option as found
 
 -- the place r after the spaces from a place on
 pub record Skipped (s : List ℕ) (at r : ℕ) : Type 0 where
@@ -43,9 +43,9 @@ pub record Leads (s : List ℕ) (at r : ℕ) (l : List ℕ → Lead) : Type 0 wh
   pub on : at < r
   pub upto : r ≤ length s
 
--- the parameter that a byte names; 3 where it names none
-abbrev pub name_of : ℕ → ℕ
-name_of c = cond (eqb c 114) 0 (cond (eqb c 103) 1 (cond (eqb c 98) 2 3))
+-- the parameter that a byte names
+abbrev pub name_of : ℕ → found.Option ℕ
+name_of c = cond (eqb c 114) (Some 0) (cond (eqb c 103) (Some 1) (cond (eqb c 98) (Some 2) None))
 
 -- ---- minuses
 
@@ -67,17 +67,21 @@ pub record AfterMinuses (s : List ℕ) (at n r : ℕ) : Type 0 where
 
 -- ---- signs: nothing that S goes on with; or a sign of the kind K, with its instruction
 
-abbrev pub Signs : (Lead → Part → (Sign → List ℕ → Part) → Part) → (ℕ → Sign → Type 0) → List ℕ → ℕ → Follow → Type 0
-Signs S K s at Follow.Nothing = (d : Part) (k : Sign → List ℕ → Part) → S (lead (drop at s)) d k ≡ d
-Signs S K s at (Follow.Sign op r) = (o : Sign) × (b : ℕ) × K b o × (sign_bytes o ≡ op ∷ []) × Leads s at r (sign o)
+-- a sign of the kind K with this instruction, and r the place after it
+abbrev pub SignAt : (ℕ → Sign → Type 0) → List ℕ → ℕ → ℕ → ℕ → Type 0
+SignAt K s at op r = (o : Sign) × (b : ℕ) × K b o × (sign_bytes o ≡ op ∷ []) × Leads s at r (sign o)
 
-abbrev pub SumFollow : List ℕ → ℕ → Follow → Type 0
+abbrev pub Signs : (Lead → Part → (Sign → List ℕ → Part) → Part) → (ℕ → Sign → Type 0) → List ℕ → ℕ → found.Option Follow → Type 0
+Signs S K s at None = (d : Part) (k : Sign → List ℕ → Part) → S (lead (drop at s)) d k ≡ d
+Signs S K s at (Some f) = SignAt K s at f.opcode f.at
+
+abbrev pub SumFollow : List ℕ → ℕ → found.Option Follow → Type 0
 SumFollow = Signs sum_sign SumSign
 
-abbrev pub ProductFollow : List ℕ → ℕ → Follow → Type 0
+abbrev pub ProductFollow : List ℕ → ℕ → found.Option Follow → Type 0
 ProductFollow = Signs product_sign ProductSign
 
 -- the closing bracket
-abbrev pub CloseFollow : List ℕ → ℕ → Follow → Type 0
-CloseFollow s at Follow.Nothing = (t : Tree) → closed t (drop at s) ≡ none
-CloseFollow s at (Follow.Sign op r) = Leads s at r closing
+abbrev pub CloseFollow : List ℕ → ℕ → found.Option ℕ → Type 0
+CloseFollow s at None = (t : Tree) → closed t (drop at s) ≡ none
+CloseFollow s at (Some r) = Leads s at r closing

@@ -17,10 +17,8 @@ pub fn put_negations(code: &mut [u8], at: usize, n: usize)
     requires { at + n ≤ length code.old }
     ensures { take (at + n) code.new ≡ take at code.old ++ replicate n 19 }
 {
-    let mut i = 0;
-    while i < n {
+    for i in 0..n {
         code[at + i] = 19;
-        i += 1;
     }
 }
 

@@ -1,11 +1,10 @@
 // The readers of sums, products and factors. They call each other in a cycle, at most 16 brackets deep; each writes postfix code and
 // constants as it reads.
-ghost use Rattle.std.specs.Prelude.{◌≡◌, ◌+◌, ◌<◌, ◌≤◌, max, length};
+ghost use Rattle.std.specs.Prelude.{◌≡◌, ◌+◌, ◌<◌, ◌≤◌, length};
 ghost use Rattle.rules.specs.Grammar.{number, name};
 ghost use Rattle.formula.specs.Tokens.{Plain};
 ghost use Rattle.formula.specs.Readers.{Ready, AfterSign, Wrote, FactorIs, ProductIs, SumIs, BracketedIs, Signed, Completed, Negated};
 
-use crate::tokens::Follow;
 use crate::{emit, tokens};
 
 // The place in the line, the bytes of code and the constants written so far, and the most operands so far.
@@ -15,22 +14,6 @@ pub struct Cursor {
     pub code: usize,
     pub numbers: usize,
     pub most: usize,
-}
-
-// No part of the grammar within 16 brackets; or read up to here.
-#[derive(Clone, Copy)]
-pub enum Answer {
-    Bad,
-    Read(Cursor),
-}
-
-fn larger(a: usize, b: usize) -> usize
-    ensures { result ≡ max a b }
-{
-    if a < b {
-        return b;
-    }
-    a
 }
 
 // The number v, read up to `next`.
@@ -51,12 +34,11 @@ fn number_read(
     let at = c.code;
     emit::put_constant(pool, k, v);
     emit::put_wide(code, at, 1, k as u32);
-    let most = larger(c.most, held + 1);
     Cursor {
         at: next,
         code: at + 5,
         numbers: k + 1,
-        most: most,
+        most: c.most.max(held + 1),
     }
 }
 
@@ -76,12 +58,11 @@ fn name_read(
 {
     let at = c.code;
     emit::put_wide(code, at, 3, i);
-    let most = larger(c.most, held + 1);
     Cursor {
         at: next,
         code: at + 5,
-        numbers: c.numbers,
-        most: most,
+        most: c.most.max(held + 1),
+        ..c
     }
 }
 
@@ -92,12 +73,7 @@ pub(crate) fn operated(code: &mut [u8], c: Cursor, op: u8) -> Cursor
 {
     let at = c.code;
     emit::put_bare(code, at, op);
-    Cursor {
-        at: c.at,
-        code: at + 1,
-        numbers: c.numbers,
-        most: c.most,
-    }
+    Cursor { code: at + 1, ..c }
 }
 
 // n times `neg` behind what was read.
@@ -107,23 +83,7 @@ fn negated(code: &mut [u8], c: Cursor, n: usize) -> Cursor
 {
     let at = c.code;
     emit::put_negations(code, at, n);
-    Cursor {
-        at: c.at,
-        code: at + n,
-        numbers: c.numbers,
-        most: c.most,
-    }
-}
-
-fn moved(c: Cursor, at: usize) -> Cursor
-    ensures { result ≡ record { at = at; code = c.code; numbers = c.numbers; most = c.most } }
-{
-    Cursor {
-        at: at,
-        code: c.code,
-        numbers: c.numbers,
-        most: c.most,
-    }
+    Cursor { code: at + n, ..c }
 }
 
 // The instruction that waited for its right operand, behind what was read; 0 where none did.
@@ -137,7 +97,8 @@ fn completed(code: &mut [u8], c: Cursor, op: u8) -> Cursor
     operated(code, c, op)
 }
 
-// Minuses, then a number, a name or a bracketed sum.
+// The readers answer how far they read; none where no part of the grammar within 16 brackets stands. Minuses, then a number, a name or a
+// bracketed sum.
 #[cycle(bracketed_factor_plain_product_sum)]
 fn factor(
     s: &[u8],
@@ -146,28 +107,32 @@ fn factor(
     c: Cursor,
     depth: usize,
     held: usize,
-) -> Answer
+) -> Option<Cursor>
     requires { Ready 0 s.now code.old pool.old c depth held }
     ensures { FactorIs s.now code.old pool.old c depth held code.new pool.new result }
 {
     let at = c.at;
     let m = tokens::skip_minuses(s, at);
-    let inner = plain(s, code, pool, moved(c, m.at), depth, held);
-    let Answer::Read(r) = inner else {
-        return Answer::Bad;
-    };
-    Answer::Read(negated(code, r, m.count))
+    let r = plain(s, code, pool, Cursor { at: m.at, ..c }, depth, held)?;
+    Some(negated(code, r, m.count))
 }
 
 // A number, a name or a bracketed sum.
 #[cycle(bracketed_factor_plain_product_sum)]
-fn plain(s: &[u8], code: &mut [u8], pool: &mut [u8], c: Cursor, depth: usize, held: usize) -> Answer
+fn plain(
+    s: &[u8],
+    code: &mut [u8],
+    pool: &mut [u8],
+    c: Cursor,
+    depth: usize,
+    held: usize,
+) -> Option<Cursor>
     requires { Ready 0 s.now code.old pool.old c depth held × Plain s.now c.at }
     ensures { FactorIs s.now code.old pool.old c depth held code.new pool.new result }
 {
     let at = c.at;
     if s.len() <= at {
-        return Answer::Bad;
+        return None;
     }
     let b = s[at];
     if b == 40 {
@@ -175,20 +140,17 @@ fn plain(s: &[u8], code: &mut [u8], pool: &mut [u8], c: Cursor, depth: usize, he
         return bracketed(s, code, pool, c, next, depth, held);
     }
     if tokens::is_digit(b) {
-        let d = tokens::digits(s, at + 1, tokens::wide(b) - 48);
+        let d = tokens::digits(s, at + 1, u64::from(b - 48));
         let v = d.value;
         if 4294967295 < v {
-            return Answer::Bad;
+            return None;
         }
         let next = tokens::skip(s, d.at);
-        return Answer::Read(number_read(s, code, pool, c, depth, held, v, next));
+        return Some(number_read(s, code, pool, c, depth, held, v, next));
     }
-    let i = tokens::name_of(b);
-    if 2 < i {
-        return Answer::Bad;
-    }
+    let i = tokens::name_of(b)?;
     let next = tokens::skip(s, at + 1);
-    Answer::Read(name_read(s, code, pool, c, depth, held, i, next))
+    Some(name_read(s, code, pool, c, depth, held, i, next))
 }
 
 // What follows an opening bracket: a sum, one deeper, and the closing bracket. None is read where 16 are open.
@@ -201,23 +163,16 @@ fn bracketed(
     next: usize,
     depth: usize,
     held: usize,
-) -> Answer
+) -> Option<Cursor>
     requires { Ready 0 s.now code.old pool.old c depth held × AfterSign s.now c next }
     ensures { BracketedIs s.now code.old pool.old c next depth held code.new pool.new result }
 {
     if 16 <= depth {
-        return Answer::Bad;
+        return None;
     }
-    let inner = sum(s, code, pool, moved(c, next), depth + 1, held);
-    let Answer::Read(r) = inner else {
-        return Answer::Bad;
-    };
-    let at = r.at;
-    let f = tokens::close_sign(s, at);
-    let Follow::Sign(_, end) = f else {
-        return Answer::Bad;
-    };
-    Answer::Read(moved(r, end))
+    let r = sum(s, code, pool, Cursor { at: next, ..c }, depth + 1, held)?;
+    let end = tokens::close_sign(s, r.at)?;
+    Some(Cursor { at: end, ..r })
 }
 
 // A factor, and signs and factors after it. `op` is the sign that waits for its right operand, 0 before the first.
@@ -229,7 +184,7 @@ fn product(
     c: Cursor,
     depth: usize,
     held: usize,
-) -> Answer
+) -> Option<Cursor>
     requires { Ready 0 s.now code.old pool.old c depth held }
     ensures { ProductIs s.now code.old pool.old c depth held code.new pool.new result }
 {
@@ -237,19 +192,14 @@ fn product(
     let mut op = 0u8;
     let mut under = held;
     loop {
-        let a = factor(s, code, pool, done, depth, under);
-        let Answer::Read(r) = a else {
-            return Answer::Bad;
-        };
+        let r = factor(s, code, pool, done, depth, under)?;
         let q = completed(code, r, op);
-        let at = q.at;
-        let f = tokens::product_sign(s, at);
-        let Follow::Sign(o, next) = f else {
-            return Answer::Read(q);
+        let Some(sign) = tokens::product_sign(s, q.at) else {
+            return Some(q);
         };
-        op = o;
+        op = sign.opcode;
         under = held + 1;
-        done = moved(q, next);
+        done = Cursor { at: sign.at, ..q };
     }
 }
 
@@ -262,7 +212,7 @@ pub(crate) fn sum(
     c: Cursor,
     depth: usize,
     held: usize,
-) -> Answer
+) -> Option<Cursor>
     requires { Ready 0 s.now code.old pool.old c depth held }
     ensures { SumIs s.now code.old pool.old c depth held code.new pool.new result }
 {
@@ -270,18 +220,13 @@ pub(crate) fn sum(
     let mut op = 0u8;
     let mut under = held;
     loop {
-        let a = product(s, code, pool, done, depth, under);
-        let Answer::Read(r) = a else {
-            return Answer::Bad;
-        };
+        let r = product(s, code, pool, done, depth, under)?;
         let q = completed(code, r, op);
-        let at = q.at;
-        let f = tokens::sum_sign(s, at);
-        let Follow::Sign(o, next) = f else {
-            return Answer::Read(q);
+        let Some(sign) = tokens::sum_sign(s, q.at) else {
+            return Some(q);
         };
-        op = o;
+        op = sign.opcode;
         under = held + 1;
-        done = moved(q, next);
+        done = Cursor { at: sign.at, ..q };
     }
 }

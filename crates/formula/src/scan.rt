@@ -6,13 +6,6 @@ ghost use Rattle.formula.specs.Scans.{Legal, Moves, ScanIs};
 
 use crate::tokens::is_digit;
 
-// Where a line stops making sense, or how deep the brackets of one in the grammar go.
-#[derive(Clone, Copy)]
-pub enum Scan {
-    Stops(usize),
-    Deepest(usize),
-}
-
 // Where the pass stands: the factors that must come, 1 or 0; the value of the number so far; the brackets that are open, and the most that
 // were. The value is 0 where a factor must come, and `FULL` where no digit may follow.
 #[derive(Clone, Copy)]
@@ -26,13 +19,6 @@ pub struct State {
 // Too large with one digit more.
 const FULL: u64 = 4294967296;
 
-// One byte more: it can't stand there, or the pass goes on.
-#[derive(Clone, Copy)]
-pub enum Next {
-    Refused,
-    To(State),
-}
-
 fn is_name(c: u8) -> bool
     ensures { result ≡ is_name c }
 {
@@ -45,84 +31,80 @@ fn is_sign(c: u8) -> bool
     (c == 43) | (c == 45) | (c == 42) | (c == 47)
 }
 
-// A digit, of a number that begins here or goes on.
-fn on_digit(c: u8, at: State) -> Next
+// One byte more; none where it can't stand there. Here a digit, of a number that begins here or goes on.
+fn on_digit(c: u8, at: State) -> Option<State>
     requires { Legal at × (is_digit c ≡ true) }
     ensures { Moves at c result }
 {
-    let value = 10 * at.value + ((c - 48) as u64);
+    let value = 10 * at.value + u64::from(c - 48);
     if 4294967295 < value {
-        return Next::Refused;
+        return None;
     }
-    Next::To(State {
+    Some(State {
         wanted: 0,
         value,
-        brackets: at.brackets,
-        deepest: at.deepest,
+        ..at
     })
 }
 
 // A byte where a factor must come.
-fn in_front(c: u8, at: State) -> Next
+fn in_front(c: u8, at: State) -> Option<State>
     requires { Legal at × (0 < at.wanted) × (is_digit c ≡ false) × (at.brackets + 1 < 2 ^ 64) }
     ensures { Moves at c result }
 {
     if is_name(c) {
-        return Next::To(State {
+        return Some(State {
             wanted: 0,
             value: FULL,
-            brackets: at.brackets,
-            deepest: at.deepest,
+            ..at
         });
     }
     if c == 40 {
         let open = at.brackets + 1;
-        let deepest = at.deepest;
-        return Next::To(State {
+        return Some(State {
             wanted: 1,
             value: 0,
             brackets: open,
-            deepest: if deepest < open { open } else { deepest },
+            deepest: at.deepest.max(open),
         });
     }
     if (c == 32) | (c == 45) {
-        return Next::To(at);
+        return Some(at);
     }
-    Next::Refused
+    None
 }
 
 // A byte where a factor is complete, or where the digits so far make one.
-fn behind(c: u8, at: State) -> Next
+fn behind(c: u8, at: State) -> Option<State>
     requires { Legal at × (at.wanted ≡ 0) × (is_digit c ≡ false) }
     ensures { Moves at c result }
 {
     let mut open = at.brackets;
     if is_sign(c) {
-        return Next::To(State {
+        return Some(State {
             wanted: 1,
             value: 0,
-            brackets: open,
-            deepest: at.deepest,
+            ..at
         });
     }
     if c == 41 {
         if open == 0 {
-            return Next::Refused;
+            return None;
         }
         open -= 1;
     } else if c != 32 {
-        return Next::Refused;
+        return None;
     }
-    Next::To(State {
+    Some(State {
         wanted: 0,
         value: FULL,
         brackets: open,
-        deepest: at.deepest,
+        ..at
     })
 }
 
 // Any byte.
-fn step(c: u8, at: State) -> Next
+fn step(c: u8, at: State) -> Option<State>
     requires { Legal at × (at.brackets + 1 < 2 ^ 64) }
     ensures { Moves at c result }
 {
@@ -135,8 +117,8 @@ fn step(c: u8, at: State) -> Next
     in_front(c, at)
 }
 
-// The whole line. Where it ends too early, it stops at its end.
-pub fn scan_line(line: &[u8]) -> Scan
+// The whole line: how deep the brackets of one in the grammar go; or where another stops making sense, its end where it ends too early.
+pub fn scan_line(line: &[u8]) -> Result<usize, usize>
     ensures { ScanIs line.now result }
 {
     let mut at = State {
@@ -145,16 +127,14 @@ pub fn scan_line(line: &[u8]) -> Scan
         brackets: 0,
         deepest: 0,
     };
-    let mut i = 0;
-    while i < line.len() {
-        let Next::To(next) = step(line[i], at) else {
-            return Scan::Stops(i);
+    for i in 0..line.len() {
+        let Some(next) = step(line[i], at) else {
+            return Err(i);
         };
         at = next;
-        i += 1;
     }
     if (at.wanted != 0) | (at.brackets != 0) {
-        return Scan::Stops(i);
+        return Err(line.len());
     }
-    Scan::Deepest(at.deepest)
+    Ok(at.deepest)
 }

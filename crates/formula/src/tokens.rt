@@ -19,9 +19,9 @@ pub struct Minuses {
 
 // The sign that goes on with a part: its opcode, and the place after it and the spaces that follow.
 #[derive(Clone, Copy)]
-pub enum Follow {
-    Nothing,
-    Sign(u8, usize),
+pub struct Follow {
+    pub opcode: u8,
+    pub at: usize,
 }
 
 pub fn is_digit(c: u8) -> bool
@@ -35,20 +35,12 @@ pub fn skip(s: &[u8], at: usize) -> usize
     requires { at ≤ length s.now }
     ensures { Skipped s.now at result }
 {
-    let mut i = at;
-    while i < s.len() {
+    for i in at..s.len() {
         if s[i] != 32 {
             return i;
         }
-        i += 1;
     }
-    i
-}
-
-pub fn wide(x: u8) -> u64
-    ensures { result ≡ x }
-{
-    x as u64
+    s.len()
 }
 
 // One digit more; a value that is too large stays.
@@ -59,7 +51,7 @@ fn grown(v: u64, c: u8) -> u64
     if 4294967295 < v {
         return v;
     }
-    10 * v + (wide(c) - 48)
+    10 * v + u64::from(c - 48)
 }
 
 // The first place from `at` on that holds no zero; `at` itself after a first digit that is not zero.
@@ -70,14 +62,12 @@ fn past_zeros(s: &[u8], at: usize, first: u64) -> usize
     if first != 0 {
         return at;
     }
-    let mut i = at;
-    while i < s.len() {
+    for i in at..s.len() {
         if s[i] != 48 {
             return i;
         }
-        i += 1;
     }
-    i
+    s.len()
 }
 
 // The digits from `at` on, after a first one of value `first`.
@@ -85,28 +75,26 @@ pub fn digits(s: &[u8], at: usize, first: u64) -> Numeral
     requires { (at ≤ length s.now) × (first < 10) }
     ensures { Counted s.now at first result.value result.at }
 {
-    let mut v = first;
-    let mut i = past_zeros(s, at, first);
-    while i < s.len() {
+    let mut value = first;
+    for i in past_zeros(s, at, first)..s.len() {
         let c = s[i];
         if !is_digit(c) {
-            return Numeral { value: v, at: i };
+            return Numeral { value, at: i };
         }
-        v = grown(v, c);
-        i += 1;
+        value = grown(value, c);
     }
-    Numeral { value: v, at: i }
+    Numeral { value, at: s.len() }
 }
 
-// The parameter that a byte names; 3 where it names none.
-pub fn name_of(c: u8) -> u32
+// The parameter that a byte names.
+pub fn name_of(c: u8) -> Option<u32>
     ensures { result ≡ name_of c }
 {
     match c {
-        114 => 0,
-        103 => 1,
-        98 => 2,
-        _ => 3,
+        114 => Some(0),
+        103 => Some(1),
+        98 => Some(2),
+        _ => None,
     }
 }
 
@@ -115,6 +103,7 @@ pub fn skip_minuses(s: &[u8], at: usize) -> Minuses
     requires { at ≤ length s.now }
     ensures { AfterMinuses s.now at result.count result.at }
 {
+    // Spaces between are skipped in one step, so no `for` steps as this place does.
     let mut n = 0;
     let mut i = at;
     while i < s.len() {
@@ -127,50 +116,62 @@ pub fn skip_minuses(s: &[u8], at: usize) -> Minuses
     Minuses { count: n, at: i }
 }
 
-pub fn product_sign(s: &[u8], at: usize) -> Follow
+pub fn product_sign(s: &[u8], at: usize) -> Option<Follow>
     requires { at ≤ length s.now }
     ensures { ProductFollow s.now at result }
 {
     if s.len() <= at {
-        return Follow::Nothing;
+        return None;
     }
     let c = s[at];
     if c == 42 {
-        return Follow::Sign(13, skip(s, at + 1));
+        return Some(Follow {
+            opcode: 13,
+            at: skip(s, at + 1),
+        });
     }
     if c == 47 {
-        return Follow::Sign(15, skip(s, at + 1));
+        return Some(Follow {
+            opcode: 15,
+            at: skip(s, at + 1),
+        });
     }
-    Follow::Nothing
+    None
 }
 
-pub fn sum_sign(s: &[u8], at: usize) -> Follow
+pub fn sum_sign(s: &[u8], at: usize) -> Option<Follow>
     requires { at ≤ length s.now }
     ensures { SumFollow s.now at result }
 {
     if s.len() <= at {
-        return Follow::Nothing;
+        return None;
     }
     let c = s[at];
     if c == 43 {
-        return Follow::Sign(11, skip(s, at + 1));
+        return Some(Follow {
+            opcode: 11,
+            at: skip(s, at + 1),
+        });
     }
     if c == 45 {
-        return Follow::Sign(12, skip(s, at + 1));
+        return Some(Follow {
+            opcode: 12,
+            at: skip(s, at + 1),
+        });
     }
-    Follow::Nothing
+    None
 }
 
 // The closing bracket; it has no opcode.
-pub fn close_sign(s: &[u8], at: usize) -> Follow
+pub fn close_sign(s: &[u8], at: usize) -> Option<usize>
     requires { at ≤ length s.now }
     ensures { CloseFollow s.now at result }
 {
     if s.len() <= at {
-        return Follow::Nothing;
+        return None;
     }
     if s[at] == 41 {
-        return Follow::Sign(0, skip(s, at + 1));
+        return Some(skip(s, at + 1));
     }
-    Follow::Nothing
+    None
 }

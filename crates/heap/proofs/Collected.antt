@@ -9,7 +9,8 @@ use Rattle.rules.specs.Heap.{Heap, having, lowest_run, swept, packed}
 use Rattle.heap.specs.declared.Shelf.{Shelf}
 use Rattle.heap.specs.declared.Grant.{Grant}
 use Rattle.heap.specs.declared.Room.{Room}
-use Rattle.heap.specs.declared.Room.TheVariants.{From, Nowhere}
+use Rattle.std.specs.Prelude.{Some, None}
+use Rattle.std.specs.declared.option.Option as found
 use Rattle.heap.specs.Blocks.{heap_of, Sane}
 use Rattle.heap.specs.Changes.{Makes}
 use Rattle.heap.specs.Rooms.{Finds}
@@ -70,19 +71,19 @@ module _ (size : ℕ) (k : Shelf) (d p t : List ℕ) (st : List Slot) (n : ℕ) 
   none_left false m e = m.heap
   none_left true m e = ap (λ (z : Heap). having z (packed z.blocks)) m.heap ∙ rw (run_is m none e) refl
 
-  pub source_room : (g : Bool) → Makes size q d p t p₁ t₁ (swept_for g st h) → (c low top : ℕ) → Finds size q d p₁ t₁ n (From c low top) → left ≡ source g n st h
-  source_room g m c low top f = some_left g m c f.is
+  pub source_room : (g : Bool) → Makes size q d p t p₁ t₁ (swept_for g st h) → (a : Room) → Finds size q d p₁ t₁ n (Some a) → left ≡ source g n st h
+  source_room g m a f = some_left g m a.first f.is
 
-  pub source_none : (g : Bool) → Makes size q d p t p₁ t₁ (swept_for g st h) → Finds size q d p₁ t₁ n Nowhere → packed_for g left ≡ source g n st h
+  pub source_none : (g : Bool) → Makes size q d p t p₁ t₁ (swept_for g st h) → Finds size q d p₁ t₁ n None → packed_for g left ≡ source g n st h
   source_none g m f = none_left g m f.is
 
 -- what was found, as it is known
-pub found_as : {size : ℕ} {k : Shelf} {d p t : List ℕ} {n : ℕ} {r o : Room} → r ≡ o → Finds size k d p t n r → Finds size k d p t n o
-found_as {size} {k} {d} {p} {t} {n} e f = subst (λ (x : Room). Finds size k d p t n x) e f
+pub found_as : {size : ℕ} {k : Shelf} {d p t : List ℕ} {n : ℕ} {r o : found.Option Room} → r ≡ o → Finds size k d p t n r → Finds size k d p t n o
+found_as {size} {k} {d} {p} {t} {n} e f = subst (λ (x : found.Option Room). Finds size k d p t n x) e f
 
-pub found_of : {size : ℕ} {k : Shelf} {d p t : List ℕ} {n w : ℕ} {r : Room} → n ≡ w → Finds size k d p t n r → Finds size k d p t w r
+pub found_of : {size : ℕ} {k : Shelf} {d p t : List ℕ} {n w : ℕ} {r : found.Option Room} → n ≡ w → Finds size k d p t n r → Finds size k d p t w r
 found_of {size} {k} {d} {p} {t} {n} {w} {r} e f = subst (λ (x : ℕ). Finds size k d p t x r) e f
 
 -- an entry is left where there is a run
-pub room_of_lem : {size : ℕ} {k : Shelf} {d p t : List ℕ} {n c low top : ℕ} → Sane size k d p t → Finds size k d p t n (From c low top) → 1 ≤ n → k.count < size
+pub room_of_lem : {size : ℕ} {k : Shelf} {d p t : List ℕ} {n : ℕ} {a : Room} → Sane size k d p t → Finds size k d p t n (Some a) → 1 ≤ n → k.count < size
 room_of_lem s f wide = room_left s.laid f.fits wide

@@ -13,7 +13,8 @@ use Rattle.rules.specs.Heap.{Heap, place_for, serial_limit}
 use Rattle.heap.specs.declared.Entry.{Entry}
 use Rattle.heap.specs.declared.Shelf.{Shelf}
 use Rattle.heap.specs.declared.Room.{Room}
-use Rattle.heap.specs.declared.Room.TheVariants.{From, Nowhere}
+use Rattle.std.specs.Prelude.{Some, None}
+use Rattle.std.specs.declared.option.Option as found
 use Rattle.heap.specs.declared.Grant.{Grant}
 use Rattle.heap.specs.Blocks.{entry_at, size_in, listed_as, width_in, heap_of, Sane}
 use Rattle.heap.specs.Changes.{EntryPut, Makes}
@@ -50,27 +51,27 @@ module _ (size : ℕ) (k : Shelf) (d p t : List ℕ) (s : Sane size k d p t) whe
   pub new_spent : (g : Bool) (n : ℕ) → serial_limit ≤ k.next → Grants size k d p t t g n (null_grant k)
   new_spent g n o = refused g n (rw (le-ltb k.next serial_limit o) refl)
 
-  module _ (g : Bool) (n w : ℕ) (en : w ≡ size_in d n) (below : k.next < serial_limit) (r : Room) (f : Finds size k d p t w r) where
+  module _ (g : Bool) (n w : ℕ) (en : w ≡ size_in d n) (below : k.next < serial_limit) (r : found.Option Room) (f : Finds size k d p t w r) where
     place_is : place_for h (size_in d n) ≡ room_of r
     place_is = rw (lt-ltb k.next serial_limit below, ← en) (sym f.is)
 
-    pub new_none : r ≡ Nowhere → Grants size k d p t t g n (null_grant k)
+    pub new_none : r ≡ None → Grants size k d p t t g n (null_grant k)
     new_none e = refused g n (place_is ∙ ap room_of e)
 
-    module _ (c low top : ℕ) (e : r ≡ From c low top) (wide : 1 ≤ w) where
-      fit : Fitting (width_in d) (entry_at t) size k.count k.top w c low top
+    module _ (a : Room) (e : r ≡ Some a) (wide : 1 ≤ w) where
+      fit : Fitting (width_in d) (entry_at t) size k.count k.top w a.first a.low a.top
       fit = rw e at f.fits
 
       pub new_room : k.count < size
       new_room = room_left s.laid fit wide
 
-      pub new_block : (t' : List ℕ) (l : ℕ) → l ≡ listed_as g n → n < 64 → EntryPut t' t k.count (record { serial = k.next; first = c; listed = l })
-          → Grants size k d p t t' g n (record { address = k.next * 65536; shelf = record { count = k.count + 1; next = k.next + 1; low = low; top = top } })
+      pub new_block : (t' : List ℕ) (l : ℕ) → l ≡ listed_as g n → n < 64 → EntryPut t' t k.count (record { serial = k.next; first = a.first; listed = l })
+          → Grants size k d p t t' g n (record { address = k.next * 65536; shelf = record { count = k.count + 1; next = k.next + 1; low = a.low; top = a.top } })
       new_block t' l el low-type put =
           let back = listed_back g n low-type in
           let of_w : width_in d l ≡ w = ap (width_in d) el ∙ listed_width d g n low-type ∙ sym en in
           let known : l < 128 = omega (arith, el, back.2) in
-          let added : Entry = record { serial = k.next; first = c; listed = l } in
+          let added : Entry = record { serial = k.next; first = a.first; listed = l } in
           let type_is : l % 64 ≡ n = ap (λ (x : ℕ). x % 64) el ∙ back.0 in
           let managed_is : leb 64 l ≡ g = ap (leb 64) el ∙ back.1 in
           record {
@@ -97,9 +98,9 @@ module _ (size : ℕ) (k : Shelf) (d p t : List ℕ) (s : Sane size k d p t) whe
           }
 
   -- no run: null, whether serials are left or not
-  pub new_nowhere : (g : Bool) (n w : ℕ) → w ≡ size_in d n → Finds size k d p t w Nowhere → Grants size k d p t t g n (null_grant k)
+  pub new_nowhere : (g : Bool) (n w : ℕ) → w ≡ size_in d n → Finds size k d p t w None → Grants size k d p t t g n (null_grant k)
   new_nowhere g n w en f =
       ⊎_elim
-      (λ (a : k.next < serial_limit). new_none g n w en a Nowhere f refl)
+      (λ (a : k.next < serial_limit). new_none g n w en a None f refl)
       (λ (a : serial_limit ≤ k.next). new_spent g n a)
       (split_lt k.next serial_limit)

@@ -1,5 +1,5 @@
 -- What the search for a free run answers.
-use Prim.Native.Nat.{ℕ, suc, ◌+◌, ◌≤◌, ◌<◌}
+use Prim.Native.Nat.{ℕ, suc, ◌+◌, ◌≤◌, ◌<◌, max}
 use native.Mathlib.Omega.{arith}
 use mathlib.Core.Path.{◌≡◌, sym, ◌∙◌}
 use mathlib.Core.Bool.{false}
@@ -9,9 +9,8 @@ use lib.ListN.{get_or}
 use Rattle.rules.specs.Heap.{free, lowest_run}
 use Rattle.heap.specs.declared.Entry.{Entry}
 use Rattle.heap.specs.declared.Shelf.{Shelf}
-use Rattle.heap.specs.declared.Found.{Found}
-use Rattle.heap.specs.declared.Found.TheVariants.{At, Nothing}
-use Rattle.heap.specs.declared.Room.TheVariants.{From, Nowhere}
+use Rattle.std.specs.Prelude.{Some, None}
+use Rattle.std.specs.declared.option.Option.{Option}
 use Rattle.heap.specs.Blocks.{cell_in, entry_at, width_in, heap_of, end_of, Sane}
 use Rattle.heap.specs.Rooms.{Filled, Marked, Gap, Risen, Finds}
 use Rattle.heap.proofs.Stores.{split_lt}
@@ -26,7 +25,7 @@ module _ (size : ℕ) (k : Shelf) (d p t : List ℕ) (n : ℕ) (s : Sane size k 
 
   -- no cell below top is free
   module _ (e : k.low ≡ k.top) where
-    pub fast_none : size < k.top + n → Finds size k d p t n Nowhere
+    pub fast_none : size < k.top + n → Finds size k d p t n None
     unfolding lowest_run
     fast_none o =
         record {
@@ -37,7 +36,7 @@ module _ (size : ℕ) (k : Shelf) (d p t : List ℕ) (n : ℕ) (s : Sane size k 
           fits = tt;
         }
 
-    pub fast_some : k.top + n ≤ size → Finds size k d p t n (From k.top (k.top + n) (k.top + n))
+    pub fast_some : k.top + n ≤ size → Finds size k d p t n (Some (record { first = k.top; low = k.top + n; top = k.top + n }))
     unfolding lowest_run
     fast_some o =
         record {
@@ -61,7 +60,7 @@ module _ (size : ℕ) (k : Shelf) (d p t : List ℕ) (n : ℕ) (s : Sane size k 
     not_blocked b l o =
         free_not (width_in d) (cell_in p) (entry_at t) size k.count k.next n b h (λ f. o (λ x a c. m.used x (omega (arith, s.small)) (f x a c)))
 
-    pub slow_none : Gap u k.low size n Nothing → Finds size k d p t n Nowhere
+    pub slow_none : Gap u k.low size n None → Finds size k d p t n None
     unfolding lowest_run
     slow_none g =
         record {
@@ -75,8 +74,8 @@ module _ (size : ℕ) (k : Shelf) (d p t : List ℕ) (n : ℕ) (s : Sane size k 
           fits = tt;
         }
 
-    pub slow_some : (c : ℕ) (v : List ℕ) (low top : ℕ) → Gap u k.low size n (At c) → Filled v u c (c + n)
-        → (k.top ≤ top) × (c + n ≤ top) × ((top ≤ k.top) ⊎ (top ≤ c + n)) → Risen v k.low top low → Finds size k d p t n (From c low top)
+    pub slow_some : (c : ℕ) (v : List ℕ) (low top : ℕ) → Gap u k.low size n (Some c) → Filled v u c (c + n)
+        → top ≡ max k.top (c + n) → Risen v k.low top low → Finds size k d p t n (Some (record { first = c; low = low; top = top }))
     unfolding lowest_run
     slow_some c v low top g f tops r =
         record {
@@ -90,27 +89,24 @@ module _ (size : ℕ) (k : Shelf) (d p t : List ℕ) (n : ℕ) (s : Sane size k 
                 (λ (a : k.low ≤ x). r.used x a l (f.other x out ∙ m.used x (omega (arith, r.to, s.small, top_size)) fr))
                 (split_lt x k.low);
             low_top = r.to;
-            over = tops.0;
-            end = tops.1;
+            over = omega arith;
+            end = omega arith;
             top_size = top_size;
           };
         }
       where
         top_size : top ≤ size
-        top_size = ⊎_elim (λ (a : top ≤ k.top). omega (arith, s.laid.top_size)) (λ (a : top ≤ c + n). omega (arith, g.1)) tops.2
+        top_size = omega (arith, s.laid.top_size, g.1)
 
         alone : (i : ℕ) → i < k.count → (c + n ≤ (entry_at t i).first) ⊎ (end_of (width_in d) (entry_at t i) ≤ c)
         alone = run_apart (width_in d) (cell_in p) (entry_at t) size k.count k.next n c s.laid.wide (λ x a b. m.free x (omega (arith, g.1, s.small)) (g.2 x a b)) h
 
   -- an answer by its case
-  pub gap_at : (u : List ℕ) (f : Found) (c : ℕ) → Gap u k.low size n f → f ≡ At c → Gap u k.low size n (At c)
+  pub gap_at : (u : List ℕ) (f : Option ℕ) (c : ℕ) → Gap u k.low size n f → f ≡ Some c → Gap u k.low size n (Some c)
   gap_at u f c g e = rw e at g
 
-  pub gap_nothing : (u : List ℕ) (f : Found) → Gap u k.low size n f → f ≡ Nothing → Gap u k.low size n Nothing
+  pub gap_nothing : (u : List ℕ) (f : Option ℕ) → Gap u k.low size n f → f ≡ None → Gap u k.low size n None
   gap_nothing u f g e = rw e at g
 
-  pub tops_below : (c top : ℕ) → c + n ≤ size → (k.top ≤ top) × (c + n ≤ top) × ((top ≤ k.top) ⊎ (top ≤ c + n)) → (k.low ≤ top) × (top ≤ 4096)
-  tops_below c top l o = (
-    omega (arith, o.0, s.laid.low_top),
-    ⊎_elim (λ (a : top ≤ k.top). omega (arith, s.laid.top_size, s.small)) (λ (a : top ≤ c + n). omega (arith, s.small)) o.2,
-  )
+  pub tops_below : (c top : ℕ) → c + n ≤ size → top ≡ max k.top (c + n) → (k.low ≤ top) × (top ≤ 4096)
+  tops_below c top l o = (omega (arith, s.laid.low_top), omega (arith, s.laid.top_size, s.small))

@@ -1,14 +1,12 @@
 -- How the code keeps a heap of the rules: a shelf of four registers, the table's entries by number, the cells by number.
-use Rattle.std.specs.Prelude.{ℕ, zero, suc, ◌+◌, ◌*◌, ◌-◌, ◌%◌, ◌≤◌, ◌<◌, ◌≡◌, Bool, cond, ◌⊎◌, List, [], ◌∷◌, length, leb, ltb}
-use Rattle.std.proofs.Math.Option.{Option, none, some}
+use Rattle.std.specs.Prelude.{ℕ, zero, suc, ◌+◌, ◌*◌, ◌-◌, ◌%◌, ◌≤◌, ◌<◌, ◌≡◌, Bool, cond, ◌⊎◌, List, [], ◌∷◌, length, leb, ltb, Some, None}
 use Rattle.rules.specs.Bytes.{maybe, byte, word}
 use Rattle.rules.specs.Instructions.{num_of}
 use Rattle.rules.specs.Tables.{structure_at}
 use Rattle.rules.specs.Heap.{Block, Heap, serial_limit}
 use Rattle.heap.specs.declared.Entry.{Entry}
 use Rattle.heap.specs.declared.Shelf.{Shelf}
-use Rattle.heap.specs.declared.Found.{Found}
-use Rattle.heap.specs.declared.Found.TheVariants.{At, Nothing}
+use Rattle.std.specs.declared.option.Option.{Option}
 
 -- ---- lent bytes by number: cell c of p, entry i of t
 
@@ -103,11 +101,7 @@ pub record Sane (size : ℕ) (k : Shelf) (d p t : List ℕ) : Type 0 where
 
 -- ---- what a search answers
 
-abbrev pub place_of : Found → Option ℕ
-place_of (At i) = some i
-place_of Nothing = none
-
 -- the entry of serial s among the first n
-abbrev pub Finds : (ℕ → Entry) → ℕ → ℕ → Found → Type 0
-Finds E n s (At i) = (i < n) × ((E i).serial ≡ s)
-Finds E n s Nothing = (i : ℕ) → i < n → (E i).serial ≡ s → ⊥
+abbrev pub Finds : (ℕ → Entry) → ℕ → ℕ → Option ℕ → Type 0
+Finds E n s (Some i) = (i < n) × ((E i).serial ≡ s)
+Finds E n s None = (i : ℕ) → i < n → (E i).serial ≡ s → ⊥

@@ -1,10 +1,10 @@
 -- What `new` and `gcnew` do.
-use Rattle.std.specs.Prelude.{ℕ, ◌≤◌, ◌≡◌, Bool, true, false, List}
+use Rattle.std.specs.Prelude.{ℕ, ◌≤◌, ◌≡◌, Bool, true, false, List, Some}
 use Rattle.rules.specs.declared.Slot.{Slot}
 use Rattle.rules.specs.Heap.{Heap, having, swept, packed, collected, place_for, heap_with, address_given}
 use Rattle.heap.specs.declared.Shelf.{Shelf}
 use Rattle.heap.specs.declared.Grant.{Grant}
-use Rattle.heap.specs.declared.Room.TheVariants.{From}
+use Rattle.heap.specs.declared.Room.{Room}
 use Rattle.heap.specs.Blocks.{size_in, heap_of, Sane}
 use Rattle.heap.specs.Changes.{Makes}
 use Rattle.heap.specs.Rooms.{Finds}
@@ -15,9 +15,9 @@ pub record Grants (size : ℕ) (k : Shelf) (d p t t' : List ℕ) (g : Bool) (n :
   pub address : r.address ≡ address_given (heap_of size k d p t) (place_for (heap_of size k d p t) (size_in d n))
 
 -- the same where a run is at hand, whatever the heap is
-abbrev pub GrantsAt : Shelf → ℕ → ℕ → ℕ → List ℕ → List ℕ → Bool → ℕ → Grant → Type 0
-GrantsAt k c low top t t' g n r =
-    (size : ℕ) (d p : List ℕ) → Sane size k d p t → Finds size k d p t (size_in d n) (From c low top) → 1 ≤ size_in d n → Grants size k d p t t' g n r
+abbrev pub GrantsAt : Shelf → Room → List ℕ → List ℕ → Bool → ℕ → Grant → Type 0
+GrantsAt k a t t' g n r =
+    (size : ℕ) (d p : List ℕ) → Sane size k d p t → Finds size k d p t (size_in d n) (Some a) → 1 ≤ size_in d n → Grants size k d p t t' g n r
 
 -- ---- `gcnew`, where g; else `new`: the heap h after dead blocks are freed, after the others are packed, and the one that n cells are
 -- given from, st being the stack

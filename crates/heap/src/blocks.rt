@@ -6,7 +6,7 @@ ghost use Rattle.heap.specs.Changes.{EntryPut, Makes, Removed, Given};
 ghost use Rattle.rules.specs.Stack.{slots_of};
 ghost use Rattle.heap.specs.Grants.{GrantsAt, Gives, source};
 
-use crate::{Entry, Found, Grant, Room, Shelf, cells, collect, entries, rooms};
+use crate::{Entry, Grant, Room, Shelf, cells, collect, entries, rooms};
 
 // The lent bytes show an empty heap.
 pub fn start(p: &mut [u8], t: &mut [u8], size: usize)
@@ -18,21 +18,19 @@ pub fn start(p: &mut [u8], t: &mut [u8], size: usize)
 }
 
 // The entry of the block that `delete` of an address takes. (size and d are there to say what the heap is.)
-pub fn given(d: &[u8], p: &[u8], t: &[u8], size: usize, k: Shelf, a: u64) -> Found
+pub fn given(d: &[u8], p: &[u8], t: &[u8], size: usize, k: Shelf, a: u64) -> Option<usize>
     requires { Sane size k d.now p.now t.now }
     ensures { Given (heap_of size k d.now p.now t.now) (entry_at t.now) k.count a result }
 {
     if a % 65536 != 0 {
-        return Found::Nothing;
+        return None;
     }
-    let Found::At(i) = entries::find(t, k.count, k.next, a / 65536) else {
-        return Found::Nothing;
-    };
+    let i = entries::find(t, k.count, k.next, a / 65536)?;
     let e = entries::entry_at(t, i);
     if 64 <= e.listed {
-        return Found::Nothing;
+        return None;
     }
-    Found::At(i)
+    Some(i)
 }
 
 // The block of entry i is freed.
@@ -50,18 +48,9 @@ pub fn remove(d: &[u8], p: &mut [u8], t: &mut [u8], size: usize, k: Shelf, i: us
     Shelf {
         count: last,
         next: k.next,
-        low: least(k.low, first),
+        low: k.low.min(first),
         top: lowered(k.top, first, end),
     }
-}
-
-fn least(a: usize, b: usize) -> usize
-    ensures { (result ≤ a) × (result ≤ b) }
-{
-    if a < b {
-        return a;
-    }
-    b
 }
 
 // top, where a block from first to end is gone.
@@ -94,30 +83,21 @@ pub fn new(
     ensures { Gives size d.now p.old t.old p.new t.new (source managed cells (slots_of sp.now st.now h) (heap_of size k d.now p.old t.old)) managed n result }
 {
     let q = collect::freed(managed, d, p, t, size, k, sp, st, h);
-    let room = rooms::place(d, t, size, q, cells);
-    let Room::From(c, low, top) = room else {
+    let Some(room) = rooms::place(d, t, size, q, cells) else {
         return collect::squeezed(managed, d, p, t, size, q, n, cells);
     };
-    grant(t, q, c, low, top, managed, n)
+    grant(t, q, room, managed, n)
 }
 
-// The block from cell c on, unless serials have run out.
-pub fn grant(
-    t: &mut [u8],
-    k: Shelf,
-    c: usize,
-    low: usize,
-    top: usize,
-    managed: bool,
-    n: u64,
-) -> Grant
+// The block in this room, unless serials have run out.
+pub fn grant(t: &mut [u8], k: Shelf, room: Room, managed: bool, n: u64) -> Grant
     requires { (k.count * 24 + 24 ≤ length t.old) × (n < 64) }
-    ensures { GrantsAt k c low top t.old t.new managed n result }
+    ensures { GrantsAt k room t.old t.new managed n result }
 {
     if 281474976710655 <= k.next {
         return null_grant(k);
     }
-    let shelf = give(t, k, c, low, top, listed(managed, n));
+    let shelf = give(t, k, room, listed(managed, n));
     Grant {
         address: k.next * 65536,
         shelf,
@@ -144,10 +124,10 @@ fn listed(managed: bool, n: u64) -> u64
     n
 }
 
-// The entry of a block from cell c on.
-fn give(t: &mut [u8], k: Shelf, c: usize, low: usize, top: usize, listed: u64) -> Shelf
+// The entry of a block in this room.
+fn give(t: &mut [u8], k: Shelf, room: Room, listed: u64) -> Shelf
     requires { (k.count * 24 + 24 ≤ length t.old) × (k.next < 281474976710655) }
-    ensures { EntryPut t.new t.old k.count (record { serial = k.next; first = c; listed = listed }) × (result ≡ record { count = k.count + 1; next = k.next + 1; low = low; top = top }) }
+    ensures { EntryPut t.new t.old k.count (record { serial = k.next; first = room.first; listed = listed }) × (result ≡ record { count = k.count + 1; next = k.next + 1; low = room.low; top = room.top }) }
 {
     let at = k.count;
     let next = k.next;
@@ -156,14 +136,14 @@ fn give(t: &mut [u8], k: Shelf, c: usize, low: usize, top: usize, listed: u64) -
         at,
         Entry {
             serial: next,
-            first: c as u64,
+            first: room.first as u64,
             listed,
         },
     );
     Shelf {
         count: at + 1,
         next: next + 1,
-        low,
-        top,
+        low: room.low,
+        top: room.top,
     }
 }

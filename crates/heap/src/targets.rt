@@ -6,13 +6,13 @@ ghost use Rattle.rules.specs.Heap.{target_of};
 ghost use Rattle.heap.specs.Blocks.{heap_of, Sane};
 ghost use Rattle.heap.specs.Targets.{Shapes, Plain, Aims};
 
-use crate::{Found, Shelf, Target, entries};
+use crate::{Shelf, Target, entries};
 
 pub fn target(d: &[u8], t: &[u8], size: usize, k: Shelf, a: u64) -> Target
     requires { ((p : List ℕ) × Sane size k d.now p t.now) × Plain d.now × (65536 ≤ a) }
     ensures { (p : List ℕ) → Sane size k d.now p t.now → (m : Module) → Shapes m d.now → (st : List Slot) → Aims (target_of m (heap_of size k d.now p t.now) st a) d.now p t.now k.count a result }
 {
-    let Found::At(i) = entries::find(t, k.count, k.next, a / 65536) else {
+    let Some(i) = entries::find(t, k.count, k.next, a / 65536) else {
         return Target::Lost;
     };
     let e = entries::entry_at(t, i);

@@ -12,31 +12,31 @@ use Rattle.rules.specs.declared.Instruction.{Instruction}
 use Rattle.rules.specs.Bytes.{byte, word}
 use Rattle.rules.specs.Instructions.{Opcode, absent, bare, wide, opcode_of, is_absent, instruction_of}
 use Rattle.soundness.specs.Numbering.{key_table}
-use Rattle.keys.specs.declared.Decoded.TheVariants as Decoded
+use Rattle.std.specs.Prelude.{Some, None}
 use Rattle.keys.specs.Keys.{decoded, Says, Known}
 
-pub decoded_end : (code : List ℕ) (q stop : ℕ) → stop ≤ q → Decoded.End ≡ decoded code q stop
+pub decoded_end : (code : List ℕ) (q stop : ℕ) → stop ≤ q → None ≡ decoded code q stop
 unfolding decoded
 decoded_end code q stop h = rw (le-leb stop q h) refl
 
-pub decoded_key : (code : List ℕ) (q stop : ℕ) → q < stop → Decoded.Instruction (byte code q % 64) ≡ decoded code q stop
+pub decoded_key : (code : List ℕ) (q stop : ℕ) → q < stop → Some (byte code q % 64) ≡ decoded code q stop
 unfolding decoded
 decoded_key code q stop h = rw (lt-leb stop q h) refl
 
 module _ (code : List ℕ) (q stop : ℕ) where
-  pub at_end_lem : decoded code q stop ≡ Decoded.End → stop ≤ q
+  pub at_end_lem : decoded code q stop ≡ None → stop ≤ q
   unfolding decoded
   at_end_lem e = go (leb stop q) refl e
     where
-      go : (x : Bool) → leb stop q ≡ x → cond x Decoded.End (Decoded.Instruction (byte code q % 64)) ≡ Decoded.End → stop ≤ q
+      go : (x : Bool) → leb stop q ≡ x → cond x None (Some (byte code q % 64)) ≡ None → stop ≤ q
       go true y f = leb-true stop q y
       go false y f = absurd (let z : ◌≡◌ {A = ℕ} 0 1 = cc in omega arith)
 
-  pub at_key : (b : ℕ) → decoded code q stop ≡ Decoded.Instruction b → (q < stop) × (b ≡ byte code q % 64)
+  pub at_key : (b : ℕ) → decoded code q stop ≡ Some b → (q < stop) × (b ≡ byte code q % 64)
   unfolding decoded
   at_key b e = go (leb stop q) refl e
     where
-      go : (x : Bool) → leb stop q ≡ x → cond x Decoded.End (Decoded.Instruction (byte code q % 64)) ≡ Decoded.Instruction b → (q < stop) × (b ≡ byte code q % 64)
+      go : (x : Bool) → leb stop q ≡ x → cond x None (Some (byte code q % 64)) ≡ Some b → (q < stop) × (b ≡ byte code q % 64)
       go true y f = absurd (let z : ◌≡◌ {A = ℕ} 0 1 = cc in omega arith)
       go false y f = (leb-false stop q y, cc)
 

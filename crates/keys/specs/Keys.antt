@@ -1,5 +1,5 @@
 -- Keys of instructions, at places of the code and in the matches that take them apart.
-use Rattle.std.specs.Prelude.{◌≡◌, ℕ, zero, suc, ◌+◌, ◌%◌, ◌≤◌, Bool, true, false, ◌&&◌, ◌||◌, cond, List, [], ◌∷◌, length, drop, set, leb, eqb}
+use Rattle.std.specs.Prelude.{◌≡◌, ℕ, zero, suc, ◌+◌, ◌%◌, ◌≤◌, Bool, true, false, ◌&&◌, ◌||◌, cond, List, [], ◌∷◌, length, drop, set, leb, eqb, Some, None}
 use Rattle.std.proofs.Math.Option.{some}
 use types.Run.{OneOf}
 use Rattle.rules.specs.declared.Instruction.{Instruction}
@@ -8,14 +8,13 @@ use Rattle.rules.specs.Instructions.{opcode_of, is_absent, instruction_of, size}
 use Rattle.rules.specs.ModuleFile.{edition, code_in}
 use Rattle.soundness.specs.Numbering.{key_table}
 use Rattle.soundness.specs.Translated.{InKeys}
-use Rattle.keys.specs.declared.Decoded.{Decoded}
-use Rattle.keys.specs.declared.Decoded.TheVariants as Decoded
+use Rattle.std.specs.declared.option.Option.{Option}
 
 -- ---- at a place
 
 -- what is decoded at place q of a body that ends at `stop`
-unfoldable pub decoded : List ℕ → ℕ → ℕ → Decoded
-decoded code q stop = cond (leb stop q) Decoded.End (Decoded.Instruction (byte code q % 64))
+unfoldable pub decoded : List ℕ → ℕ → ℕ → Option ℕ
+decoded code q stop = cond (leb stop q) None (Some (byte code q % 64))
 
 -- the bytes at place q of the code are the key of the instruction i and its word, and all of them are there
 pub record Says (code : List ℕ) (q : ℕ) (i : Instruction) : Type 0 where

@@ -44,7 +44,7 @@ fn due_after(due: u32, b: u8) -> u32
     if 0x25 < b {
         return 0;
     }
-    let k = b as u64;
+    let k = u64::from(b);
     if (WIDE >> k) % 2 == 1 {
         return 4;
     }
@@ -61,26 +61,12 @@ fn in_keys(due: u32, b: u8) -> u8
     b
 }
 
-// Four bytes from p on, as they are. All are read before one is written: so the compiler copies them at once.
-fn copy_word(code: &[u8], own: &mut [u8], p: usize)
-    requires { (p + 4 ≤ length code.now) × (p + 4 ≤ length own.old) }
-    ensures { own.new ≡ with_word code.now own.old p }
-{
-    let w = code[p];
-    let x = code[p + 1];
-    let y = code[p + 2];
-    let z = code[p + 3];
-    own[p] = w;
-    own[p + 1] = x;
-    own[p + 2] = y;
-    own[p + 3] = z;
-}
-
 // Puts the code in keys into lent bytes: by instruction where a whole one is left for certain, then byte by byte.
 pub fn translate(code: &[u8], own: &mut [u8])
     requires { length code.now ≤ length own.old }
     ensures { InKeys 1 code.now own.new }
 {
+    // An instruction is one or five bytes, so no `for` steps as this place does.
     let mut p = 0;
     while p + 5 <= code.len() {
         let b = code[p];
@@ -89,16 +75,14 @@ pub fn translate(code: &[u8], own: &mut [u8])
         let operands = due_after(0, b);
         p += 1;
         if operands == 4 {
-            copy_word(code, own, p);
+            own[p..p + 4].copy_from_slice(&code[p..p + 4]);
             p += 4;
         }
     }
     let mut due = 0;
-    while p < code.len() {
-        let b = code[p];
-        let k = in_keys(due, b);
-        own[p] = k;
+    for q in p..code.len() {
+        let b = code[q];
+        own[q] = in_keys(due, b);
         due = due_after(due, b);
-        p += 1;
     }
 }

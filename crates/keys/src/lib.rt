@@ -7,22 +7,15 @@ ghost use Rattle.std.specs.Prelude.{◌≡◌, ◌+◌, ◌≤◌, length};
 ghost use Rattle.rules.specs.Bytes.{word};
 ghost use Rattle.keys.specs.Keys.{decoded};
 
-// A decoded instruction: its key; or the end of its body.
-#[derive(Clone, Copy)]
-pub enum Decoded {
-    Instruction(u8),
-    End,
-}
-
-// The instruction at a place of a body that ends at the place `stop`. A key has six bits, so that a match on all of them has no default.
-pub fn decode(code: &[u8], place: usize, stop: usize) -> Decoded
+// The key of the instruction at a place of a body that ends at the place `stop`; none at its end. A key has six bits, so that a match on all of them has no default.
+pub fn decode(code: &[u8], place: usize, stop: usize) -> Option<u8>
     requires { stop ≤ length code.now }
     ensures { result ≡ decoded code.now place stop }
 {
     if stop <= place {
-        return Decoded::End;
+        return None;
     }
-    Decoded::Instruction(code[place] % 64)
+    Some(code[place] % 64)
 }
 
 // The word behind the key.

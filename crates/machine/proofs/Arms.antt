@@ -9,6 +9,8 @@ use types.Run.{OneOf}
 use lib.ListN.{length}
 use Rattle.rules.specs.declared.Instruction.{Instruction}
 use Rattle.rules.specs.declared.Instruction.TheVariants.{Null, New, Delete, Flea}
+use Rattle.rules.specs.declared.Exception.{Exception}
+use Rattle.rules.specs.Results.{exception_number}
 use Rattle.rules.specs.Bytes.{word, maybe}
 use Rattle.rules.specs.Instructions.{opcode_of, instruction_of, size}
 use Rattle.rules.specs.Tables.{Module}
@@ -52,14 +54,14 @@ module _ (b k cap : ℕ) (r : Registers) (a : Progress) (p t p' t' : List ℕ) (
 
   deferred : {f : List ℕ} → Defers a p t p' t' → Leaves a p t f p' t' f
   deferred x =
-      record { number = 33; stops_with = x.stops_with; says_so = refl; keeps_payloads = x.keeps_payloads; keeps_types = x.keeps_types; keeps_words = refl }
+      record { number = Exception.PointerUnknownAddress; stops_with = x.stops_with; says_so = refl; keeps_payloads = x.keeps_payloads; keeps_types = x.keeps_types; keeps_words = refl }
 
   -- one through a pointer
   pub through : heapless j ≡ false → ((m : Module) → ActsOrDefers cap r a p t p' t' (exec_in m cap j)) → Performs b cap r a p t p' t'
   through h d = same (λ m f k. ⊎_elim (λ x. inl x) (λ x. inr (h, deferred x)) (d m f k))
 
 -- an instruction that no arm does is left with the number of its arm
-module _ (b cap n : ℕ) (says_so : left n ≡ true) (r : Registers) (p t : List ℕ) where
+module _ (b cap : ℕ) (n : Exception) (says_so : left (exception_number n) ≡ true) (r : Registers) (p t : List ℕ) where
   pub leaves : (k : ℕ) (j : ℕ → Instruction) → Wide k j → ((w : ℕ) → heapless (j w) ≡ false) → b ≡ k → Performs b cap r (Stops n) p t p t
   leaves k j q h e i x m f ready = inr (
     subst (λ (i : Instruction). heapless i ≡ false) (same_key b k x.0 (j x.0) i e (q x.0) x.1) (h x.0),

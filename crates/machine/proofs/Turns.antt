@@ -10,6 +10,10 @@ use lib.ListN.{length, get_or, drop}
 use lib.Dec.{eqb}
 use borrow.Author.Tests.{le-leb, lt-leb}
 use Rattle.rules.specs.declared.Instruction.{Instruction}
+use Rattle.rules.specs.declared.Exception.{Exception}
+use Rattle.rules.specs.Results.{exception_number}
+use Rattle.std.specs.Prelude.{Some, None}
+use Rattle.std.specs.declared.option.Option.{Option}
 use Rattle.rules.specs.Bytes.{byte}
 use Rattle.rules.specs.Instructions.{size}
 use Rattle.rules.specs.Tables.{Module}
@@ -33,7 +37,7 @@ use Rattle.state.specs.declared.Registers.{Registers}
 use Rattle.state.specs.declared.Progress.{Progress}
 use Rattle.state.specs.declared.Progress.TheVariants.{Goes, Finishes, Stops}
 use Rattle.machine.specs.declared.Ended.{Ended}
-use Rattle.machine.specs.Ends.{end_with, end_at_stop, Fits, Resumes, Needs, Deferred, left, RunsTo}
+use Rattle.machine.specs.Ends.{end_with, number_of, end_at_stop, Fits, Resumes, Needs, Deferred, left, RunsTo}
 use Rattle.machine.specs.Matches.{Leaves, DoesOrLeaves, Stands, Steps}
 use Rattle.machine.proofs.Heapless.{never_left}
 use Rattle.machine.proofs.Arms.{step_is}
@@ -74,7 +78,7 @@ end_number_lem b false e = rw e refl
 -- how a step comes out: what the rules' step does over every heap; left to who has the heap; or no words for a frame
 abbrev StepOr : Module → ℕ → Registers → Progress → List ℕ → List ℕ → List ℕ → List ℕ → List ℕ → List ℕ → Type 0
 StepOr m cap r a p t f p' t' f' =
-    (DoesOver cap r a p t f p' t' f' (step m cap) × ((n : ℕ) → a ≡ Stops n → left n ≡ true → Needs m r))
+    (DoesOver cap r a p t f p' t' f' (step m cap) × ((n : Exception) → a ≡ Stops n → left (exception_number n) ≡ true → Needs m r))
     ⊎ ((Needs m r × Leaves a p t f p' t' f') ⊎ Lacks a p t f p' t' f')
 
 module _ (file : List ℕ) (readable : refusal file ≡ 0) (cap : ℕ) (r : Registers) (p t f : List ℕ) (g : Fits (read file) cap r p t f) where
@@ -125,7 +129,7 @@ module _ (file : List ℕ) (readable : refusal file ≡ 0) (cap : ℕ) (r : Regi
           go (inl (inl y)) = inl (
             (subst (Does cap r a p t f p' t' f') (is_step s refl) y.0, λ x. sym (is_step (with_heap x s) refl) ∙ y.1 x ∙ ap (onto x) (is_step s refl)),
             λ n e so. decide (heapless i)
-                (λ z. false_true (sym (never_left m cap i z s n (sym y.0.result ∙ ap (λ (q : Progress). next_of q p' t' f') e)) ∙ so))
+                (λ z. false_true (sym (never_left m cap i z s (exception_number n) (sym y.0.result ∙ ap (λ (q : Progress). next_of q p' t' f') e)) ∙ so))
                 (λ z. record { instruction = i; found = here.1; needs = z }),
           )
           go (inl (inr y)) = inr (inl (record { instruction = i; found = here.1; needs = y.0 }, y.1))
@@ -176,7 +180,7 @@ module _ (file : List ℕ) (c : Sections) (cap n : ℕ) (p₀ t₀ f₀ : List �
   -- ---- ways out
 
   -- ended with the number e at the registers r
-  ended : (e : ℕ) → left e ≡ false → ((h : Heap) (k : ℕ) → run m₁ cap rest k (with_heap h s₁) ≡ outcome e k (keeping (memory_of p t r.height) h))
+  ended : (e : Option Exception) → left (number_of e) ≡ false → ((h : Heap) (k : ℕ) → run m₁ cap rest k (with_heap h s₁) ≡ outcome (number_of e) k (keeping (memory_of p t r.height) h))
       → RunsTo m₁ cap n s₀ (end_with e rest r) p₀ t₀ f₀ p t f
   ended e ne x =
       record {
@@ -199,12 +203,12 @@ module _ (file : List ℕ) (c : Sections) (cap n : ℕ) (p₀ t₀ f₀ : List �
       at : (h : Heap) (k : ℕ) (z : ℕ) → end_number (body_in (get_or f r.frame 0)) ≡ z → run m₁ cap rest k (with_heap h s₁) ≡ outcome z k (keeping (memory_of p t r.height) h)
       at h k z e = run_end m₁ cap (with_heap h s₁) rest k l ∙ ap (λ z. outcome z k (keeping (memory_of p t r.height) h)) e
 
-      go : (b : Bool) → eqb (get_or f r.frame 0) 65535 ≡ b → RunsTo m₁ cap n s₀ (cond {A = Ended} b (end_with 0 rest r) (end_with 29 rest r)) p₀ t₀ f₀ p t f
-      go true y = ended 0 refl (λ h k. at h k 0 (end_number_lem (get_or f r.frame 0) true y))
-      go false y = ended 29 refl (λ h k. at h k 29 (end_number_lem (get_or f r.frame 0) false y))
+      go : (b : Bool) → eqb (get_or f r.frame 0) 65535 ≡ b → RunsTo m₁ cap n s₀ (cond {A = Ended} b (end_with None rest r) (end_with (Some Exception.FunctionNoRetInstruction) rest r)) p₀ t₀ f₀ p t f
+      go true y = ended None refl (λ h k. at h k 0 (end_number_lem (get_or f r.frame 0) true y))
+      go false y = ended (Some Exception.FunctionNoRetInstruction) refl (λ h k. at h k 29 (end_number_lem (get_or f r.frame 0) false y))
 
-  pub used_up : r.place < r.stop → rest ≡ 0 → RunsTo m₁ cap n s₀ (end_with 15 rest r) p₀ t₀ f₀ p t f
-  used_up l e = ended 15 refl (λ h k. rw e (run_15 m₁ cap (with_heap h s₁) k l))
+  pub used_up : r.place < r.stop → rest ≡ 0 → RunsTo m₁ cap n s₀ (end_with (Some Exception.AllowanceUsedUp) rest r) p₀ t₀ f₀ p t f
+  used_up l e = ended (Some Exception.AllowanceUsedUp) refl (λ h k. rw e (run_15 m₁ cap (with_heap h s₁) k l))
 
   module _ (l : r.place < r.stop) (ne : rest ≡ 0 → ⊥) (p' t' f' : List ℕ) (ef : length f' ≡ length f) where
     more : rest ≡ suc (rest - 1)
@@ -241,9 +245,9 @@ module _ (file : List ℕ) (c : Sections) (cap n : ℕ) (p₀ t₀ f₀ : List �
           rest_types = d.0.rest_types ∙ g.rest_types;
         }
     goes_on q (inr (inl x)) = absurd (let e : Goes q ≡ Stops x.1.number = x.1.stops_with in let z : ◌≡◌ {A = ℕ} 0 1 = cc in omega arith)
-    goes_on q (inr (inr x)) = absurd (let e : Goes q ≡ Stops 20 = x.stops_with in let z : ◌≡◌ {A = ℕ} 0 1 = cc in omega arith)
+    goes_on q (inr (inr x)) = absurd (let e : Goes q ≡ Stops Exception.StackOverflow = x.stops_with in let z : ◌≡◌ {A = ℕ} 0 1 = cc in omega arith)
 
-    pub returned : (q : Registers) → StepOr m₁ cap r (Finishes q) p t f p' t' f' → RunsTo m₁ cap n s₀ (end_with 0 (rest - 1) q) p₀ t₀ f₀ p' t' f'
+    pub returned : (q : Registers) → StepOr m₁ cap r (Finishes q) p t f p' t' f' → RunsTo m₁ cap n s₀ (end_with None (rest - 1) q) p₀ t₀ f₀ p' t' f'
     unfolding turned
     returned q (inl (d, x)) =
         record {
@@ -259,10 +263,10 @@ module _ (file : List ℕ) (c : Sections) (cap n : ℕ) (p₀ t₀ f₀ : List �
           same_words = ef ∙ g.same_f;
         }
     returned q (inr (inl x)) = absurd (let e : Finishes q ≡ Stops x.1.number = x.1.stops_with in let z : ◌≡◌ {A = ℕ} 0 1 = cc in omega arith)
-    returned q (inr (inr x)) = absurd (let e : Finishes q ≡ Stops 20 = x.stops_with in let z : ◌≡◌ {A = ℕ} 0 1 = cc in omega arith)
+    returned q (inr (inr x)) = absurd (let e : Finishes q ≡ Stops Exception.StackOverflow = x.stops_with in let z : ◌≡◌ {A = ℕ} 0 1 = cc in omega arith)
 
     -- the state is as it was
-    unmoved : state_of r p' t' f' ≡ s₁ → Ready cap r p' t' f' → (e : ℕ) → Resumes m₁ cap n s₀ (end_with e rest r) p' t' f'
+    unmoved : state_of r p' t' f' ≡ s₁ → Ready cap r p' t' f' → (e : Option Exception) → Resumes m₁ cap n s₀ (end_with e rest r) p' t' f'
     unmoved u k e =
         record {
           fits = record { ready = k; fit = subst (Fit m₁ OfKind cap) (sym u) g.fits.fit };
@@ -270,11 +274,11 @@ module _ (file : List ℕ) (c : Sections) (cap n : ℕ) (p₀ t₀ f₀ : List �
         }
 
     -- before an instruction that needs the heap
-    waits : (e : ℕ) → Needs m₁ r → Deferred m₁ (end_with e rest r)
+    waits : (e : Option Exception) → Needs m₁ r → Deferred m₁ (end_with e rest r)
     waits e x = record { more = omega (arith, ne); inside = l; instruction = x }
 
     -- nothing changed, and no run ends with e
-    kept : (e : ℕ) → ((e ≡ 20 → 1536 ≤ length f₀) → left e ≡ false → ⊥) → (left e ≡ true → Needs m₁ r) → p' ≡ p → t' ≡ t → f' ≡ f
+    kept : (e : Option Exception) → ((number_of e ≡ 20 → 1536 ≤ length f₀) → left (number_of e) ≡ false → ⊥) → (left (number_of e) ≡ true → Needs m₁ r) → p' ≡ p → t' ≡ t → f' ≡ f
         → RunsTo m₁ cap n s₀ (end_with e rest r) p₀ t₀ f₀ p' t' f'
     kept e never w ep et ew =
         record {
@@ -290,13 +294,13 @@ module _ (file : List ℕ) (c : Sections) (cap n : ℕ) (p₀ t₀ f₀ : List �
           same_words = ef ∙ g.same_f;
         }
 
-    pub stopped : (e : ℕ) → StepOr m₁ cap r (Stops e) p t f p' t' f' → RunsTo m₁ cap n s₀ (end_with e rest r) p₀ t₀ f₀ p' t' f'
+    pub stopped : (e : Exception) → StepOr m₁ cap r (Stops e) p t f p' t' f' → RunsTo m₁ cap n s₀ (end_with (Some e) rest r) p₀ t₀ f₀ p' t' f'
     unfolding turned
     stopped e (inl (d, x)) =
         record {
-          exact = λ z y h k. ap (λ (u : State). outcome e (k + (n - rest)) (keeping u.memory h)) d.0.unchanged ∙ turn h k (stops e) (over (Stops e) d h);
-          resumes = λ z. unmoved d.0.unchanged d.0.ready e;
-          deferred = λ z. waits e (x e refl z);
+          exact = λ z y h k. ap (λ (u : State). outcome (exception_number e) (k + (n - rest)) (keeping u.memory h)) d.0.unchanged ∙ turn h k (stops (exception_number e)) (over (Stops e) d h);
+          resumes = λ z. unmoved d.0.unchanged d.0.ready (Some e);
+          deferred = λ z. waits (Some e) (x e refl z);
           left = g.left;
           high = d.0.ready.high;
           rest_payloads = d.0.rest_payloads ∙ g.rest_payloads;
@@ -308,8 +312,8 @@ module _ (file : List ℕ) (c : Sections) (cap n : ℕ) (p₀ t₀ f₀ : List �
     stopped e (inr (inl x)) =
         let number : Stops e ≡ Stops x.1.number = x.1.stops_with in
         let is : e ≡ x.1.number = cc in
-        kept e (λ z y. false_true (sym y ∙ ap left is ∙ x.1.says_so)) (λ z. x.0) x.1.keeps_payloads x.1.keeps_types x.1.keeps_words
+        kept (Some e) (λ z y. false_true (sym y ∙ ap (λ (n : Exception). left (exception_number n)) is ∙ x.1.says_so)) (λ z. x.0) x.1.keeps_payloads x.1.keeps_types x.1.keeps_words
     stopped e (inr (inr x)) =
-        let number : Stops e ≡ Stops 20 = x.stops_with in
-        let is : e ≡ 20 = cc in
-        kept e (λ z y. let w : 1536 ≤ length f₀ = z is in omega (arith, x.fewer, g.same_f)) (λ z. false_true (sym (ap left is) ∙ z)) x.keeps_payloads x.keeps_types x.keeps_words
+        let number : Stops e ≡ Stops Exception.StackOverflow = x.stops_with in
+        let is : e ≡ Exception.StackOverflow = cc in
+        kept (Some e) (λ z y. let w : 1536 ≤ length f₀ = z (ap exception_number is) in omega (arith, x.fewer, g.same_f)) (λ z. false_true (sym (ap (λ (n : Exception). left (exception_number n)) is) ∙ z)) x.keeps_payloads x.keeps_types x.keeps_words

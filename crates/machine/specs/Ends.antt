@@ -1,5 +1,5 @@
 -- How a run's end stands in the registers and the lent bytes.
-use Rattle.std.specs.Prelude.{ℕ, ◌+◌, ◌*◌, ◌-◌, ◌≤◌, ◌<◌, ◌≡◌, Bool, true, false, ◌||◌, cond, ◌⊎◌, List, length, get_or, drop, eqb}
+use Rattle.std.specs.Prelude.{ℕ, ◌+◌, ◌*◌, ◌-◌, ◌≤◌, ◌<◌, ◌≡◌, Bool, true, false, ◌||◌, cond, ◌⊎◌, List, length, get_or, drop, eqb, Some, None}
 use Rattle.std.proofs.Math.Option.{some}
 use Rattle.rules.specs.declared.Instruction.{Instruction}
 use Rattle.rules.specs.Tables.{Module}
@@ -10,14 +10,22 @@ use Rattle.soundness.specs.Started.{Fit}
 use Rattle.soundness.specs.Kinds.{OfKind}
 use Rattle.state.specs.State.{memory_of, state_of, Ready}
 use Rattle.state.specs.declared.Registers.{Registers}
+use Rattle.std.specs.declared.option.Option.{Option}
+use Rattle.rules.specs.declared.Exception.{Exception}
+use Rattle.rules.specs.Results.{exception_number}
 use Rattle.machine.specs.declared.Ended.{Ended}
 
-abbrev pub end_with : ℕ → ℕ → Registers → Ended
-end_with n k r = record { number = n; rest = k; last = r }
+-- the number that a run ends with, 0 where it finishes
+abbrev pub number_of : Option Exception → ℕ
+number_of None = 0
+number_of (Some e) = exception_number e
+
+abbrev pub end_with : Option Exception → ℕ → Registers → Ended
+end_with n k r = record { stop = n; rest = k; last = r }
 
 -- at the end of a body
 unfoldable pub end_at_stop : List ℕ → Registers → ℕ → Ended
-end_at_stop f r k = cond (eqb (get_or f r.frame 0) 65535) (end_with 0 k r) (end_with 29 k r)
+end_at_stop f r k = cond (eqb (get_or f r.frame 0) 65535) (end_with None k r) (end_with (Some Exception.FunctionNoRetInstruction) k r)
 
 -- ready in a state that a run can come to
 pub record Fits (m : Module) (cap : ℕ) (r : Registers) (p t f : List ℕ) : Type 0 where
@@ -49,10 +57,10 @@ left n = eqb n 33 || eqb n 36 || eqb n 37
 -- past the capacity, too. A run that met a call for which there were no words lent stands as it was before the call, with the number 20 and
 -- the rest of its steps; one that met an instruction that needs the heap stands before that, with a number that says so
 pub record RunsTo (m : Module) (cap n : ℕ) (s : State) (e : Ended) (p t f p' t' f' : List ℕ) : Type 0 where
-  pub exact : (e.number ≡ 20 → 1536 ≤ length f) → left e.number ≡ false
-      → (h : Heap) (k : ℕ) → outcome e.number (k + (n - e.rest)) (keeping (memory_of p' t' e.last.height) h) ≡ run m cap n k (with_heap h s)
-  pub resumes : (e.number ≡ 20) ⊎ (left e.number ≡ true) → Resumes m cap n s e p' t' f'
-  pub deferred : left e.number ≡ true → Deferred m e
+  pub exact : ((number_of e.stop) ≡ 20 → 1536 ≤ length f) → left (number_of e.stop) ≡ false
+      → (h : Heap) (k : ℕ) → outcome (number_of e.stop) (k + (n - e.rest)) (keeping (memory_of p' t' e.last.height) h) ≡ run m cap n k (with_heap h s)
+  pub resumes : ((number_of e.stop) ≡ 20) ⊎ (left (number_of e.stop) ≡ true) → Resumes m cap n s e p' t' f'
+  pub deferred : left (number_of e.stop) ≡ true → Deferred m e
   pub left : e.rest ≤ n
   pub high : e.last.height ≤ cap
   pub rest_payloads : drop (cap * 8) p' ≡ drop (cap * 8) p

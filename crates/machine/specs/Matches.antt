@@ -2,6 +2,8 @@
 use Rattle.std.specs.Prelude.{ℕ, ◌≡◌, true, false, ◌⊎◌, List, [], ◌∷◌}
 use Rattle.std.proofs.Math.Option.{some}
 use Rattle.rules.specs.declared.Instruction.{Instruction}
+use Rattle.rules.specs.declared.Exception.{Exception}
+use Rattle.rules.specs.Results.{exception_number}
 use Rattle.rules.specs.Bytes.{byte}
 use Rattle.rules.specs.Instructions.{opcode_of, instruction_of}
 use Rattle.rules.specs.Tables.{Module}
@@ -49,9 +51,9 @@ HasKey b i = (w : ℕ) × (instruction_of (opcode_of key_table b) w ≡ some i)
 
 -- an instruction was left to who has the heap, with a number that says so; nothing changed
 pub record Leaves (a : Progress) (p t f p' t' f' : List ℕ) : Type 0 where
-  pub number : ℕ
+  pub number : Exception
   pub stops_with : a ≡ Stops number
-  pub says_so : left number ≡ true
+  pub says_so : left (exception_number number) ≡ true
   pub keeps_payloads : p' ≡ p
   pub keeps_types : t' ≡ t
   pub keeps_words : f' ≡ f

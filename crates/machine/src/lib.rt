@@ -6,49 +6,50 @@ ghost use Rattle.rules.specs.ModuleFile.{read, refusal};
 ghost use Rattle.format.specs.Layout.{Packed};
 ghost use Rattle.keys.specs.Keys.{Keyed};
 ghost use Rattle.state.specs.State.{state_of};
-ghost use Rattle.machine.specs.Ends.{left, end_with, end_at_stop, Fits, RunsTo};
+ghost use Rattle.machine.specs.Ends.{left, number_of, end_at_stop, Fits, RunsTo};
 
 use format::Sections;
-use keys::Decoded;
+use rules::Exception;
 use state::{Progress, Registers};
 
 mod steps;
 
-const ALLOWANCE_USED_UP: u32 = 15;
-
-const FUNCTION_NORETINSTRUCTION: u32 = 29;
-
-// Whether a run ended with this number before an instruction that it left to who has the heap: 33 where a pointer names no slot.
-pub fn left(number: u32) -> bool
-    ensures { result ≡ left number }
+// Whether a run stopped with this before an instruction that it left to who has the heap: an unknown address where a pointer names no
+// slot, and the two exceptions of `steps`.
+pub fn left(stop: Option<Exception>) -> bool
+    ensures { result ≡ left (number_of stop) }
 {
-    number == 33 || number == 36 || number == 37
+    match stop {
+        Some(Exception::PointerUnknownAddress) => true,
+        Some(Exception::PointerNullPointer) => true,
+        Some(Exception::TypeOutOfRange) => true,
+        _ => false,
+    }
 }
 
-// How a run ended: its number, the steps left of the allowance, and the registers then.
+// How a run ended: what stopped it, where it did not finish; the steps left of the allowance; and the registers then.
 #[derive(Clone, Copy)]
 pub struct Ended {
-    pub number: u32,
+    pub stop: Option<Exception>,
     pub rest: u64,
     pub last: Registers,
 }
 
-fn ending(number: u32, rest: u64, last: Registers) -> Ended
-    ensures { result ≡ end_with number rest last }
-{
-    Ended { number, rest, last }
-}
-
-// At the end of the entry, 0; at the end of a function, 29.
+// The entry finishes at its end; a function stops there.
 fn at_end(r: Registers, rest: u64, f: &[u16]) -> Ended
     requires { r.frame < length f.now }
     ensures { result ≡ end_at_stop f.now r rest }
 {
-    let a = r.frame;
-    if f[a] == 65535 {
-        return ending(0, rest, r);
+    let stop = if f[r.frame] == 65535 {
+        None
+    } else {
+        Some(Exception::FunctionNoRetInstruction)
+    };
+    Ended {
+        stop,
+        rest,
+        last: r,
     }
-    ending(FUNCTION_NORETINSTRUCTION, rest, r)
 }
 
 // The run from a state: moment after moment, until it ends, the allowance is used up, or an instruction needs the heap. The code is lent
@@ -72,27 +73,38 @@ pub fn run_from(
     let code = &source[from..];
     let constants = c.pool;
     let pool = &file[constants..];
+    // What counts down is the allowance, and no index: the run itself says where it ends.
     let mut r = first;
     let mut rest = allowance;
     loop {
-        let decoded = keys::decode(code, r.place, r.stop);
-        let Decoded::Instruction(key) = decoded else {
+        let Some(key) = keys::decode(code, r.place, r.stop) else {
             return at_end(r, rest, f);
         };
         if rest == 0 {
-            return ending(ALLOWANCE_USED_UP, rest, r);
+            return Ended {
+                stop: Some(Exception::AllowanceUsedUp),
+                rest,
+                last: r,
+            };
         }
-        let a = steps::step(file, c, pool, code, cap, r, key, p, t, f);
-        match a {
+        match steps::step(file, c, pool, code, cap, r, key, p, t, f) {
             Progress::Goes(q) => {
                 r = q;
                 rest -= 1;
             }
             Progress::Finishes(q) => {
-                return ending(0, rest - 1, q);
+                return Ended {
+                    stop: None,
+                    rest: rest - 1,
+                    last: q,
+                };
             }
             Progress::Stops(e) => {
-                return ending(e, rest, r);
+                return Ended {
+                    stop: Some(e),
+                    rest,
+                    last: r,
+                };
             }
         }
     }

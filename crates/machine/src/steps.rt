@@ -8,21 +8,27 @@ ghost use Rattle.operands.specs.Operands.{Computable};
 ghost use Rattle.state.specs.State.{Ready, ReadyOn};
 ghost use Rattle.machine.specs.Matches.{wides, numerics, Performs, Stands, Steps};
 
+use arithmetic::operators::{
+    Add, And, Div, Idiv, Imod, Imul, Mod, Mul, Or, Sal, Sar, Shl, Shr, Sub, Xor,
+};
+use control::jumps::{Ja, Jae, Jb, Jbe, Je, Jne};
 use format::Sections;
+use rules::Exception;
 use state::{Progress, Registers};
+use values::single::{Count, Neg, Not};
 
-// The instruction is left to who has the heap. Keys that are neighbours have no arm in common, and these numbers are no other
-// exit's, so that the table needs no test of ranges.
-const LEFT: u32 = 36;
+// The instruction is left to who has the heap. Keys that are neighbours have no arm in common, and these exceptions are no other
+// exit's, since with no heap at hand neither is raised, so that the table needs no test of ranges.
+const LEFT: Exception = Exception::PointerNullPointer;
 
-const LEFT_ODD: u32 = 37;
+const LEFT_ODD: Exception = Exception::TypeOutOfRange;
 
 // No run ends with these: a key that is no instruction's is never met.
-const NEVER: u32 = 0;
+const NEVER: Exception = Exception::FieldOutOfRange;
 
-const NEVER_EVEN: u32 = 1;
+const NEVER_EVEN: Exception = Exception::PointerNotStructure;
 
-const NEVER_ODD: u32 = 2;
+const NEVER_ODD: Exception = Exception::PointerWholeStructure;
 
 // On the top operand, on bits, comparisons, conversions; `flea`, `null`, `new`, `delete`, `gcnull`, `gcnew` are left.
 fn single(r: Registers, b: u8, p: &mut [u8], t: &mut [u8]) -> Progress
@@ -32,22 +38,22 @@ fn single(r: Registers, b: u8, p: &mut [u8], t: &mut [u8]) -> Progress
 {
     match b {
         0x02 => moves::stack::pop(r),
-        0x13 => operands::single::neg(r, p, t),
-        0x16 => operands::operators::and(r, p, t),
-        0x17 => operands::operators::or(r, p, t),
-        0x18 => operands::operators::xor(r, p, t),
-        0x19 => operands::single::not(r, p, t),
-        0x1a => operands::operators::shl(r, p, t),
-        0x1b => operands::operators::sal(r, p, t),
-        0x1c => operands::operators::shr(r, p, t),
-        0x1d => operands::operators::sar(r, p, t),
-        0x1e => operands::comparison::cmp(r, p, t),
-        0x1f => operands::comparison::icmp(r, p, t),
+        0x13 => operands::single::change::<Neg>(r, p, t),
+        0x16 => operands::operators::operate::<And>(r, p, t),
+        0x17 => operands::operators::operate::<Or>(r, p, t),
+        0x18 => operands::operators::operate::<Xor>(r, p, t),
+        0x19 => operands::single::change::<Not>(r, p, t),
+        0x1a => operands::operators::operate::<Shl>(r, p, t),
+        0x1b => operands::operators::operate::<Sal>(r, p, t),
+        0x1c => operands::operators::operate::<Shr>(r, p, t),
+        0x1d => operands::operators::operate::<Sar>(r, p, t),
+        0x1e => operands::comparison::compare::<false>(r, p, t),
+        0x1f => operands::comparison::compare::<true>(r, p, t),
         0x2b => operands::single::toi(true, r, p, t),
         0x2c => operands::single::tol(true, r, p, t),
         0x2e => operands::single::tod(r, p, t),
-        0x29 => operands::single::inc(r, p, t),
-        0x2a => operands::single::dec(r, p, t),
+        0x29 => operands::single::change::<Count<true>>(r, p, t),
+        0x2a => operands::single::change::<Count<false>>(r, p, t),
         0x2d => operands::single::tol(false, r, p, t),
         0x2f => operands::single::toi(false, r, p, t),
         0x06 | 0x30 | 0x32 | 0x34 => Progress::Stops(LEFT),
@@ -69,16 +75,16 @@ fn numeric(cap: usize, r: Registers, b: u8, p: &mut [u8], t: &mut [u8]) -> Progr
         0x08 => moves::pointers::tstore(cap, r, p, t),
         0x09 => moves::stack::copy(cap, r, p, t),
         0x0a => moves::stack::swap(cap, r, p, t),
-        0x0b => operands::operators::add(r, p, t),
-        0x0c => operands::operators::sub(r, p, t),
-        0x0d => operands::operators::mul(r, p, t),
-        0x0e => operands::operators::imul(r, p, t),
-        0x0f => operands::operators::div(r, p, t),
-        0x10 => operands::operators::idiv(r, p, t),
-        0x11 => operands::operators::mod_(r, p, t),
-        0x12 => operands::operators::imod(r, p, t),
-        0x14 => operands::pointers::inc(r, p, t),
-        0x15 => operands::pointers::dec(r, p, t),
+        0x0b => operands::operators::operate::<Add>(r, p, t),
+        0x0c => operands::operators::operate::<Sub>(r, p, t),
+        0x0d => operands::operators::operate::<Mul>(r, p, t),
+        0x0e => operands::operators::operate::<Imul>(r, p, t),
+        0x0f => operands::operators::operate::<Div>(r, p, t),
+        0x10 => operands::operators::operate::<Idiv>(r, p, t),
+        0x11 => operands::operators::operate::<Mod>(r, p, t),
+        0x12 => operands::operators::operate::<Imod>(r, p, t),
+        0x14 => operands::pointers::bump::<true>(r, p, t),
+        0x15 => operands::pointers::bump::<false>(r, p, t),
         _ => single(r, b, p, t),
     }
 }
@@ -107,12 +113,12 @@ pub(crate) fn step(
         0x04 => moves::locals::store(code, cap, r, f, p, t),
         0x05 => moves::locals::lea(code, cap, r, f, p, t),
         0x20 => control::jumps::jmp(file, c, code, r, f),
-        0x21 => control::jumps::je(file, c, code, r, p, t, f),
-        0x22 => control::jumps::jne(file, c, code, r, p, t, f),
-        0x23 => control::jumps::ja(file, c, code, r, p, t, f),
-        0x24 => control::jumps::jae(file, c, code, r, p, t, f),
-        0x25 => control::jumps::jb(file, c, code, r, p, t, f),
-        0x26 => control::jumps::jbe(file, c, code, r, p, t, f),
+        0x21 => control::jumps::branch::<Je>(file, c, code, r, p, t, f),
+        0x22 => control::jumps::branch::<Jne>(file, c, code, r, p, t, f),
+        0x23 => control::jumps::branch::<Ja>(file, c, code, r, p, t, f),
+        0x24 => control::jumps::branch::<Jae>(file, c, code, r, p, t, f),
+        0x25 => control::jumps::branch::<Jb>(file, c, code, r, p, t, f),
+        0x26 => control::jumps::branch::<Jbe>(file, c, code, r, p, t, f),
         0x27 => control::calls::call(file, c, code, r, t, f),
         0x28 => control::calls::ret(file, c, r, p, t, f),
         _ => numeric(cap, r, b, p, t),

@@ -1,6 +1,30 @@
 // The same for C: the number is the answer, and what else an answer holds goes through pointers.
+ghost use Rattle.std.specs.Prelude.{◌≡◌};
+ghost use Rattle.rules.specs.Results.{map_answer};
 ghost use Rattle.promises.specs.Promises.{lent_of, lent_heap_of};
 ghost use Rattle.promises.specs.MapPromises.{MapKeeps};
+
+use rules::MapError;
+
+// An answer's number. The rows before the first that did not finish are written with every answer.
+pub fn map_number(answer: Result<u64, MapError>, rows: &mut u64) -> u32
+    ensures { (result ≡ (map_answer answer).number) × (rows.new ≡ (map_answer answer).rows) }
+{
+    match answer {
+        Ok(n) => {
+            *rows = n;
+            0
+        }
+        Err(MapError::Refused(refusal, n)) => {
+            *rows = n;
+            u32::from(refusal)
+        }
+        Err(MapError::Stopped(exception, n)) => {
+            *rows = n;
+            u32::from(exception)
+        }
+    }
+}
 
 // `map` for C. The rows are written with every answer: 13 can come before any row and at a row.
 pub fn host_map(
@@ -30,6 +54,5 @@ pub fn host_map(
         heap,
         blocks,
     );
-    *rows = answer.rows;
-    answer.number
+    map_number(answer, rows)
 }

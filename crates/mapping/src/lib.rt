@@ -2,9 +2,10 @@
 #![tactic(auto)]
 
 ghost use Rattle.promises.specs.Promises.{lent_of, lent_heap_of};
+ghost use Rattle.rules.specs.Results.{map_answer};
 ghost use Rattle.promises.specs.MapPromises.{MapKeeps};
 
-use rules::MapAnswer;
+use rules::MapError;
 
 pub mod host;
 
@@ -21,8 +22,8 @@ pub fn map(
     types: &mut [u8],
     heap: &mut [u8],
     blocks: &mut [u8],
-) -> MapAnswer
-    ensures { MapKeeps file.now function profile arg_payloads.now out.old allowance (lent_of payloads.old types.old) (lent_heap_of heap.old blocks.old) result.number result.rows out.new (lent_of payloads.new types.new) (lent_heap_of heap.new blocks.new) }
+) -> Result<u64, MapError>
+    ensures { MapKeeps file.now function profile arg_payloads.now out.old allowance (lent_of payloads.old types.old) (lent_heap_of heap.old blocks.old) (map_answer result).number (map_answer result).rows out.new (lent_of payloads.new types.new) (lent_heap_of heap.new blocks.new) }
 {
     rows::map(
         file,

@@ -1,12 +1,13 @@
 -- Laws of `word` and `written`, for every width.
-use Prim.Native.Nat.{ℕ, zero, suc, ◌+◌, ◌*◌, ◌/◌, ◌%◌, ◌^◌, ◌-◌, ◌≤◌, ◌<◌}
+use Prim.Native.Nat.{ℕ, zero, suc, ◌+◌, ◌*◌, ◌/◌, ◌^◌, ◌-◌, ◌≤◌, ◌<◌}
 use native.Mathlib.Nat.{pow-suc, add-zero, le_refl}
-use native.Mathlib.Numerals.{add-one, add-two, add-three, add-four, add_five, add_six, add_seven}
 use native.Mathlib.Omega.{arith}
 use mathlib.Core.Path.{◌≡◌, refl, sym, ap, ◌∙◌}
 use mathlib.Core.List.{List, [], ◌∷◌, ◌++◌, append_assoc}
-use lib.ListN.{length, take, drop, get_or, set, length-append, length-drop, take-append-drop, drop_of_length-le}
-use lib.Seq.{sets, sets-eq, take_at, drop_at, take-append-le, drop-append-le, drop-append-add, drop-drop, length-take-le, get_or-drop, take_all}
+use lib.ListN.{length, take, drop, get_or, length-append, length-drop, take-append-drop, drop_of_length-le}
+use lib.Seq.{take_at, drop_at, take-append-le, drop-append-le, drop-append-add, drop-drop, length-take-le, get_or-drop, take_all}
+use borrow.Rule.Slice.PartMut.{put_mid, post_of, Post-is as post_is}
+use Rattle.std.specs.Int.{to_le_bytes, w32, w64}
 use Rattle.rules.specs.Bytes.{number, bytes, word, written}
 
 -- ---- reading byte by byte; bytes past the end count as 0
@@ -60,32 +61,25 @@ pub length_bytes : (n v : ℕ) → length (bytes n v) ≡ n
 length_bytes zero v = refl
 length_bytes (suc n) v = ap suc (length_bytes n (v / 256))
 
-pub put : (n : ℕ) (s : List ℕ) (at v : ℕ) → at + n ≤ length s → sets s at (bytes n v) ≡ written n s at v
+-- the part of a slice from `at` on that holds n bytes, once these are v's
+pub stored : (n : ℕ) (s : List ℕ) (at v : ℕ) (ys : List ℕ) → ys ≡ bytes n v → put_mid at (at + n - at) s ys ≡ written n s at v
 unfolding written
-put n s at v h =
-    sets-eq (bytes n v) s at (rw length_bytes h)
-    ∙ append_assoc (take at s) (bytes n v) (drop (at + length (bytes n v)) s)
-    ∙ ap (λ (k : ℕ). take at s ++ (bytes n v ++ drop (at + k) s)) (length_bytes n v)
+stored n s at v ys q =
+    let k : at ≤ at + n = omega arith in ap (λ (l : List ℕ). take at s ++ (l ++ post_of at (at + n - at) s)) q ∙ ap (λ (l : List ℕ). take at s ++ (bytes n v ++ l)) (post_is at (at + n) s k)
 
-pub put_4 : (s : List ℕ) (at v : ℕ) → at + 4 ≤ length s
-    → set (set (set (set s at (v % 256)) (at + 1) (v / 256 % 256)) (at + 2) (v / 65536 % 256)) (at + 3) (v / 16777216 % 256) ≡ written 4 s at v
-put_4 s at v h =
+pub low_4 : (v : ℕ) → to_le_bytes w32 v ≡ bytes 4 v
+low_4 v =
     let a : v / 256 / 256 ≡ v / 65536 = omega arith in
-    let b : v / 65536 / 256 ≡ v / 16777216 = omega arith in
-    rw (add-one, add-two, add-three) (rw (a, b) at (put 4 s at v h))
+    let b : v / 65536 / 256 ≡ v / 16777216 = omega arith in rw (a, b) refl
 
-pub put_8 : (s : List ℕ) (at v : ℕ) → at + 8 ≤ length s
-    → set (set (set (set (set (set (set (set s at (v % 256)) (at + 1) (v / 256 % 256)) (at + 2) (v / 65536 % 256)) (at + 3) (v / 16777216 % 256))
-    (at + 4) (v / 4294967296 % 256)) (at + 5) (v / 1099511627776 % 256)) (at + 6) (v / 281474976710656 % 256)) (at + 7) (v / 72057594037927936 % 256)
-    ≡ written 8 s at v
-put_8 s at v h =
+pub low_8 : (v : ℕ) → to_le_bytes w64 v ≡ bytes 8 v
+low_8 v =
     let a : v / 256 / 256 ≡ v / 65536 = omega arith in
     let b : v / 65536 / 256 ≡ v / 16777216 = omega arith in
     let d : v / 16777216 / 256 ≡ v / 4294967296 = omega arith in
     let e : v / 4294967296 / 256 ≡ v / 1099511627776 = omega arith in
     let f : v / 1099511627776 / 256 ≡ v / 281474976710656 = omega arith in
-    let g : v / 281474976710656 / 256 ≡ v / 72057594037927936 = omega arith in
-    rw (add-one, add-two, add-three, add-four, add_five, add_six, add_seven) (rw (a, b, d, e, f, g) at (put 8 s at v h))
+    let g : v / 281474976710656 / 256 ≡ v / 72057594037927936 = omega arith in rw (a, b, d, e, f, g) refl
 
 -- ---- a number that was stored is read back, and others are kept
 

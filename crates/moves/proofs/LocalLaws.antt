@@ -7,6 +7,7 @@ use mathlib.Core.List.{List}
 use lib.ListN.{length, get_or, drop, length-drop}
 use lib.Dec.{ltb}
 use borrow.Author.Tests.{le-ltb, lt-ltb, eq-eqb, ne_eqb}
+use Rattle.rules.specs.declared.Exception.TheVariants as Exception
 use Rattle.rules.specs.declared.Slot.{Slot}
 use Rattle.rules.specs.declared.Instruction.TheVariants.{Push, Load, Store, Lea}
 use Rattle.rules.specs.Bytes.{within}
@@ -44,21 +45,21 @@ module _ (cap : ℕ) (r : Registers) (p t f : List ℕ) (k : Ready cap r p t f) 
   -- ---- the top moved to slot x
 
   module _ (x : ℕ) where
-    pub assigned_21 : r.height < r.floor + 1 → Does cap r (Stops 21) p t f p t f (assigned_to x (state_of r p t f))
+    pub assigned_21 : r.height < r.floor + 1 → Does cap r (Stops Exception.StackEmpty) p t f p t f (assigned_to x (state_of r p t f))
     unfolding assigned_to
-    assigned_21 h = stopping cap r p t f k 21 _ (take1_short p t r.floor r.height _ h)
+    assigned_21 h = stopping cap r p t f k Exception.StackEmpty _ (take1_short p t r.floor r.height _ h)
 
     module _ (has : r.floor + 1 ≤ r.height) where
-      pub assigned_26 : r.height - 1 ≤ x → Does cap r (Stops 26) p t f p t f (assigned_to x (state_of r p t f))
+      pub assigned_26 : r.height - 1 ≤ x → Does cap r (Stops Exception.LocalVariableInvalidIndex) p t f p t f (assigned_to x (state_of r p t f))
       unfolding assigned_to
       assigned_26 h =
-          stopping cap r p t f k 26 _ (take1_has p t r.floor r.height _ has ∙ rw (at_slots_out p t (r.height - 1) x h) refl)
+          stopping cap r p t f k Exception.LocalVariableInvalidIndex _ (take1_has p t r.floor r.height _ has ∙ rw (at_slots_out p t (r.height - 1) x h) refl)
 
       module _ (v old : Slot) (top : v ≡ slot_at p t (r.height - 1)) (below : x < r.height - 1) (is : old ≡ slot_at p t x) where
-        pub assigned_22 : (v.kind ≡ old.kind → ⊥) → Does cap r (Stops 22) p t f p t f (assigned_to x (state_of r p t f))
+        pub assigned_22 : (v.kind ≡ old.kind → ⊥) → Does cap r (Stops Exception.StackDifferentType) p t f p t f (assigned_to x (state_of r p t f))
         unfolding assigned_to
         assigned_22 ne =
-            stopping cap r p t f k 22 _
+            stopping cap r p t f k Exception.StackDifferentType _
             (take1_has p t r.floor r.height _ has
             ∙ rw (at_slots p t (r.height - 1) x below, ← top, ← is, ne_eqb v.kind old.kind ne) refl)
 
@@ -73,9 +74,9 @@ module _ (cap : ℕ) (r : Registers) (p t f : List ℕ) (k : Ready cap r p t f) 
   module _ (m : Module) (n : ℕ) where
     -- ---- push
 
-    pub push_23 : m.constant n ≡ none → Does cap r (Stops 23) p t f p t f (exec_in m cap (Push n) (state_of r p t f))
+    pub push_23 : m.constant n ≡ none → Does cap r (Stops Exception.ConstantPoolOutOfRange) p t f p t f (exec_in m cap (Push n) (state_of r p t f))
     unfolding exec_in
-    push_23 e = stopping cap r p t f k 23 _ (rw e refl)
+    push_23 e = stopping cap r p t f k Exception.ConstantPoolOutOfRange _ (rw e refl)
 
     pub push_is : (v : Slot) (a : Progress) (p' t' : List ℕ) → m.constant n ≡ some v
         → Does cap r a p t f p' t' f (pushed_at cap (r.place + 5) v (state_of r p t f)) → Does cap r a p t f p' t' f (exec_in m cap (Push n) (state_of r p t f))
@@ -84,19 +85,19 @@ module _ (cap : ℕ) (r : Registers) (p t f : List ℕ) (k : Ready cap r p t f) 
 
     -- ---- load, lea
 
-    pub load_25 : count ≤ n → Does cap r (Stops 25) p t f p t f (exec_in m cap (Load n) (state_of r p t f))
+    pub load_25 : count ≤ n → Does cap r (Stops Exception.LocalVariableOutOfRange) p t f p t f (exec_in m cap (Load n) (state_of r p t f))
     unfolding exec_in
-    load_25 h = stopping cap r p t f k 25 _ (rw (at_locals_out f r.frame count n h) refl)
+    load_25 h = stopping cap r p t f k Exception.LocalVariableOutOfRange _ (rw (at_locals_out f r.frame count n h) refl)
 
-    pub lea_25 : count ≤ n → Does cap r (Stops 25) p t f p t f (exec_in m cap (Lea n) (state_of r p t f))
+    pub lea_25 : count ≤ n → Does cap r (Stops Exception.LocalVariableOutOfRange) p t f p t f (exec_in m cap (Lea n) (state_of r p t f))
     unfolding exec_in
-    lea_25 h = stopping cap r p t f k 25 _ (rw (at_locals_out f r.frame count n h) refl)
+    lea_25 h = stopping cap r p t f k Exception.LocalVariableOutOfRange _ (rw (at_locals_out f r.frame count n h) refl)
 
     module _ (there : n < count) where
-      pub load_out : r.height ≤ get_or f (r.frame + 4 + n) 0 → Does cap r (Stops 25) p t f p t f (exec_in m cap (Load n) (state_of r p t f))
+      pub load_out : r.height ≤ get_or f (r.frame + 4 + n) 0 → Does cap r (Stops Exception.LocalVariableOutOfRange) p t f p t f (exec_in m cap (Load n) (state_of r p t f))
       unfolding exec_in
       load_out h =
-          stopping cap r p t f k 25 _
+          stopping cap r p t f k Exception.LocalVariableOutOfRange _
           (rw (at_locals f r.frame count n there, at_slots_out p t r.height (get_or f (r.frame + 4 + n) 0) h) refl)
 
       module _ (a : Progress) (p' t' : List ℕ) where
@@ -120,24 +121,24 @@ module _ (cap : ℕ) (r : Registers) (p t f : List ℕ) (k : Ready cap r p t f) 
 
     -- ---- store that binds
 
-    pub store_26 : count ≤ n → (n ≡ count → ⊥) → Does cap r (Stops 26) p t f p t f (exec_in m cap (Store n) (state_of r p t f))
+    pub store_26 : count ≤ n → (n ≡ count → ⊥) → Does cap r (Stops Exception.LocalVariableInvalidIndex) p t f p t f (exec_in m cap (Store n) (state_of r p t f))
     unfolding exec_in
     store_26 h ne =
-        stopping cap r p t f k 26 _
+        stopping cap r p t f k Exception.LocalVariableInvalidIndex _
         (rw (at_locals_out f r.frame count n h, length_locals f r.frame count, ne_eqb n count ne) refl)
 
     module _ (next : n ≡ count) where
-      pub store_16 : 16 ≤ n → Does cap r (Stops 26) p t f p t f (exec_in m cap (Store n) (state_of r p t f))
+      pub store_16 : 16 ≤ n → Does cap r (Stops Exception.LocalVariableInvalidIndex) p t f p t f (exec_in m cap (Store n) (state_of r p t f))
       unfolding exec_in
       store_16 g =
-          stopping cap r p t f k 26 _
+          stopping cap r p t f k Exception.LocalVariableInvalidIndex _
           (rw (at_locals_out f r.frame count n (omega arith), length_locals f r.frame count, eq-eqb n count next, le-ltb n 16 g) refl)
 
       module _ (few : n < 16) where
-        pub store_21 : r.height < r.floor + 1 → Does cap r (Stops 21) p t f p t f (exec_in m cap (Store n) (state_of r p t f))
+        pub store_21 : r.height < r.floor + 1 → Does cap r (Stops Exception.StackEmpty) p t f p t f (exec_in m cap (Store n) (state_of r p t f))
         unfolding exec_in
         store_21 l =
-            stopping cap r p t f k 21 _
+            stopping cap r p t f k Exception.StackEmpty _
             (rw (at_locals_out f r.frame count n (omega arith), length_locals f r.frame count, eq-eqb n count next, lt-ltb n 16 few)
             (take1_short p t r.floor r.height _ l))
 

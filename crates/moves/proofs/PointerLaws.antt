@@ -5,6 +5,7 @@ use mathlib.Core.Bool.{true, false}
 use mathlib.Core.Path.{◌≡◌, refl, ap, ◌∙◌}
 use mathlib.Core.List.{List, [], ◌∷◌}
 use borrow.Author.Tests.{le-leb, eq-eqb, ne_eqb}
+use Rattle.rules.specs.declared.Exception.TheVariants as Exception
 use Rattle.rules.specs.declared.Slot.{Slot}
 use Rattle.rules.specs.declared.Instruction.TheVariants.{Tload, Tstore}
 use Rattle.rules.specs.Instructions.{is_pointer}
@@ -33,16 +34,16 @@ module _ (cap : ℕ) (r : Registers) (p t f : List ℕ) (k : Ready cap r p t f) 
   abbrev loads : Memory → Spot → Slot → Next
   loads M x v = pushing M cap (v ∷ []) (slots_of p t (r.height - 1)) after (state_of r p t f).callers
 
-  pub tload_21 : r.height < r.floor + 1 → DoesOver cap r (Stops 21) p t f p t f (exec_in m cap Tload)
+  pub tload_21 : r.height < r.floor + 1 → DoesOver cap r (Stops Exception.StackEmpty) p t f p t f (exec_in m cap Tload)
   unfolding exec_in
-  tload_21 h = stopping_over cap r p t f k 21 (exec_in m cap Tload) (λ g. take1_short p t r.floor r.height _ h)
+  tload_21 h = stopping_over cap r p t f k Exception.StackEmpty (exec_in m cap Tload) (λ g. take1_short p t r.floor r.height _ h)
 
   module _ (has : r.floor + 1 ≤ r.height) (w : Slot) (top : w ≡ slot_at p t (r.height - 1)) where
     tload_takes : (g : Heap) → exec_in m cap Tload (with_heap g (state_of r p t f)) ≡ deref m (over g) w (slots_of p t (r.height - 1)) (loads (over g))
     unfolding exec_in
     tload_takes g = take1_has p t r.floor r.height _ has ∙ rw (← top) refl
 
-    pub tload_31 : is_pointer w.kind ≡ false → DoesOver cap r (Stops 31) p t f p t f (exec_in m cap Tload)
+    pub tload_31 : is_pointer w.kind ≡ false → DoesOver cap r (Stops Exception.PointerNotPointer) p t f p t f (exec_in m cap Tload)
     tload_31 = named_31 cap r p t f k m Tload w (r.height - 1) loads tload_takes
 
     pub tload_is : (v : Slot) (p' t' : List ℕ) → is_pointer w.kind ≡ true → w.payload < r.height - 1 → v ≡ slot_at p t w.payload
@@ -63,25 +64,25 @@ module _ (cap : ℕ) (r : Registers) (p t f : List ℕ) (k : Ready cap r p t f) 
   abbrev stores : Memory → Spot → Slot → Next
   stores M x old = writing M (slot_at p t (r.height - 1)) old x (slots_of p t (r.height - 2)) after (state_of r p t f).callers
 
-  pub tstore_21 : r.height < r.floor + 2 → DoesOver cap r (Stops 21) p t f p t f (exec_in m cap Tstore)
+  pub tstore_21 : r.height < r.floor + 2 → DoesOver cap r (Stops Exception.StackEmpty) p t f p t f (exec_in m cap Tstore)
   unfolding exec_in
-  tstore_21 h = stopping_over cap r p t f k 21 (exec_in m cap Tstore) (λ g. take2_short p t r.floor r.height _ h)
+  tstore_21 h = stopping_over cap r p t f k Exception.StackEmpty (exec_in m cap Tstore) (λ g. take2_short p t r.floor r.height _ h)
 
   module _ (has : r.floor + 2 ≤ r.height) (w : Slot) (deep : w ≡ slot_at p t (r.height - 2)) where
     tstore_takes : (g : Heap) → exec_in m cap Tstore (with_heap g (state_of r p t f)) ≡ deref m (over g) w (slots_of p t (r.height - 2)) (stores (over g))
     unfolding exec_in
     tstore_takes g = take2_has p t r.floor r.height _ has ∙ rw (← deep) refl
 
-    pub tstore_31 : is_pointer w.kind ≡ false → DoesOver cap r (Stops 31) p t f p t f (exec_in m cap Tstore)
+    pub tstore_31 : is_pointer w.kind ≡ false → DoesOver cap r (Stops Exception.PointerNotPointer) p t f p t f (exec_in m cap Tstore)
     tstore_31 = named_31 cap r p t f k m Tstore w (r.height - 2) stores tstore_takes
 
     module _ (is : is_pointer w.kind ≡ true) (below : w.payload < r.height - 2) (v old : Slot) (top : v ≡ slot_at p t (r.height - 1)) (held : old ≡ slot_at p t w.payload) where
       names : (g : Heap) → exec_in m cap Tstore (with_heap g (state_of r p t f)) ≡ stores (over g) (on_stack w.payload) (slot_at p t w.payload)
       names = named cap r p t f k m Tstore w (r.height - 2) stores tstore_takes is below (omega arith)
 
-      pub tstore_22 : (v.kind ≡ old.kind → ⊥) → DoesOver cap r (Stops 22) p t f p t f (exec_in m cap Tstore)
+      pub tstore_22 : (v.kind ≡ old.kind → ⊥) → DoesOver cap r (Stops Exception.StackDifferentType) p t f p t f (exec_in m cap Tstore)
       tstore_22 ne =
-          stopping_over cap r p t f k 22 (exec_in m cap Tstore) (λ g. names g ∙ rw (← held, ← top, ne_eqb v.kind old.kind ne) refl)
+          stopping_over cap r p t f k Exception.StackDifferentType (exec_in m cap Tstore) (λ g. names g ∙ rw (← held, ← top, ne_eqb v.kind old.kind ne) refl)
 
       pub tstore_is : (p' : List ℕ) → v.kind ≡ old.kind → p' ≡ payloads_with p w.payload v → v.payload < 2 ^ 64
           → DoesOver cap r (Goes (moved_to r (r.place + 1) (r.height - 2))) p t f p' t f (exec_in m cap Tstore)

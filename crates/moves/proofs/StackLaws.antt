@@ -4,6 +4,7 @@ use native.Mathlib.Omega.{arith}
 use mathlib.Core.Path.{◌≡◌, refl, sym, ap, ◌∙◌}
 use mathlib.Core.List.{List, ◌∷◌}
 use borrow.Author.Tests.{le-leb, lt-leb, eq-eqb, ne_eqb}
+use Rattle.rules.specs.declared.Exception.TheVariants as Exception
 use Rattle.rules.specs.declared.Slot.{Slot}
 use Rattle.rules.specs.declared.Unary.TheVariants.{Pop, Copy}
 use Rattle.rules.specs.declared.Binary.TheVariants.{Swap}
@@ -24,9 +25,9 @@ use Rattle.moves.specs.Moves.{pushed_at}
 module _ (cap : ℕ) (r : Registers) (p t f : List ℕ) (k : Ready cap r p t f) where
   -- ---- a slot on top
 
-  pub pushed_full : (q : ℕ) (v : Slot) → cap ≤ r.height → Does cap r (Stops 20) p t f p t f (pushed_at cap q v (state_of r p t f))
+  pub pushed_full : (q : ℕ) (v : Slot) → cap ≤ r.height → Does cap r (Stops Exception.StackOverflow) p t f p t f (pushed_at cap q v (state_of r p t f))
   unfolding pushed_at
-  pushed_full q v h = stopping cap r p t f k 20 _ (simp (length_slots, lt-leb (suc r.height) cap (omega arith)))
+  pushed_full q v h = stopping cap r p t f k Exception.StackOverflow _ (simp (length_slots, lt-leb (suc r.height) cap (omega arith)))
 
   pub pushed_top : (q : ℕ) (v : Slot) (p' t' : List ℕ) → p' ≡ payloads_with p r.height v → t' ≡ types_with t r.height v → v.payload < 2 ^ 64
       → r.height < cap → Does cap r (Goes (moved_to r q (r.height + 1))) p t f p' t' f (pushed_at cap q v (state_of r p t f))
@@ -55,9 +56,9 @@ module _ (cap : ℕ) (r : Registers) (p t f : List ℕ) (k : Ready cap r p t f) 
             (rw (← top, eq-eqb v.kind v.kind refl) (rw (slots_top p t r.height (omega arith), ← top) at d))
 
     module _ (a b : Slot) (has : r.floor + 2 ≤ r.height) (deep : a ≡ slot_at p t (r.height - 2)) (top : b ≡ slot_at p t (r.height - 1)) where
-      pub swap_22 : (a.kind ≡ b.kind → ⊥) → Does cap r (Stops 22) p t f p t f (exec_in m cap (Two Swap) (state_of r p t f))
+      pub swap_22 : (a.kind ≡ b.kind → ⊥) → Does cap r (Stops Exception.StackDifferentType) p t f p t f (exec_in m cap (Two Swap) (state_of r p t f))
       unfolding exec_in
-      swap_22 ne = stopping cap r p t f k 22 _ (take2_has p t r.floor r.height _ has ∙ rw (← deep, ← top, ne_eqb a.kind b.kind ne) refl)
+      swap_22 ne = stopping cap r p t f k Exception.StackDifferentType _ (take2_has p t r.floor r.height _ has ∙ rw (← deep, ← top, ne_eqb a.kind b.kind ne) refl)
 
       -- the type bytes are alike
       pub swap_is : (p₁ p' : List ℕ) → a.kind ≡ b.kind → a.payload < 2 ^ 64 → b.payload < 2 ^ 64

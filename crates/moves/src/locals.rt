@@ -1,4 +1,5 @@
 // `push`, and the instructions on locals. A local's slot is the word at frame + 4 + n.
+// Words are read `as usize`: with `usize::from`, tried, `load`, `lea` and `store` did not prove in the forms that they have.
 ghost use Rattle.std.specs.Prelude.{◌≡◌, ◌+◌, ◌<◌, ◌≤◌, length, drop};
 ghost use Rattle.rules.specs.Bytes.{word};
 ghost use Rattle.rules.specs.Tables.{Module};
@@ -9,14 +10,9 @@ ghost use Rattle.format.specs.Layout.{Packed};
 ghost use Rattle.state.specs.State.{state_of, Ready, ReadyOn, Does, Acts};
 ghost use Rattle.moves.specs.Moves.{assigned_to};
 
-use crate::exceptions::{
-    CONSTANTPOOL_OUTOFRANGE, LOCALVARIABLE_INVALIDINDEX, LOCALVARIABLE_OUTOFRANGE,
-    STACK_DIFFERENTTYPE, STACK_EMPTY,
-};
 use crate::stack::pushed;
 use format::Sections;
-use reader::entries::FoundConstant;
-use rules::Slot;
+use rules::{Exception, Slot};
 use state::{Progress, Registers};
 
 // `push`, of a constant of the lent pool.
@@ -37,8 +33,8 @@ pub fn push(
 {
     let n = keys::operand(code, r.place);
     let found = reader::entries::pooled(pool, c.constants, n as usize);
-    let FoundConstant::Constant(v) = found else {
-        return Progress::Stops(CONSTANTPOOL_OUTOFRANGE);
+    let Some(v) = found else {
+        return Progress::Stops(Exception::ConstantPoolOutOfRange);
     };
     pushed(cap, r, r.place + 5, v, p, t)
 }
@@ -59,11 +55,11 @@ pub fn load(
     let n = keys::operand(code, r.place) as usize;
     let a = r.frame;
     if f[a + 3] as usize <= n {
-        return Progress::Stops(LOCALVARIABLE_OUTOFRANGE);
+        return Progress::Stops(Exception::LocalVariableOutOfRange);
     }
     let s = f[a + 4 + n] as usize;
     if r.height <= s {
-        return Progress::Stops(LOCALVARIABLE_OUTOFRANGE);
+        return Progress::Stops(Exception::LocalVariableOutOfRange);
     }
     let v = state::slot_at(p, t, s);
     pushed(cap, r, r.place + 5, v, p, t)
@@ -78,7 +74,7 @@ pub fn lea(code: &[u8], cap: usize, r: Registers, f: &[u16], p: &mut [u8], t: &m
     let n = keys::operand(code, r.place) as usize;
     let a = r.frame;
     if f[a + 3] as usize <= n {
-        return Progress::Stops(LOCALVARIABLE_OUTOFRANGE);
+        return Progress::Stops(Exception::LocalVariableOutOfRange);
     }
     let s = f[a + 4 + n] as u64;
     let v = Slot {
@@ -96,15 +92,15 @@ fn assigned(cap: usize, r: Registers, s: usize, p: &mut [u8], t: &[u8]) -> Progr
 {
     let h = r.height;
     if h < r.floor + 1 {
-        return Progress::Stops(STACK_EMPTY);
+        return Progress::Stops(Exception::StackEmpty);
     }
     if h - 1 <= s {
-        return Progress::Stops(LOCALVARIABLE_INVALIDINDEX);
+        return Progress::Stops(Exception::LocalVariableInvalidIndex);
     }
     let v = state::slot_at(p, t, h - 1);
     let old = state::slot_at(p, t, s);
     if v.kind != old.kind {
-        return Progress::Stops(STACK_DIFFERENTTYPE);
+        return Progress::Stops(Exception::StackDifferentType);
     }
     memory::store64(p, s * 8, v.payload);
     Progress::Goes(state::moved(r, r.place + 5, h - 1))
@@ -131,14 +127,14 @@ pub fn store(
         return assigned(cap, r, s, p, t);
     }
     if n != locals {
-        return Progress::Stops(LOCALVARIABLE_INVALIDINDEX);
+        return Progress::Stops(Exception::LocalVariableInvalidIndex);
     }
     if 16 <= n {
-        return Progress::Stops(LOCALVARIABLE_INVALIDINDEX);
+        return Progress::Stops(Exception::LocalVariableInvalidIndex);
     }
     let h = r.height;
     if h < r.floor + 1 {
-        return Progress::Stops(STACK_EMPTY);
+        return Progress::Stops(Exception::StackEmpty);
     }
     f[a + 4 + n] = (h - 1) as u16;
     f[a + 3] = (n + 1) as u16;

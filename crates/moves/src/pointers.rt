@@ -8,9 +8,7 @@ ghost use Rattle.rules.specs.declared.Instruction.TheVariants.{Tload, Tstore};
 ghost use Rattle.soundness.specs.Kinds.{Kinded};
 ghost use Rattle.state.specs.State.{ReadyOn, ActsOrDefers};
 
-use crate::exceptions::{
-    POINTER_NOTPOINTER, POINTER_UNKNOWNADDRESS, STACK_DIFFERENTTYPE, STACK_EMPTY,
-};
+use rules::Exception;
 use state::{Progress, Registers};
 
 // `tload`.
@@ -21,14 +19,14 @@ pub fn tload(cap: usize, r: Registers, p: &mut [u8], t: &mut [u8]) -> Progress
 {
     let h = r.height;
     if h < r.floor + 1 {
-        return Progress::Stops(STACK_EMPTY);
+        return Progress::Stops(Exception::StackEmpty);
     }
     let from = state::slot_at(p, t, h - 1);
     if from.kind < 7 {
-        return Progress::Stops(POINTER_NOTPOINTER);
+        return Progress::Stops(Exception::PointerNotPointer);
     }
     if (h - 1) as u64 <= from.payload {
-        return Progress::Stops(POINTER_UNKNOWNADDRESS);
+        return Progress::Stops(Exception::PointerUnknownAddress);
     }
     let v = state::slot_at(p, t, from.payload as usize);
     state::put_slot(p, t, h - 1, v);
@@ -43,20 +41,20 @@ pub fn tstore(cap: usize, r: Registers, p: &mut [u8], t: &[u8]) -> Progress
 {
     let h = r.height;
     if h < r.floor + 2 {
-        return Progress::Stops(STACK_EMPTY);
+        return Progress::Stops(Exception::StackEmpty);
     }
     let to = state::slot_at(p, t, h - 2);
     if to.kind < 7 {
-        return Progress::Stops(POINTER_NOTPOINTER);
+        return Progress::Stops(Exception::PointerNotPointer);
     }
     if (h - 2) as u64 <= to.payload {
-        return Progress::Stops(POINTER_UNKNOWNADDRESS);
+        return Progress::Stops(Exception::PointerUnknownAddress);
     }
     let s = to.payload as usize;
     let v = state::slot_at(p, t, h - 1);
     let old = state::slot_at(p, t, s);
     if v.kind != old.kind {
-        return Progress::Stops(STACK_DIFFERENTTYPE);
+        return Progress::Stops(Exception::StackDifferentType);
     }
     memory::store64(p, s * 8, v.payload);
     Progress::Goes(state::moved(r, r.place + 1, h - 2))

@@ -8,8 +8,7 @@ ghost use Rattle.rules.specs.declared.Instruction.TheVariants.{One, Two};
 ghost use Rattle.state.specs.State.{ReadyOn, Acts};
 ghost use Rattle.moves.specs.Moves.{pushed_at};
 
-use crate::exceptions::{STACK_DIFFERENTTYPE, STACK_EMPTY, STACK_OVERFLOW};
-use rules::Slot;
+use rules::{Exception, Slot};
 use state::{Progress, Registers};
 
 // Puts a slot on the stack.
@@ -26,7 +25,7 @@ pub(crate) fn pushed(
 {
     let h = r.height;
     if cap <= h {
-        return Progress::Stops(STACK_OVERFLOW);
+        return Progress::Stops(Exception::StackOverflow);
     }
     state::put_slot(p, t, h, v);
     Progress::Goes(state::moved(r, place, h + 1))
@@ -39,7 +38,7 @@ pub fn pop(r: Registers) -> Progress
 {
     let h = r.height;
     if h <= r.floor {
-        return Progress::Stops(STACK_EMPTY);
+        return Progress::Stops(Exception::StackEmpty);
     }
     Progress::Goes(state::moved(r, r.place + 1, h - 1))
 }
@@ -52,7 +51,7 @@ pub fn copy(cap: usize, r: Registers, p: &mut [u8], t: &mut [u8]) -> Progress
 {
     let h = r.height;
     if h < r.floor + 1 {
-        return Progress::Stops(STACK_EMPTY);
+        return Progress::Stops(Exception::StackEmpty);
     }
     let v = state::slot_at(p, t, h - 1);
     pushed(cap, r, r.place + 1, v, p, t)
@@ -66,12 +65,12 @@ pub fn swap(cap: usize, r: Registers, p: &mut [u8], t: &[u8]) -> Progress
 {
     let h = r.height;
     if h < r.floor + 2 {
-        return Progress::Stops(STACK_EMPTY);
+        return Progress::Stops(Exception::StackEmpty);
     }
     let a = state::slot_at(p, t, h - 2);
     let b = state::slot_at(p, t, h - 1);
     if a.kind != b.kind {
-        return Progress::Stops(STACK_DIFFERENTTYPE);
+        return Progress::Stops(Exception::StackDifferentType);
     }
     memory::store64(p, (h - 2) * 8, b.payload);
     memory::store64(p, (h - 1) * 8, a.payload);

@@ -28,8 +28,8 @@ use Rattle.need.specs.Grounds.{height_bound}
 use Rattle.need.specs.Settle.{Long, long_recursive, needs_not_recursive}
 use Rattle.rules.specs.Heights.{Found, need_of}
 use Rattle.need.specs.Computed.{called_function, need_needs, none_recursive, recursive_none, needs_found}
-use Rattle.rules.specs.declared.NeedAnswer.{NeedAnswer}
-use Rattle.rules.specs.declared.NeedAnswer.TheVariants.{Unreported, ReportUntyped, ReportLoops, Reported}
+use Rattle.rules.specs.AnswerTypes.{NeedAnswer}
+use Rattle.rules.specs.AnswerTypes.{Unreported, ReportUntyped, ReportLoops, Reported}
 use Rattle.rules.specs.Reporting.{need_number, first_looping, found_bytes, report_bytes, report_length, Reporting, reporting, report_with, report_after, report_needs}
 use Rattle.rules.specs.Suffices.{FirstLooping, report_at, Shown, NoLoop, Suffices}
 

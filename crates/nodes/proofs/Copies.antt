@@ -1,81 +1,17 @@
 -- Loops over the bytes of a record: copied, compared, zeroed; and the other records of the room.
-use Prim.Native.Nat.{ℕ, zero, suc, ◌+◌, ◌*◌, ◌-◌, ◌/◌, ◌≤◌, ◌<◌}
+use Prim.Native.Nat.{ℕ, zero, suc, ◌+◌, ◌*◌, ◌-◌, ◌≤◌, ◌<◌}
 use mathlib.Core.Path.{◌≡◌, refl, ap, ◌∙◌, sym}
-use mathlib.Core.Bool.{Bool, true, false, ◌&&◌}
-use mathlib.Core.List.{List, ◌++◌, append_assoc, append-nil}
+use mathlib.Core.List.{List, ◌++◌, append_assoc}
 use mathlib.Core.Logic.{◌≢◌}
-use native.Mathlib.Numerals.{add-one}
 use native.Mathlib.Omega.{arith}
-use lib.ListN.{get_or, length, take, drop, set, replicate, length-drop, length-replicate, take-append-drop}
-use lib.Seq.{paste, paste-suc, length-paste, take-take, take-add, ext_get_or, length-take-le, take-length, drop-length, get_or-take, get_or-drop, drop-drop, drop-paste, drop_at, take_at, drop-append-le, take-append-le}
-use lib.Dec.{eqb, ltb}
-use Rattle.rules.specs.Bytes.{number, word, written}
-use Rattle.memory.proofs.Copies.{paste_word}
-use Rattle.soundness.specs.Tests.{decide, false_true, eqb_is, eqb_isnt, ltb_is, ltb_isnt}
+use lib.ListN.{get_or, length, take, drop, replicate, length-drop, length-replicate, take-append-drop}
+use lib.Seq.{paste, take-take, take-add, length-take-le, take-length, drop-drop, drop-paste, drop_at, take_at, drop-append-le, take-append-le}
+use lib.Dec.{ltb}
+use Rattle.soundness.specs.Tests.{decide, ltb_is, ltb_isnt}
 use Rattle.nodes.specs.Nodes.{record_of}
 
 pub length_part : (room : List ℕ) (at : ℕ) → at + 64 ≤ length room → length (take 64 (drop at room)) ≡ 64
 length_part room at h = let e : length (drop at room) ≡ length room - at = length-drop at room in length-take-le 64 (drop at room) (omega arith)
-
--- ---- compared
-
--- what i turns of the comparison say
-pub record Compared (room st : List ℕ) (at i : ℕ) (same : Bool) : Type 0 where
-  pub alike : same ≡ true → (j : ℕ) → j < i → get_or room (at + j) 0 ≡ get_or st j 0
-  pub apart : same ≡ false → (j : ℕ) × (j < i) × (get_or room (at + j) 0 ≢ get_or st j 0)
-
-pub compare_none : (room st : List ℕ) (at : ℕ) → Compared room st at 0 true
-compare_none room st at = record { alike = λ e j h. absurd (omega arith); apart = λ e. false_true (sym e) }
-
-pub compare_more : (room st : List ℕ) (at i : ℕ) (same : Bool) → Compared room st at i same → Compared room st at (i + 1) (same && eqb (get_or room (at + i) 0) (get_or st i 0))
-compare_more room st at i false c = record { alike = λ e j h. false_true e; apart = λ e. let x : (j : ℕ) × (j < i) × (get_or room (at + j) 0 ≢ get_or st j 0) = c.apart refl in (x.0, (let y : x.0 < i = x.1 in omega arith), x.2) }
-compare_more room st at i true c =
-    record {
-      alike = λ e j h. decide (ltb j i) (λ y. c.alike refl j (ltb_is j i y)) (λ y. let w : i ≤ j = ltb_isnt j i y in let q : j ≡ i = omega arith in rw q (eqb_is (get_or room (at + i) 0) (get_or st i 0) e));
-      apart = λ e. (i, omega arith, eqb_isnt (get_or room (at + i) 0) (get_or st i 0) e);
-    }
-
-pub same_bytes : (room st : List ℕ) (at i : ℕ) → 64 ≤ i → at + 64 ≤ length room → length st ≡ 64 → Compared room st at i true → take 64 (drop at room) ≡ st
-same_bytes room st at i g h l c =
-    ext_get_or 0 (take 64 (drop at room)) st (length_part room at h ∙ sym l)
-    (λ j b. let e : length (take 64 (drop at room)) ≡ 64 = length_part room at h in get_or-take 64 (drop at room) j 0 (omega arith) ∙ get_or-drop at room j 0 ∙ c.alike refl j (omega arith))
-
-pub other_bytes : (room st : List ℕ) (at i : ℕ) → i ≤ 64 → Compared room st at i false → take 64 (drop at room) ≡ st → ⊥
-other_bytes room st at i g c e =
-    let x : (j : ℕ) × (j < i) × (get_or room (at + j) 0 ≢ get_or st j 0) = c.apart refl in
-    let b : x.0 < i = x.1 in
-    x.2 (sym (get_or-take 64 (drop at room) x.0 0 (omega arith) ∙ get_or-drop at room x.0 0) ∙ ap (λ (y : List ℕ). get_or y x.0 0) e)
-
--- ---- copied by numbers of eight bytes
-
-pub save_more : (room st : List ℕ) (at i : ℕ) → ((j : ℕ) → get_or st j 0 < 256) → i < 64 → 8 * (i / 8) ≡ i → at + 64 ≤ length room → length st ≡ 64 → (room' : List ℕ) (w : ℕ)
-    → w ≡ word 8 st i → room' ≡ written 8 (paste room at st i) (at + i) w → room' ≡ paste room at st (i + 8)
-save_more room st at i small h m g l room' w e r =
-    r ∙ ap (λ (x : ℕ). written 8 (paste room at st i) (at + i) x) e ∙ paste_word room at st small 8 i (omega arith) (omega arith)
-
-pub pasted_long : (d s : List ℕ) (at i : ℕ) (d' : List ℕ) → at + 64 ≤ length d → 64 ≤ length s → i ≤ 64 → d' ≡ paste d at s i → length d' ≡ length d
-pasted_long d s at i d' h l m e = ap length e ∙ length-paste d at s i (omega arith) (omega arith)
-
--- a number of the room is one of what lies from a byte on
-part_word : (room : List ℕ) (at i : ℕ) → word 8 room (at + i) ≡ word 8 (drop at room) i
-unfolding word
-part_word room at i = ap (λ (x : List ℕ). number (take 8 x)) (sym (drop-drop i at room))
-
-pub load_more : (d room : List ℕ) (at i : ℕ) → ((j : ℕ) → get_or room j 0 < 256) → i < 64 → 8 * (i / 8) ≡ i → at + 64 ≤ length room → length d ≡ 64 → (d' : List ℕ) (w : ℕ)
-    → w ≡ word 8 room (at + i) → d' ≡ written 8 (paste d 0 (drop at room) i) i w → d' ≡ paste d 0 (drop at room) (i + 8)
-load_more d room at i small h m g l d' w e r =
-    let z : 0 + i ≡ i = omega arith in
-    let k : length (drop at room) ≡ length room - at = length-drop at room in
-    r ∙ ap (λ (x : ℕ). written 8 (paste d 0 (drop at room) i) x w) (sym z) ∙ ap (λ (x : ℕ). written 8 (paste d 0 (drop at room) i) (0 + i) x) (e ∙ part_word room at i)
-    ∙ paste_word d 0 (drop at room) (λ j. rw (get_or-drop at room j 0) (small (at + j))) 8 i (omega arith) (omega arith)
-
-pub load_end : (d room : List ℕ) (at i : ℕ) → length d ≡ 64 → i ≡ 64 → paste d 0 (drop at room) i ≡ take 64 (drop at room)
-load_end d room at i h e =
-    let z : 0 + i ≡ length d = omega arith in
-    ap (λ (k : ℕ). take i (drop at room) ++ drop k d) z
-    ∙ ap (λ (x : List ℕ). take i (drop at room) ++ x) (drop-length d)
-    ∙ append-nil (take i (drop at room))
-    ∙ ap (λ (k : ℕ). take k (drop at room)) e
 
 -- ---- zeroed
 
@@ -83,12 +19,6 @@ pub zeros_at : (n j : ℕ) → ◌≡◌ {A = ℕ} (get_or (replicate n 0) j 0) 
 zeros_at zero j = refl
 zeros_at (suc n) zero = refl
 zeros_at (suc n) (suc j) = zeros_at n j
-
-pub zero_more : (d : List ℕ) (at n i : ℕ) → i < n → at + i < length d → set (paste d at (replicate n 0) i) (at + i) 0 ≡ paste d at (replicate n 0) (i + 1)
-zero_more d at n i h g =
-    let z : List ℕ = replicate n 0 in
-    let e : length z ≡ n = length-replicate n 0 in
-    rw add-one (ap (λ (x : ℕ). set (paste d at z i) (at + i) x) (sym (zeros_at n i)) ∙ paste-suc d at z i 0 g (omega arith))
 
 pub cleared : (d : List ℕ) (n : ℕ) → paste d 0 (replicate n 0) n ≡ replicate n 0 ++ drop n d
 cleared d n =

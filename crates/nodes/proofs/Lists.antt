@@ -9,7 +9,7 @@ use lib.Seq.{get_or-set_same, get_or-set_other}
 use lib.Dec.{eqb}
 use borrow.Author.Tests.{eq-eqb, ne_eqb}
 use Rattle.soundness.specs.Tests.{decide, eqb_is, eqb_isnt}
-use Rattle.nodes.specs.declared.list.Waiting.TheVariants.{Node, Nothing}
+use Rattle.std.specs.Prelude.{Some, None}
 use Rattle.nodes.specs.Nodes.{Whole, mark_of, listed_at, count_of, done_of, appended, advanced, waiting_in, unseen}
 
 -- ---- put on the list
@@ -71,24 +71,24 @@ module _ (marks : List ℕ) (whole : Whole marks) where
 
 -- ---- the first that waits
 
-pub waiting_nothing : (marks : List ℕ) → done_of marks ≡ count_of marks → Nothing ≡ waiting_in marks
+pub waiting_nothing : (marks : List ℕ) → done_of marks ≡ count_of marks → None ≡ waiting_in marks
 unfolding waiting_in
 waiting_nothing marks e = rw (eq-eqb (done_of marks) (count_of marks) e) refl
 
-pub waiting_node : (marks : List ℕ) → (done_of marks ≡ count_of marks → ⊥) → Node (listed_at marks (done_of marks)) ≡ waiting_in marks
+pub waiting_node : (marks : List ℕ) → (done_of marks ≡ count_of marks → ⊥) → Some (listed_at marks (done_of marks)) ≡ waiting_in marks
 unfolding waiting_in
 waiting_node marks n = rw (ne_eqb (done_of marks) (count_of marks) n) refl
 
-pub nothing_waits : (marks : List ℕ) → waiting_in marks ≡ Nothing → done_of marks ≡ count_of marks
+pub nothing_waits : (marks : List ℕ) → waiting_in marks ≡ None → done_of marks ≡ count_of marks
 unfolding waiting_in
 nothing_waits marks e = decide (eqb (done_of marks) (count_of marks)) (λ y. eqb_is (done_of marks) (count_of marks) y)
-    (λ y. absurd (let q : Node (listed_at marks (done_of marks)) ≡ Nothing = rw y at e in let z : ◌≡◌ {A = ℕ} 0 1 = cc in omega arith))
+    (λ y. absurd (let q : Some (listed_at marks (done_of marks)) ≡ None = rw y at e in let z : ◌≡◌ {A = ℕ} 0 1 = cc in omega arith))
 
-pub node_waits : (marks : List ℕ) (k : ℕ) → waiting_in marks ≡ Node k → (done_of marks ≢ count_of marks) × (k ≡ listed_at marks (done_of marks))
+pub node_waits : (marks : List ℕ) (k : ℕ) → waiting_in marks ≡ Some k → (done_of marks ≢ count_of marks) × (k ≡ listed_at marks (done_of marks))
 unfolding waiting_in
 node_waits marks k e = decide (eqb (done_of marks) (count_of marks))
-    (λ y. absurd (let q : Nothing ≡ Node k = rw y at e in let z : ◌≡◌ {A = ℕ} 0 1 = cc in omega arith))
-    (λ y. (eqb_isnt (done_of marks) (count_of marks) y, let q : Node (listed_at marks (done_of marks)) ≡ Node k = rw y at e in cc))
+    (λ y. absurd (let q : None ≡ Some k = rw y at e in let z : ◌≡◌ {A = ℕ} 0 1 = cc in omega arith))
+    (λ y. (eqb_isnt (done_of marks) (count_of marks) y, let q : Some (listed_at marks (done_of marks)) ≡ Some k = rw y at e in cc))
 
 -- ---- the nodes to which nothing has flowed
 

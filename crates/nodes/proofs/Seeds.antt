@@ -1,21 +1,22 @@
 -- The record of a body's start.
-use Prim.Native.Nat.{ℕ, zero, suc, ◌+◌, ◌*◌, ◌≤◌, ◌<◌}
+use Prim.Native.Nat.{ℕ, zero, suc, ◌+◌, ◌*◌, ◌-◌, ◌≤◌, ◌<◌}
 use mathlib.Core.Path.{◌≡◌, refl, ap, ◌∙◌, sym, subst}
 use mathlib.Core.Logic.{◌≢◌}
 use native.Mathlib.Omega.{arith}
 use mathlib.Core.Option.{some}
 use mathlib.Core.List.{List, ◌++◌, append-nil}
-use lib.ListN.{length, get_or, set, drop, replicate, length-set}
-use lib.Seq.{paste, get_or-set_same, get_or-set_other, drop-length}
-use lib.Dec.{eqb, ltb}
+use lib.ListN.{length, get_or, set, take, drop, replicate, length-set, length-append, length-drop, get_or-append}
+use lib.Seq.{paste, get_or-set_same, get_or-set_other, drop-length, length-take-le, get_or-take, get_or-drop}
+use Rattle.std.proofs.Common.{get_or-append-add}
+use lib.Dec.{ltb}
 use Rattle.rules.specs.Bytes.{byte}
 use Rattle.rules.specs.Instructions.{Ty, ty_of}
 use Rattle.rules.specs.Tables.{function_count, function_at, function_of, Body, fn, body_of, body_start, params_from, module_of}
-use Rattle.rules.specs.ModuleFile.{edition, refusal, functions, read, bodies_in, functions_in}
+use Rattle.rules.specs.ModuleFile.{edition, refusal, read, bodies_in, functions_in}
 use Rattle.rules.specs.Typing.{start_of}
 use Rattle.format.specs.declared.Sections.{Sections}
 use Rattle.format.specs.Layout.{Packed}
-use Rattle.soundness.specs.Tests.{decide, eqb_is, eqb_isnt, ltb_is, ltb_isnt, ltb_yes}
+use Rattle.soundness.specs.Tests.{decide, ltb_is, ltb_isnt, ltb_yes}
 use Rattle.soundness.specs.Readable.{Has, few_parameters, parameter_type, unused_parameter}
 use Rattle.soundness.specs.Cutting.{functions_good}
 use Rattle.reader.proofs.Records.{function_byte}
@@ -26,19 +27,30 @@ use Rattle.nodes.proofs.Bounds.{is_entry, is_function, function_there, function_
 
 -- ---- the parameters copied
 
-pub copied_none : (s : List ℕ) (at : ℕ) (st : List ℕ) → Copied s at 0 st st
-copied_none s at st = record { long = refl; copied = λ j h. absurd (omega arith); before = λ j h. refl; behind = λ j h. refl }
-
-pub copied_more : (s : List ℕ) (at i : ℕ) (st st' : List ℕ) → i < 8 → length st ≡ 64 → Copied s at i st st' → Copied s at (i + 1) st (set st' (16 + i) (get_or s (at + i) 0))
-copied_more s at i st st' h l c =
-    let n : length st' ≡ length st = c.long in
+pub copied_all : (s : List ℕ) (at : ℕ) (st : List ℕ) → at + 8 ≤ length s → length st ≡ 64 → Copied s at 8 st (take 16 st ++ (take 8 (drop at s) ++ drop 8 (drop 16 st)))
+copied_all s at st h l =
+    let a : List ℕ = take 16 st in
+    let w : List ℕ = take 8 (drop at s) in
+    let d : List ℕ = drop 8 (drop 16 st) in
+    let la : length a ≡ 16 = length-take-le 16 st (omega arith) in
+    let ls : length (drop at s) ≡ length s - at = length-drop at s in
+    let lw : length w ≡ 8 = length-take-le 8 (drop at s) (omega arith) in
+    let lc : length (drop 16 st) ≡ length st - 16 = length-drop 16 st in
+    let ld : length d ≡ length (drop 16 st) - 8 = length-drop 8 (drop 16 st) in
+    let x : length (a ++ (w ++ d)) ≡ length a + length (w ++ d) = length-append a (w ++ d) in
+    let y : length (w ++ d) ≡ length w + length d = length-append w d in
     record {
-      long = length-set st' (16 + i) (get_or s (at + i) 0) ∙ c.long;
-      copied = λ j m. decide (eqb j i)
-          (λ y. let e : j ≡ i = eqb_is j i y in rw e (get_or-set_same st' (16 + i) (get_or s (at + i) 0) 0 (omega arith)))
-          (λ y. let ne : j ≢ i = eqb_isnt j i y in get_or-set_other st' (16 + i) (16 + j) (get_or s (at + i) 0) 0 (λ z. ne (omega arith)) ∙ c.copied j (omega arith));
-      before = λ j m. get_or-set_other st' (16 + i) j (get_or s (at + i) 0) 0 (λ z. omega arith) ∙ c.before j m;
-      behind = λ j m. get_or-set_other st' (16 + i) j (get_or s (at + i) 0) 0 (λ z. omega arith) ∙ c.behind j (omega arith);
+      long = omega arith;
+      copied = λ j m. (let q : 16 + j ≡ length a + j = omega arith in ap (λ (k : ℕ). get_or (a ++ (w ++ d)) k 0) q) ∙ get_or-append-add a (w ++ d) j 0
+          ∙ get_or-append w d 0 j (omega arith) ∙ get_or-take 8 (drop at s) j 0 m ∙ get_or-drop at s j 0;
+      before = λ j m. get_or-append a (w ++ d) 0 j (omega arith) ∙ get_or-take 16 st j 0 m;
+      behind = λ j m.
+          let i : ℕ = j - 24 in
+          let p : j ≡ length a + (8 + i) = omega arith in
+          let r : 8 + i ≡ length w + i = omega arith in
+          let t : 16 + (8 + i) ≡ j = omega arith in
+          ap (λ (k : ℕ). get_or (a ++ (w ++ d)) k 0) p ∙ get_or-append-add a (w ++ d) (8 + i) 0
+          ∙ ap (λ (k : ℕ). get_or (w ++ d) k 0) r ∙ get_or-append-add w d i 0 ∙ get_or-drop 8 (drop 16 st) i 0 ∙ get_or-drop 16 st (8 + i) 0 ∙ ap (λ (k : ℕ). get_or st k 0) t;
     }
 
 -- ---- bytes

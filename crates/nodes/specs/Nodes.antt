@@ -1,8 +1,9 @@
 -- The nodes of a check: their table, their records in the lent room, and their marks.
 -- A node is a labelled place; of the labels that share a place the first one's record stands for all. The record of a node, in
 -- the lent room, holds what has flowed to it.
-use Rattle.std.specs.Prelude.{◌≡◌, ℕ, zero, suc, ◌+◌, ◌*◌, ◌-◌, ◌≤◌, ◌<◌, Bool, true, false, cond, List, [], length, get_or, set, take, drop, eqb}
+use Rattle.std.specs.Prelude.{◌≡◌, ℕ, zero, suc, ◌+◌, ◌*◌, ◌-◌, ◌≤◌, ◌<◌, Bool, true, false, cond, List, [], length, get_or, set, take, drop, eqb, Some, None}
 use Rattle.std.proofs.Math.Option.{some}
+use Rattle.std.specs.declared.option.Option.{Option}
 use Rattle.std.proofs.Math.Seq.{paste}
 use Rattle.rules.specs.Bytes.{byte, word, zeros}
 use Rattle.rules.specs.Tables.{label_at, Body, body_of, body_start}
@@ -11,8 +12,6 @@ use Rattle.rules.specs.Typing.{start_of}
 use Rattle.format.specs.declared.Sections.{Sections}
 use Rattle.format.specs.Layout.{Packed}
 use Rattle.records.specs.Record.{lists_of, Holds}
-use Rattle.nodes.specs.declared.list.Waiting.{Waiting}
-use Rattle.nodes.specs.declared.list.Waiting.TheVariants.{Node, Nothing}
 
 -- c has the sections of s, a module that can be read
 abbrev pub Readable : List ℕ → Sections → Type 0
@@ -62,8 +61,8 @@ abbrev pub advanced : List ℕ → List ℕ
 advanced marks = set marks 513 (done_of marks + 1)
 
 -- the first that was not walked from
-unfoldable pub waiting_in : List ℕ → Waiting
-waiting_in marks = cond (eqb (done_of marks) (count_of marks)) Nothing (Node (listed_at marks (done_of marks)))
+unfoldable pub waiting_in : List ℕ → Option ℕ
+waiting_in marks = cond (eqb (done_of marks) (count_of marks)) None (Some (listed_at marks (done_of marks)))
 
 -- the nodes below n to which nothing has flowed
 unfoldable pub unseen : List ℕ → ℕ → ℕ

@@ -37,9 +37,7 @@ pub fn finish(
     requires fits { Fits (labels file.now) room.old marks.now × (length st.old ≡ 64) }
     ensures { Finished file.now table.now marks.now 0 room.old room.new }
 {
-    let mut i = c.labels;
-    while 0 < i {
-        i -= 1;
+    for i in (0..c.labels).rev() {
         let p = crate::table::place_of(file, c, i);
         let v = crate::table::node_at(table, p);
         settle(room, marks, st, i, v - 1);

@@ -10,13 +10,6 @@ pub mod table;
 ghost use Rattle.std.specs.Prelude.{◌+◌, ◌*◌, ◌<◌, ◌≤◌, ◌≡◌, length};
 ghost use Rattle.nodes.specs.Nodes.{Whole, mark_of, count_of, Merged};
 
-// A word as an index.
-pub(crate) fn wide(x: u16) -> usize
-    ensures { result ≡ x }
-{
-    x as usize
-}
-
 // A record flows to node k. The first one is kept, and the node waits for a walk; a later one must be the same.
 pub fn merge(k: usize, room: &mut [u8], marks: &mut [u16], st: &[u8]) -> bool
     requires k_in_bounds { (64 * k + 64 ≤ length room.old) × (k < 256) × (length st.now ≡ 64) }

@@ -4,33 +4,27 @@
 ghost use Rattle.std.specs.Prelude.{◌≡◌, ◌<◌, ◌≤◌};
 ghost use Rattle.nodes.specs.Nodes.{Whole, count_of, done_of, appended, advanced, waiting_in};
 
-// The first node that waits for a walk, or none does.
-#[derive(Clone, Copy)]
-pub enum Waiting {
-    Node(usize),
-    Nothing,
-}
-
 pub(crate) fn append(marks: &mut [u16], k: usize)
     requires { Whole marks.old × (k < 256) × (count_of marks.old < 256) }
     ensures { marks.new ≡ appended marks.old k }
 {
-    let n = crate::wide(marks[512]);
+    let n = usize::from(marks[512]);
     marks[k] = 1;
     marks[256 + n] = k as u16;
     marks[512] = (n + 1) as u16;
 }
 
-pub fn first(marks: &[u16]) -> Waiting
+// The first node that waits for a walk, where one does.
+pub fn first(marks: &[u16]) -> Option<usize>
     requires { Whole marks.now × (done_of marks.now ≤ count_of marks.now) × (count_of marks.now ≤ 256) }
     ensures { result ≡ waiting_in marks.now }
 {
-    let i = crate::wide(marks[513]);
-    let n = crate::wide(marks[512]);
+    let i = usize::from(marks[513]);
+    let n = usize::from(marks[512]);
     if i == n {
-        return Waiting::Nothing;
+        return None;
     }
-    Waiting::Node(crate::wide(marks[256 + i]))
+    Some(usize::from(marks[256 + i]))
 }
 
 // That node was walked from.
@@ -38,6 +32,6 @@ pub fn advance(marks: &mut [u16])
     requires { Whole marks.old × (done_of marks.old < 256) }
     ensures { marks.new ≡ advanced marks.old }
 {
-    let i = crate::wide(marks[513]);
+    let i = usize::from(marks[513]);
     marks[513] = (i + 1) as u16;
 }

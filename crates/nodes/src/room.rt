@@ -7,12 +7,7 @@ pub(crate) fn save(room: &mut [u8], at: usize, st: &[u8])
     requires { (at + 64 ≤ length room.old) × (length st.now ≡ 64) }
     ensures { room.new ≡ paste room.old at st.now 64 }
 {
-    let mut i = 0;
-    while i < 64 {
-        let w = memory::load64(st, i);
-        memory::store64(room, at + i, w);
-        i += 8;
-    }
+    room[at..at + 64].copy_from_slice(st);
 }
 
 // Reads the record at a byte of the room.
@@ -20,12 +15,7 @@ pub fn load(room: &[u8], at: usize, st: &mut [u8])
     requires { (at + 64 ≤ length room.now) × (length st.old ≡ 64) }
     ensures { st.new ≡ take 64 (drop at room.now) }
 {
-    let mut i = 0;
-    while i < 64 {
-        let w = memory::load64(room, at + i);
-        memory::store64(st, i, w);
-        i += 8;
-    }
+    st.copy_from_slice(&room[at..at + 64]);
 }
 
 // Whether the record at a byte of the room is this one.
@@ -34,13 +24,7 @@ pub(crate) fn is_same(room: &[u8], at: usize, st: &[u8]) -> bool
     ensures room_value { result ≡ true → take 64 (drop at room.now) ≡ st.now }
     ensures fact { result ≡ false → take 64 (drop at room.now) ≡ st.now → ⊥ }
 {
-    let mut same = true;
-    let mut i = 0;
-    while i < 64 {
-        same = same & (room[at + i] == st[i]);
-        i += 1;
-    }
-    same
+    &room[at..at + 64] == st
 }
 
 // Zeroes n bytes.
@@ -48,9 +32,5 @@ pub fn zero(room: &mut [u8], at: usize, n: usize)
     requires { at + n ≤ length room.old }
     ensures { room.new ≡ paste room.old at (replicate n 0) n }
 {
-    let mut i = 0;
-    while i < n {
-        room[at + i] = 0;
-        i += 1;
-    }
+    room[at..at + n].fill(0);
 }

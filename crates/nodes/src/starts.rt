@@ -13,11 +13,7 @@ fn copy_params(file: &[u8], at: usize, st: &mut [u8])
     requires { (at + 8 ≤ length file.now) × (length st.old ≡ 64) }
     ensures { Copied file.now at 8 st.old st.new }
 {
-    let mut i = 0;
-    while i < 8 {
-        st[16 + i] = file[at + i];
-        i += 1;
-    }
+    st[16..24].copy_from_slice(&file[at..at + 8]);
 }
 
 // The record of a body's start: its parameters and no operands.

@@ -20,9 +20,7 @@ pub fn fill(file: &[u8], c: Sections, table: &mut [u16])
     requires extent_in_bounds { (c.extent < length table.old) × Blank table.old }
     ensures { Tabled file.now table.new }
 {
-    let mut i = c.labels;
-    while 0 < i {
-        i -= 1;
+    for i in (0..c.labels).rev() {
         let p = place_of(file, c, i);
         table[p] = (i + 1) as u16;
     }
@@ -33,5 +31,5 @@ pub fn node_at(table: &[u16], q: usize) -> usize
     requires { q < length table.now }
     ensures { result ≡ get_or table.now q 0 }
 {
-    crate::wide(table[q])
+    usize::from(table[q])
 }

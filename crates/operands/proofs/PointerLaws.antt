@@ -5,6 +5,8 @@ use mathlib.Core.Path.{◌≡◌, refl, sym, ap, ◌∙◌, subst}
 use mathlib.Core.Bool.{Bool, false}
 use Rattle.rules.specs.Instructions.{is_pointer}
 use mathlib.Core.Logic.{inl, inr}
+use Rattle.std.specs.Prelude.{Ok, Err}
+use Rattle.std.specs.declared.result.Result as code
 use mathlib.Core.List.{List, [], ◌∷◌}
 use Rattle.rules.specs.Tables.{Module}
 use Rattle.rules.specs.Heap.{Heap, empty_heap, Spot, on_stack}
@@ -18,8 +20,8 @@ use Rattle.rules.specs.declared.Unary.TheVariants.{Count}
 use Rattle.soundness.specs.Tests.{decide, eqb_same}
 use Rattle.values.specs.Values.{slot_of, result_of, Turns}
 use Rattle.values.specs.declared.Value.{Value}
-use Rattle.values.specs.declared.Computed.{Computed}
-use Rattle.values.specs.declared.Computed.TheVariants.{Yields, Raises}
+use Rattle.rules.specs.declared.Exception.{Exception}
+use Rattle.rules.specs.declared.Exception.TheVariants as Exception
 use Rattle.state.specs.State.{state_of, Ready, Does}
 use Rattle.state.specs.declared.Registers.{Registers}
 use Rattle.state.specs.declared.Progress.{Progress}
@@ -28,9 +30,8 @@ use Rattle.state.proofs.Stack.{take1_has, take1_short}
 use Rattle.state.proofs.Outcomes.{stopping, stopping_over, deferring, over_every, putting}
 use Rattle.state.proofs.Families.{kind_at, memory_over, named_31, named, types_same}
 use Rattle.operands.specs.Operands.{Computable, ExecutesOrDefers, Puts, Points, Finds}
-use Rattle.operands.specs.declared.pointers.Pointee.{Pointee}
-use Rattle.operands.specs.declared.pointers.Pointee.TheVariants.{At, Nowhere}
-use Rattle.operands.proofs.OperandLaws.{Typed, counts, one_typed}
+use Rattle.operands.proofs.OperandLaws.{Typed, one_typed}
+use Rattle.values.specs.Changes.{counts}
 
 -- x put to slot i of what is left
 abbrev back_of : Memory → ℕ → List Slot → Frame → List Frame → Result → Next
@@ -65,28 +66,28 @@ module _ (cap : ℕ) (r : Registers) (p t f : List ℕ) (k : Ready cap r p t f) 
   unfolding exec_in
   bump_takes has g = take1_has p t r.floor r.height _ has
 
-  back_is : (i : ℕ) (x : Computed) (q : Progress) (p' : List ℕ) (y : Next) → r.floor + 1 ≤ r.height → i < r.height - 1 → Typed (slot_at p t i).kind x
+  back_is : (i : ℕ) (x : code.Result Value Exception) (q : Progress) (p' : List ℕ) (y : Next) → r.floor + 1 ≤ r.height → i < r.height - 1 → Typed (slot_at p t i).kind x
       → Puts r i (r.height - 1) x q p p' → y ≡ back_of (state_of r p t f).memory i left after (state_of r p t f).callers (result_of x)
       → Does cap r q p t f p' t f y
-  back_is i (Yields v) q p' y has below ty e is =
+  back_is i (Ok v) q p' y has below ty e is =
       rw e.0
       (putting cap r p t f k (slot_of v) i p' t e.1.0 (types_same p t i (slot_of v) (ty v refl)) e.1.1 (omega (arith, k.high)) (r.place + 1) (r.height - 1) y
       below (omega arith) (omega arith) is)
-  back_is i (Raises n) q p' y has below ty e is = rw (e.0, e.1) (stopping cap r p t f k n y is)
+  back_is i (Err n) q p' y has below ty e is = rw (e.0, e.1) (stopping cap r p t f k n y is)
 
 module _ {r : Registers} {p t : List ℕ} (u : Bool) where
-  pub bump_21 : r.height < r.floor + 1 → ExecutesOrDefers (Bump u) r (Stops 21) p t p t
+  pub bump_21 : r.height < r.floor + 1 → ExecutesOrDefers (Bump u) r (Stops Exception.StackEmpty) p t p t
   unfolding exec_in
-  bump_21 h m cap f k = inl (stopping_over cap r p t f k 21 (exec_in m cap (Bump u)) (λ g. take1_short p t r.floor r.height _ h))
+  bump_21 h m cap f k = inl (stopping_over cap r p t f k Exception.StackEmpty (exec_in m cap (Bump u)) (λ g. take1_short p t r.floor r.height _ h))
 
-  pub bump_31 : r.floor + 1 ≤ r.height → is_pointer (slot_at p t (r.height - 1)).kind ≡ false → ExecutesOrDefers (Bump u) r (Stops 31) p t p t
+  pub bump_31 : r.floor + 1 ≤ r.height → is_pointer (slot_at p t (r.height - 1)).kind ≡ false → ExecutesOrDefers (Bump u) r (Stops Exception.PointerNotPointer) p t p t
   bump_31 has ne m cap f k =
       inl (named_31 cap r p t f k m (Bump u) (slot_at p t (r.height - 1)) (r.height - 1) (bumps cap r p t f k m u) (bump_takes cap r p t f k m u has) ne)
 
-  pub bump_33 : ExecutesOrDefers (Bump u) r (Stops 33) p t p t
+  pub bump_33 : ExecutesOrDefers (Bump u) r (Stops Exception.PointerUnknownAddress) p t p t
   bump_33 m cap f k = inr (deferring p t)
 
-  pub bump_put : Computable r p t → {i : ℕ} {a : Value} (x : Computed) {q : Progress} {p' : List ℕ} → Points r p t i a → Turns (Count u) a x → Puts r i (r.height - 1) x q p p'
+  pub bump_put : Computable r p t → {i : ℕ} {a : Value} (x : code.Result Value Exception) {q : Progress} {p' : List ℕ} → Points r p t i a → Turns (Count u) a x → Puts r i (r.height - 1) x q p p'
       → ExecutesOrDefers (Bump u) r q p t p' t
   bump_put c {i} x {q} {p'} at e put m cap f k =
       let v = slot_at p t i in
@@ -105,8 +106,9 @@ module _ {r : Registers} {p t : List ℕ} (u : Bool) where
       )
 
 -- what `find` found
-pub points : {r : Registers} {p t : List ℕ} {x : Pointee} {i : ℕ} {a : Value} → x ≡ At i a → Finds r p t x → Points r p t i a
+pub points : {r : Registers} {p t : List ℕ} {x : code.Result (ℕ × Value) Exception} {y : ℕ × Value} → x ≡ Ok y → Finds r p t x → Points r p t y.0 y.1
 points {r} {p} {t} e h = subst (Finds r p t) e h
 
-pub nowhere : {r : Registers} {p t : List ℕ} {x : Pointee} {n : ℕ} → x ≡ Nowhere n → Finds r p t x → (u : Bool) → ExecutesOrDefers (Bump u) r (Stops n) p t p t
+pub nowhere : {r : Registers} {p t : List ℕ} {x : code.Result (ℕ × Value) Exception} {n : Exception} → x ≡ Err n → Finds r p t x
+    → (u : Bool) → ExecutesOrDefers (Bump u) r (Stops n) p t p t
 nowhere {r} {p} {t} e h = subst (Finds r p t) e h

@@ -2,7 +2,6 @@
 #![tactic(auto)]
 
 pub mod comparison;
-mod exceptions;
 pub mod operators;
 pub mod pointers;
 mod results;

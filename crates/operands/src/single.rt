@@ -1,66 +1,29 @@
 // Instructions on the top operand. A conversion to its own type keeps the payload as it is, a NaN's bits too.
-ghost use Rattle.std.specs.Prelude.{true, false};
+ghost use Rattle.std.specs.Prelude.{false};
 ghost use Rattle.rules.specs.declared.Instruction.TheVariants.{One};
 ghost use Rattle.rules.specs.declared.Num.TheVariants.{Int as int, Long as long, Double as double};
-ghost use Rattle.rules.specs.declared.Unary.TheVariants.{Neg, Not, Convert, Count};
+ghost use Rattle.rules.specs.declared.Unary.TheVariants.{Convert};
 ghost use Rattle.operands.specs.Operands.{Computable, Executes};
 
-use crate::exceptions::STACK_EMPTY;
 use crate::results::{replaced, replaced_like};
+use rules::Exception;
 use state::{Progress, Registers};
+use values::single::Change;
 
-// `neg`.
-pub fn neg(r: Registers, p: &mut [u8], t: &[u8]) -> Progress
+// `neg`, `not`, and edition 1's `inc` and `dec`.
+pub fn change<C: Change>(r: Registers, p: &mut [u8], t: &[u8]) -> Progress
     requires { Computable r p.old t.now }
-    ensures { Executes (One Neg) r result p.old t.now p.new t.now }
+    ensures { Executes (One C.unary) r result p.old t.now p.new t.now }
 {
     let h = r.height;
     if h < r.floor + 1 {
-        return Progress::Stops(STACK_EMPTY);
+        return Progress::Stops(Exception::StackEmpty);
     }
     let a = values::value_of(state::slot_at(p, t, h - 1));
-    replaced_like(r, h - 1, values::single::neg_value(a), p)
+    replaced_like(r, h - 1, values::single::apply::<C>(a), p)
 }
 
-// `not`.
-pub fn not(r: Registers, p: &mut [u8], t: &[u8]) -> Progress
-    requires { Computable r p.old t.now }
-    ensures { Executes (One Not) r result p.old t.now p.new t.now }
-{
-    let h = r.height;
-    if h < r.floor + 1 {
-        return Progress::Stops(STACK_EMPTY);
-    }
-    let a = values::value_of(state::slot_at(p, t, h - 1));
-    replaced_like(r, h - 1, values::single::not_value(a), p)
-}
-
-// `inc` of edition 1.
-pub fn inc(r: Registers, p: &mut [u8], t: &[u8]) -> Progress
-    requires { Computable r p.old t.now }
-    ensures { Executes (One (Count true)) r result p.old t.now p.new t.now }
-{
-    let h = r.height;
-    if h < r.floor + 1 {
-        return Progress::Stops(STACK_EMPTY);
-    }
-    let a = values::value_of(state::slot_at(p, t, h - 1));
-    replaced_like(r, h - 1, values::single::inc_value(a), p)
-}
-
-// `dec` of edition 1.
-pub fn dec(r: Registers, p: &mut [u8], t: &[u8]) -> Progress
-    requires { Computable r p.old t.now }
-    ensures { Executes (One (Count false)) r result p.old t.now p.new t.now }
-{
-    let h = r.height;
-    if h < r.floor + 1 {
-        return Progress::Stops(STACK_EMPTY);
-    }
-    let a = values::value_of(state::slot_at(p, t, h - 1));
-    replaced_like(r, h - 1, values::single::dec_value(a), p)
-}
-
+// The three conversions stay apart: one body for all was no plainer, since `tol` has no own type to skip and each has its own value.
 // `toi`. Where it does not raise 44, it is edition 1's.
 pub fn toi(raises: bool, r: Registers, p: &mut [u8], t: &mut [u8]) -> Progress
     requires { Computable r p.old t.old }
@@ -68,7 +31,7 @@ pub fn toi(raises: bool, r: Registers, p: &mut [u8], t: &mut [u8]) -> Progress
 {
     let h = r.height;
     if h < r.floor + 1 {
-        return Progress::Stops(STACK_EMPTY);
+        return Progress::Stops(Exception::StackEmpty);
     }
     let s = state::slot_at(p, t, h - 1);
     if s.kind == 3 {
@@ -85,7 +48,7 @@ pub fn tol(raises: bool, r: Registers, p: &mut [u8], t: &mut [u8]) -> Progress
 {
     let h = r.height;
     if h < r.floor + 1 {
-        return Progress::Stops(STACK_EMPTY);
+        return Progress::Stops(Exception::StackEmpty);
     }
     let s = state::slot_at(p, t, h - 1);
     let a = values::value_of(s);
@@ -99,7 +62,7 @@ pub fn tod(r: Registers, p: &mut [u8], t: &mut [u8]) -> Progress
 {
     let h = r.height;
     if h < r.floor + 1 {
-        return Progress::Stops(STACK_EMPTY);
+        return Progress::Stops(Exception::StackEmpty);
     }
     let s = state::slot_at(p, t, h - 1);
     if s.kind == 6 {

@@ -5,10 +5,10 @@ use Rattle.std.proofs.Common.{sym, subst, ◌∙◌, arith, take-take, take-add,
 use Rattle.std.proofs.Math.Bool.{true, false}
 use Rattle.std.proofs.Math.Option.{Option, none, some}
 use Rattle.std.proofs.Math.ListN.{drop}
-use Rattle.rules.specs.declared.CheckAnswer.{CheckAnswer}
-use Rattle.rules.specs.declared.CheckAnswer.TheVariants.{Refused, Untyped, Accepted}
-use Rattle.rules.specs.declared.NeedAnswer.{NeedAnswer}
-use Rattle.rules.specs.declared.NeedAnswer.TheVariants.{Unreported, ReportUntyped, ReportLoops, Reported}
+use Rattle.rules.specs.AnswerTypes.{CheckAnswer}
+use Rattle.rules.specs.AnswerTypes.{Refused, Untyped, Accepted}
+use Rattle.rules.specs.AnswerTypes.{NeedAnswer}
+use Rattle.rules.specs.AnswerTypes.{Unreported, ReportUntyped, ReportLoops, Reported}
 use Rattle.rules.specs.Bytes.{number, bytes, word}
 use Rattle.rules.specs.Numbers.{done}
 use Rattle.rules.specs.Tables.{Body, body_of}

@@ -1,7 +1,7 @@
 -- What the report of needs promises: answer and lent memory equal to the definition's, and what document 02 claims of it.
 use Rattle.std.specs.Prelude.{◌≡◌, ◌≢◌, ℕ, ◌+◌, ◌≤◌, List}
-use Rattle.rules.specs.declared.NeedAnswer.{NeedAnswer}
-use Rattle.rules.specs.declared.NeedAnswer.TheVariants.{ReportUntyped, ReportLoops}
+use Rattle.rules.specs.AnswerTypes.{NeedAnswer}
+use Rattle.rules.specs.AnswerTypes.{ReportUntyped, ReportLoops}
 use Rattle.rules.specs.Bytes.{word}
 use Rattle.rules.specs.Numbers.{done, no_typing, stack_overflow, calls_loop}
 use Rattle.rules.specs.Tables.{Body, body_of}

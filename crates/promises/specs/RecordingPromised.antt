@@ -1,8 +1,8 @@
 -- These promises, from the definitions and from `rechecks` of the crate rechecks.
 use Rattle.std.specs.Prelude.{◌≡◌, ℕ, List}
 use Rattle.std.proofs.Common.{sym, ap, subst, ◌∙◌}
-use Rattle.rules.specs.declared.CheckAnswer.{CheckAnswer}
-use Rattle.rules.specs.declared.RecordingAnswer.{RecordingAnswer}
+use Rattle.rules.specs.AnswerTypes.{CheckAnswer}
+use Rattle.rules.specs.AnswerTypes.{RecordingAnswer}
 use Rattle.rules.specs.Answers.{check_number}
 use Rattle.rules.specs.Host.{body_after, recording_body_after, recording_written_after}
 use Rattle.rules.specs.Recording.{recording_number, Recording, recording, check_recording, Rechecked, rechecked, recheck}

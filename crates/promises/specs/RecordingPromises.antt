@@ -1,8 +1,8 @@
 -- What the check that writes a record and the check of one body promise: answer and lent memory equal to the definitions', and what
 -- document 02 claims of them.
 use Rattle.std.specs.Prelude.{◌≡◌, ℕ, ◌*◌, ◌≤◌, List, length, take}
-use Rattle.rules.specs.declared.CheckAnswer.{CheckAnswer}
-use Rattle.rules.specs.declared.RecordingAnswer.{RecordingAnswer}
+use Rattle.rules.specs.AnswerTypes.{CheckAnswer}
+use Rattle.rules.specs.AnswerTypes.{RecordingAnswer}
 use Rattle.rules.specs.Tables.{body_of}
 use Rattle.rules.specs.ModuleFile.{refusal, functions, labels, tables_in}
 use Rattle.rules.specs.Answers.{check_number, check}

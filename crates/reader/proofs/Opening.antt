@@ -1,53 +1,51 @@
 -- The answer of opening a file, from the rows; and what an opened module is known to have.
-use Prim.Native.Nat.{ℕ, zero, suc, ◌+◌, ◌-◌, ◌≤◌, ◌<◌}
+use Prim.Native.Nat.{ℕ, ◌+◌, ◌-◌, ◌≤◌, ◌<◌}
 use native.Mathlib.Omega.{arith}
 use mathlib.Core.Path.{◌≡◌, refl, sym, ap, ◌∙◌, subst}
+use Rattle.std.specs.Prelude.{Ok, Err}
 use mathlib.Core.Bool.{Bool, true, false, cond}
 use mathlib.Core.List.{List, [], ◌∷◌}
 use lib.Dec.{eqb, ltb}
 use lib.ListN.{length, take, drop}
 use borrow.Author.Tests.{lt-ltb, ne_eqb, ltb-false}
 use Rattle.rules.specs.Bytes.{some_below}
-use Rattle.rules.specs.Tables.{function_size, Bodies, bodies, Tables, header_size, label_count, structure_count, first_of, content_tests, bad_constants, bad_structures, bad_functions, bad_code, bad_labels}
+use Rattle.rules.specs.Tables.{function_size, Bodies, bodies, Tables, header_size, structure_count, first_of, content_tests, bad_constants, bad_structures, bad_functions, bad_code, bad_labels}
 use Rattle.rules.specs.ModuleFile.{edition, constants_at, structures, structures_in, refusal, tables_in}
 use Rattle.format.specs.declared.Sections.{Sections}
 use Rattle.format.specs.Layout.{sections_of, header_tests, Packed, bad_table}
 use Rattle.format.proofs.Editions.{functions_third}
 use Rattle.format.proofs.Rows.{Header, header_of_lem, packed_of, first_hit, first_none}
-use Rattle.reader.specs.declared.Opened.TheVariants.{Refused, Module}
-use Rattle.reader.specs.Answers.{code_tests, functions_tests, bodies_tests, answer, opened_of}
+use Rattle.rules.specs.declared.Refusal.{Refusal}
+use Rattle.rules.specs.Results.{refusal_number}
+use Rattle.reader.specs.Answers.{code_tests, functions_tests, bodies_tests, Opens}
 use Rattle.reader.proofs.Bodies.{same_code, same_labels}
 use Rattle.reader.proofs.Records.{none_declared, old_pool, lent_tables}
 
-refused : (n : ℕ) (c : Sections) → (n ≡ 0 → ⊥) → Refused n ≡ answer n c
-refused zero c h = absurd (h refl)
-refused (suc n) c h = refl
+-- no refusal's number is 0
+pub refusal_some : (e : Refusal) → refusal_number e ≡ 0 → ⊥
+refusal_some e z = grind arith
 
 -- rows 6 to 9 decide where rows 1 to 5 don't hold
 later : (s : List ℕ) → Header s → first_of 6 (content_tests (tables_in s)) ≡ refusal s
 unfolding refusal first_of
 later s h = simp (h.long, h.known, h.total, h.limits, h.packed)
 
-module _ (s : List ℕ) (n : ℕ) where
-  pub refused_first : n ≡ first_of 1 (header_tests s) → (n ≡ 0 → ⊥) → Refused n ≡ opened_of s
+module _ (s : List ℕ) (e : Refusal) where
+  pub refused_first : refusal_number e ≡ first_of 1 (header_tests s) → Opens s (Err e)
   unfolding refusal
-  refused_first e h =
-      refused n (sections_of s) h
-      ∙ ap (λ (k : ℕ). answer k (sections_of s)) (e ∙ sym (first_hit 0 (header_tests s) (content_tests (tables_in s)) (λ z. h (e ∙ z))))
+  refused_first p = first_hit 0 (header_tests s) (content_tests (tables_in s)) (λ z. refusal_some e (p ∙ z)) ∙ sym p
 
-  pub refused_later : Header s → n ≡ first_of 6 (content_tests (tables_in s)) → (n ≡ 0 → ⊥) → Refused n ≡ opened_of s
-  refused_later k e h = refused n (sections_of s) h ∙ ap (λ (k : ℕ). answer k (sections_of s)) (e ∙ later s k)
+  pub refused_later : Header s → refusal_number e ≡ first_of 6 (content_tests (tables_in s)) → Opens s (Err e)
+  refused_later k p = sym (p ∙ later s k)
 
-  pub not_refused : Header s → n ≡ first_of 6 (content_tests (tables_in s)) → n ≡ 0 → (c : Sections) → c ≡ sections_of s → Module c ≡ opened_of s
-  not_refused k e h c g =
-      let z : refusal s ≡ 0 = sym (later s k) ∙ sym e ∙ h in
-      ap Module g ∙ ap (λ (k : ℕ). answer k (sections_of s)) (sym z)
+pub not_refused : (s : List ℕ) → Header s → 0 ≡ first_of 6 (content_tests (tables_in s)) → (c : Sections) → c ≡ sections_of s → Opens s (Ok c)
+not_refused s k p c g = (sym (p ∙ later s k), g)
 
 -- ---- the header by edition
 
-pub too_short : (s : List ℕ) → length s < 48 → Refused 1 ≡ opened_of s
+pub too_short : (s : List ℕ) → length s < 48 → Opens s (Err Refusal.TooShort)
 unfolding first_of
-too_short s l = refused_first s 1 (simp (lt-ltb (length s) (header_size (edition s)) (below (eqb (edition s) 4)))) (λ z. absurd (omega arith))
+too_short s l = refused_first s Refusal.TooShort (simp (lt-ltb (length s) (header_size (edition s)) (below (eqb (edition s) 4))))
   where
     below : (b : Bool) → length s < cond b 56 48
     below true = omega arith
@@ -61,46 +59,18 @@ fourth_header s e h = let l : ltb (length s) 56 ≡ false = rw e at h.long in lt
 
 -- ---- an answer, taken apart
 
-pub opened_refused : (s : List ℕ) (n : ℕ) → Refused n ≡ opened_of s → n ≡ refusal s
-opened_refused s n opened = go (refusal s) refl
-  where
-    go : (k : ℕ) → refusal s ≡ k → n ≡ refusal s
-    go zero e =
-        let g : Refused n ≡ answer zero (sections_of s) = opened ∙ ap (λ (k : ℕ). answer k (sections_of s)) e in
-        let z : ◌≡◌ {A = ℕ} 0 1 = cc in
-        absurd (omega arith)
-    go (suc k) e = let g : Refused n ≡ answer (suc k) (sections_of s) = opened ∙ ap (λ (k : ℕ). answer k (sections_of s)) e in cc
+pub opened_refused : (s : List ℕ) (e : Refusal) → Opens s (Err e) → refusal_number e ≡ refusal s
+opened_refused s e opened = sym opened
 
-module _ (s : List ℕ) (c : Sections) (opened : Module c ≡ opened_of s) where
+module _ (s : List ℕ) (c : Sections) (opened : Opens s (Ok c)) where
   pub opened_sections : (refusal s ≡ 0) × (c ≡ sections_of s)
-  opened_sections = go (refusal s) refl
-    where
-      go : (n : ℕ) → refusal s ≡ n → (refusal s ≡ 0) × (c ≡ sections_of s)
-      go zero e = (e, let g : Module c ≡ answer zero (sections_of s) = opened ∙ ap (λ (k : ℕ). answer k (sections_of s)) e in cc)
-      go (suc n) e =
-          let g : Module c ≡ answer (suc n) (sections_of s) = opened ∙ ap (λ (k : ℕ). answer k (sections_of s)) e in
-          let z : ◌≡◌ {A = ℕ} 0 1 = cc in
-          absurd (omega arith)
+  opened_sections = opened
 
   pub opened_packed : Packed s c
   unfolding refusal
-  opened_packed =
-      subst (λ (x : Sections). Packed s x) (sym opened_sections.1) (packed_of s (header_of_lem s (first_none 0 (header_tests s) (content_tests (tables_in s)) opened_sections.0)))
+  opened_packed = subst (λ (x : Sections). Packed s x) (sym opened.1) (packed_of s (header_of_lem s (first_none 0 (header_tests s) (content_tests (tables_in s)) opened.0)))
 
 -- ---- rows 6 to 9, one after the other
-
--- no label, no row 9
-no_labels : (B : Bodies) (ls : List ℕ) → label_count ls ≡ 0 → bad_labels B ls ≡ false
-unfolding bad_labels some_below
-no_labels B ls h = rw h refl
-
-no_ninth : (B : Bodies) (ls : List ℕ) → label_count ls ≡ 0 → first_of 8 (bad_code B ∷ []) ≡ first_of 8 (code_tests B ls)
-unfolding first_of
-no_ninth B ls h = rw (no_labels B ls h) (go (bad_code B))
-  where
-    go : (b : Bool) → first_of 8 (b ∷ []) ≡ first_of 8 (b ∷ false ∷ [])
-    go true = refl
-    go false = refl
 
 -- rows 7 to 9; no structure is looked at in rows 8 and 9
 module _ (e : ℕ) (fs zs code : List ℕ) (m : ℕ) (ls : List ℕ) (b₇ : Bool) (e₇ : b₇ ≡ bad_functions (bodies e fs zs code m)) where
@@ -117,9 +87,6 @@ module _ (e : ℕ) (fs zs code : List ℕ) (m : ℕ) (ls : List ℕ) (b₇ : Boo
     pub from_code : n ≡ first_of 8 (code_tests (bodies e fs [] code m) ls) → n ≡ first_of 7 (functions_tests (bodies e fs zs code m) ls)
     unfolding first_of
     from_code h = simp (← e₇, good₇) (h ∙ same_rows)
-
-    pub from_code_alone : label_count ls ≡ 0 → n ≡ first_of 8 (bad_code (bodies e fs [] code m) ∷ []) → n ≡ first_of 7 (functions_tests (bodies e fs zs code m) ls)
-    from_code_alone l h = from_code (h ∙ no_ninth (bodies e fs [] code m) ls l)
 
 -- row 6 of structures
 module _ (B : Bodies) (ls : List ℕ) (b₆ : Bool) (e₆ : b₆ ≡ bad_structures B.structures) where

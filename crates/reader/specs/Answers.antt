@@ -1,5 +1,5 @@
 -- What the answers of this crate mean in the rules.
-use Rattle.std.specs.Prelude.{ℕ, zero, suc, ◌+◌, ◌<◌, ◌≡◌, Bool, List, [], ◌∷◌}
+use Rattle.std.specs.Prelude.{ℕ, ◌+◌, ◌<◌, ◌≡◌, Bool, List, [], ◌∷◌, Ok, Err, Some, None}
 use Rattle.std.proofs.Math.Option.{Option, none, some}
 use Rattle.rules.specs.Bytes.{byte}
 use Rattle.rules.specs.declared.Slot.{Slot}
@@ -9,14 +9,12 @@ use Rattle.rules.specs.ModuleFile.{edition, functions_in, refusal}
 use Rattle.rules.specs.Stack.{at}
 use Rattle.format.specs.declared.Sections.{Sections}
 use Rattle.format.specs.Layout.{sections_of}
-use Rattle.reader.specs.declared.Opened.{Opened}
-use Rattle.reader.specs.declared.Opened.TheVariants.{Refused, Module}
-use Rattle.reader.specs.declared.entries.FoundConstant.{FoundConstant}
-use Rattle.reader.specs.declared.entries.FoundFunction.{FoundFunction}
-use Rattle.reader.specs.declared.entries.FoundLabel.{FoundLabel}
-use Rattle.reader.specs.declared.entries.FoundConstant.TheVariants as FoundConstant
-use Rattle.reader.specs.declared.entries.FoundFunction.TheVariants as FoundFunction
-use Rattle.reader.specs.declared.entries.FoundLabel.TheVariants as FoundLabel
+use Rattle.rules.specs.declared.Refusal.{Refusal}
+use Rattle.rules.specs.Results.{refusal_number}
+use Rattle.std.specs.declared.result.Result.{Result}
+use Rattle.std.specs.declared.option.Option as found
+use Rattle.reader.specs.declared.entries.FunctionRecord.{FunctionRecord}
+use Rattle.reader.specs.declared.entries.LabelRecord.{LabelRecord}
 
 -- rows 8 and 9
 abbrev pub code_tests : Bodies → List ℕ → List Bool
@@ -30,28 +28,25 @@ functions_tests b ls = bad_functions b ∷ code_tests b ls
 abbrev pub bodies_tests : Bodies → List ℕ → List Bool
 bodies_tests b ls = bad_structures b.structures ∷ functions_tests b ls
 
--- a refusal by its number; the sections where there is none
-abbrev pub answer : ℕ → Sections → Opened
-answer zero c = Module c
-answer (suc n) c = Refused (suc n)
-
-abbrev pub opened_of : List ℕ → Opened
-opened_of s = answer (refusal s) (sections_of s)
+-- what a file that can be read is opened as, and what another is refused with
+abbrev pub Opens : List ℕ → Result Sections Refusal → Type 0
+Opens s (Ok c) = (refusal s ≡ 0) × (c ≡ sections_of s)
+Opens s (Err e) = refusal s ≡ refusal_number e
 
 -- ---- by number
 
-abbrev pub slot_in : FoundConstant → Option Slot
-slot_in (FoundConstant.Constant v) = some v
-slot_in FoundConstant.Nothing = none
+abbrev pub slot_in : found.Option Slot → Option Slot
+slot_in (Some v) = some v
+slot_in None = none
 
 -- a function record of the table s of edition e, at byte a; parameters and profile are not read
-abbrev pub function_in : ℕ → List ℕ → ℕ → FoundFunction → Option Function
-function_in e s a (FoundFunction.Record f) =
+abbrev pub function_in : ℕ → List ℕ → ℕ → found.Option FunctionRecord → Option Function
+function_in e s a (Some f) =
     some (record { start = f.start; end = f.end; params = params_from s (a + 10) f.params; result = result_of f.result; profile = profile_at e s a })
-function_in e s a FoundFunction.Nothing = none
+function_in e s a None = none
 
 -- function k of the file s
-abbrev pub function_found : List ℕ → ℕ → FoundFunction → Option Function
+abbrev pub function_found : List ℕ → ℕ → found.Option FunctionRecord → Option Function
 function_found s k = function_in (edition s) (functions_in s) (function_at (edition s) k)
 
 -- r is the type byte of parameter j of the function at byte a of the table s of edition e
@@ -62,6 +57,6 @@ ParamAt e s a j r = (r ≡ byte s (a + 10 + j)) × (j < byte s (a + 8) → at (f
 abbrev pub ParamIs : List ℕ → ℕ → ℕ → ℕ → Type 0
 ParamIs s k = ParamAt (edition s) (functions_in s) (function_at (edition s) k)
 
-abbrev pub label_in : FoundLabel → Option (Body × ℕ)
-label_in (FoundLabel.Record l) = some (body_of l.owner, l.place)
-label_in FoundLabel.Nothing = none
+abbrev pub label_in : found.Option LabelRecord → Option (Body × ℕ)
+label_in (Some l) = some (body_of l.owner, l.place)
+label_in None = none

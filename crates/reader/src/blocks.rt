@@ -26,11 +26,9 @@ fn all_bare(edition: usize, code: &[u8], p: usize) -> bool
     ensures { result ≡ all_bare edition code.now p 16 }
 {
     let mut good = true;
-    let mut i = 0;
-    while i < 16 {
+    for i in 0..16 {
         let g = bare(edition, code[p + i]);
         good = good & g;
-        i += 1;
     }
     good
 }
@@ -47,15 +45,14 @@ fn mark_block(starts: &mut [u8], p: usize) -> bool
     if starts.len() < p + 16 {
         return false;
     }
-    let mut i = 0;
-    while i < 16 {
+    for i in 0..16 {
         starts[p + i] = 1;
-        i += 1;
     }
     true
 }
 
 // Passes blocks of one-byte instructions and marks them, as many as follow one another; the place where it stops.
+// (A `while`: the place that it counts up is its answer, which a `for` would have to count beside.)
 pub(crate) fn skip(edition: usize, code: &[u8], from: usize, to: usize, starts: &mut [u8]) -> usize
     requires from_le_to { (from ≤ to) × (to ≤ length code.now) × (length code.now ≤ 16384) × (unknown_edition edition ≡ false) }
     requires cut { Cut edition code.now from starts.old }

@@ -47,7 +47,7 @@ fn opcode_size(edition: usize, b: u8) -> usize
     if 63 < b {
         return 0;
     }
-    let k = b as u64;
+    let k = u64::from(b);
     if (wide >> k) % 2 == 1 {
         return 5;
     }
@@ -81,6 +81,7 @@ fn walk_body(edition: usize, code: &[u8], from: usize, to: usize, starts: &mut [
     ensures starts_len_unchanged { length starts.new ≡ length starts.old }
     ensures walked { Walked result edition code.now to starts.new }
 {
+    // An instruction is one or five bytes, and a block sixteen, so no `for` steps as this place does.
     let mut p = from;
     let mut wait: u32 = 8;
     while p < to {
@@ -122,6 +123,7 @@ pub(crate) fn bad_code(
     let mut from = 0;
     let mut end = entry;
     let mut i = 0;
+    // One call walks the entry and the functions: the compiler inlines it only where it has one caller, and a `for` would ask two.
     loop {
         let whole = walk_body(edition, code, from, end, starts);
         if !whole {

@@ -6,21 +6,26 @@ use mathlib.Core.Bool.{Bool, true, false}
 use mathlib.Core.Option.{Option, none, some}
 use mathlib.Core.List.{List, [], ◌∷◌, ◌++◌}
 use lib.ListN.{length, get_or, set, drop, replicate, length-append, length-set, length-replicate}
+use lib.Seq.{paste, paste-zero, paste-suc}
 use lib.Dec.{ltb, eqb}
+use Rattle.std.proofs.lemmas.List.{get_or-replicate}
 use Rattle.rules.specs.Bytes.{bytes, written}
 use Rattle.rules.specs.Instructions.{Ty}
 use Rattle.rules.specs.Tables.{Body, entry, fn, body_of, function_count, Module, module_of}
 use Rattle.rules.specs.ModuleFile.{edition, functions_in, refusal, functions, labels, read, bodies_in}
 use Rattle.rules.specs.Typing.{WellTyped, start_of}
 use Rattle.rules.specs.Check.{check_body, bodies, functions_from, first_untyped}
-use Rattle.rules.specs.declared.CheckAnswer.{CheckAnswer}
-use Rattle.rules.specs.declared.CheckAnswer.TheVariants.{Refused, Untyped, Accepted}
+use Rattle.rules.specs.AnswerTypes.{CheckAnswer}
+use Rattle.rules.specs.AnswerTypes.{Refused, Untyped, Accepted}
 use Rattle.rules.specs.Answers.{Checked, check}
 use Rattle.format.specs.declared.Sections.{Sections}
-use Rattle.format.specs.Layout.{Packed, sections_of}
-use Rattle.reader.specs.declared.Opened.TheVariants as Opened
-use Rattle.reader.specs.Answers.{answer, opened_of}
-use Rattle.reader.proofs.Opening.{opened_refused}
+use Rattle.format.specs.Layout.{Packed}
+use Rattle.std.specs.Prelude.{Err}
+use Rattle.rules.specs.declared.Refusal.{Refusal}
+use Rattle.rules.specs.declared.CheckError.{CheckError}
+use Rattle.rules.specs.Results.{refusal_number, check_answer, recording_answer}
+use Rattle.reader.specs.Answers.{Opens}
+use Rattle.reader.proofs.Opening.{refusal_some}
 use Rattle.soundness.specs.Tests.{decide, eqb_is, eqb_isnt, ltb_is, ltb_isnt, ltb_yes, ltb_no, false_true}
 use Rattle.soundness.specs.Readable.{Has}
 use Rattle.soundness.specs.Cutting.{function_count_lem}
@@ -29,11 +34,11 @@ use Rattle.nodes.proofs.Lists.{unseen_most}
 use Rattle.checker.specs.Work.{Working, Left, Settled, CheckIs}
 use Rattle.checker.proofs.Covering.{typed, untyped}
 use Rattle.checker.proofs.Verdicts.{exactly}
-use Rattle.rules.specs.declared.RecordingAnswer.TheVariants.{Unrecorded, RecordedUntyped, Recorded}
+use Rattle.rules.specs.AnswerTypes.{Unrecorded, RecordedUntyped, Recorded}
 use Rattle.rules.specs.Recording.{flag, flag_of, flags_of, record_of, record_length, index_of, record_differs, first_zero, recording, recording_with, check_recording, updated, answer_from, rechecked, recheck}
 use Rattle.rechecks.specs.Whole.{typable_flag, full_answer}
 use Rattle.rechecks.specs.Files.{recorded_as, recording_writes}
-use Rattle.beside.specs.Bodies.{body_at, bit, headed, oned}
+use Rattle.beside.specs.Bodies.{body_at, bit, headed}
 use Rattle.beside.proofs.Laws.{other_length}
 use Rattle.rechecker.specs.Flags.{flagged, Lends, Ready, Recordable, Judges, Flags, RecordingIs, RecheckIs}
 
@@ -106,13 +111,20 @@ module _ (m : Module) (r : List ℕ) (a : ℕ) where
   flagged_length (suc n) = length-set (flagged m r a n) (8 + (a + n)) (flag_of m (body_at (a + n))) ∙ flagged_length n
 
 -- all of them are 1 where every body has a typing
-pub ones_flags : (m : Module) (r : List ℕ) (n : ℕ) → ((i : ℕ) → i < n → flag_of m (body_at i) ≡ 1) → oned r n ≡ flagged m r 0 n
-unfolding oned flagged
-ones_flags m r zero h = refl
-ones_flags m r (suc n) h =
-    let z : 0 + n ≡ n = omega arith in
-    ap (λ w. set w (8 + n) 1) (ones_flags m r n (λ i l. h i (omega arith))) ∙ ap (set (flagged m r 0 n) (8 + n)) (sym (h n (omega arith)))
-    ∙ ap (λ k. set (flagged m r 0 n) (8 + k) (flag_of m (body_at k))) (sym z)
+module _ (m : Module) (r : List ℕ) (n : ℕ) (long : 8 + n ≤ length r) (h : (i : ℕ) → i < n → flag_of m (body_at i) ≡ 1) where
+  ones_front : (i : ℕ) → i ≤ n → paste r 8 (replicate n 1) i ≡ flagged m r 0 i
+  unfolding flagged
+  ones_front zero l = sym (paste-zero r 8 (replicate n 1))
+  ones_front (suc i) l =
+      let e : length (replicate {A = ℕ} n 1) ≡ n = length-replicate n 1 in
+      let z : 0 + i ≡ i = omega arith in
+      sym (paste-suc r 8 (replicate n 1) i 0 (omega arith) (omega arith))
+      ∙ ap (set (paste r 8 (replicate n 1) i) (8 + i)) (get_or-replicate n i 1 0 (omega arith) ∙ sym (h i (omega arith)))
+      ∙ ap (λ w. set w (8 + i) (flag_of m (body_at i))) (ones_front i (omega arith))
+      ∙ ap (λ k. set (flagged m r 0 i) (8 + k) (flag_of m (body_at k))) (sym z)
+
+  pub ones_flags : paste r 8 (replicate n 1) n ≡ flagged m r 0 n
+  ones_flags = ones_front n (omega arith)
 
 -- the flags of the first n bodies
 front : Module → ℕ → List ℕ
@@ -175,6 +187,20 @@ headed_is (a ∷ b ∷ c ∷ d ∷ []) n l = absurd (omega arith)
 headed_is (a ∷ b ∷ c ∷ d ∷ e ∷ []) n l = absurd (omega arith)
 headed_is (a ∷ b ∷ c ∷ d ∷ e ∷ f ∷ []) n l = absurd (omega arith)
 headed_is (a ∷ b ∷ c ∷ d ∷ e ∷ f ∷ g ∷ []) n l = absurd (omega arith)
+
+pub headed_length : (r : List ℕ) (n : ℕ) → 8 ≤ length r → length (headed r n) ≡ length r
+headed_length r n h = ap length (headed_is r n h) ∙ go r h
+  where
+    go : (r : List ℕ) → 8 ≤ length r → length ((bytes 4 n ++ bytes 4 8) ++ drop 8 r) ≡ length r
+    go (a ∷ b ∷ c ∷ d ∷ e ∷ f ∷ g ∷ h ∷ r) l = refl
+    go [] l = absurd (omega arith)
+    go (a ∷ []) l = absurd (omega arith)
+    go (a ∷ b ∷ []) l = absurd (omega arith)
+    go (a ∷ b ∷ c ∷ []) l = absurd (omega arith)
+    go (a ∷ b ∷ c ∷ d ∷ []) l = absurd (omega arith)
+    go (a ∷ b ∷ c ∷ d ∷ e ∷ []) l = absurd (omega arith)
+    go (a ∷ b ∷ c ∷ d ∷ e ∷ f ∷ []) l = absurd (omega arith)
+    go (a ∷ b ∷ c ∷ d ∷ e ∷ f ∷ g ∷ []) l = absurd (omega arith)
 
 drop_none : (k : ℕ) → drop {A = ℕ} k [] ≡ []
 drop_none zero = refl
@@ -285,13 +311,13 @@ module _ (s : List ℕ) (e : refusal s ≡ 0) where
     record_long q = decide (eqb (length r) (8 + (c.functions + 1))) (λ y. eqb_is (length r) (8 + (c.functions + 1)) y)
         (λ y. false_true (q ∙ sym (other_length r (c.functions + 1) (omega arith) (eqb_isnt (length r) (8 + (c.functions + 1)) y))))
 
-pub recheck_refused : (s : List ℕ) (f : ℕ) (r : List ℕ) (n : ℕ) → Opened.Refused n ≡ opened_of s → RecheckIs s f r (Refused n) r
+pub recheck_refused : (s : List ℕ) (f : ℕ) (r : List ℕ) (e : Refusal) → Opens s (Err e) → RecheckIs s f r (Refused (refusal_number e)) r
 unfolding recheck
-recheck_refused s f r n q = go (refusal s) refl
+recheck_refused s f r e q = go (refusal_number e) refl
   where
-    go : (k : ℕ) → refusal s ≡ k → RecheckIs s f r (Refused n) r
-    go zero w = absurd (let g : Opened.Refused n ≡ answer zero (sections_of s) = q ∙ ap (λ (j : ℕ). answer j (sections_of s)) w in let z : ◌≡◌ {A = ℕ} 0 1 = cc in omega arith)
-    go (suc k) w = let y : n ≡ suc k = opened_refused s n q ∙ w in rw w (rw y refl)
+    go : (n : ℕ) → refusal_number e ≡ n → RecheckIs s f r (Refused (refusal_number e)) r
+    go zero w = absurd (refusal_some e w)
+    go (suc k) w = let z : refusal s ≡ suc k = q ∙ w in rw w (rw z refl)
 
 -- ---- the full check with a record
 
@@ -343,26 +369,17 @@ module _ (s : List ℕ) (c : Sections) (room r : List ℕ) (R : Recordable s c r
     pub recording_flags : (u : ℕ) → CheckIs s room (Untyped u) room' → Flags s 0 b (headed r b) r' → RecordingIs s room r (RecordedUntyped u) room' r'
     recording_flags u k g = let y : b - 0 ≡ b = omega arith in written_all (Untyped u) k (g ∙ ap (λ n. flagged (read s) (headed r b) 0 n) y)
 
-    pub recording_ones : (v : ℕ) → v ≡ 8 + b → CheckIs s room Accepted room' → r' ≡ oned (headed r b) b → RecordingIs s room r (Recorded v) room' r'
+    pub recording_failed : (e : CheckError) → CheckIs s room (check_answer {T = Unit {0}} (Err e)) room' → Flags s 0 b (headed r b) r' → RecordingIs s room r (recording_answer (Err e)) room' r'
+    recording_failed (CheckError.Refused e) k g = absurd (not_refused (refusal_number e) room' k)
+    recording_failed (CheckError.Untyped u) k g = recording_flags u k g
+
+    pub recording_ones : (v : ℕ) → v ≡ 8 + b → CheckIs s room Accepted room' → r' ≡ paste (headed r b) 8 (replicate b 1) b → RecordingIs s room r (Recorded v) room' r'
     recording_ones v z k g =
         let t : WellTyped (read s) = (exactly s room Accepted room' k).sound refl in
         let n : v ≡ record_length (functions s) = let y : b ≡ suc (functions s) = count_is in omega arith in
+        let long : 8 + b ≤ length (headed r b) = (let y : b ≡ suc (functions s) = count_is in let u : record_length (functions s) ≤ length r = record_for in let w : length (headed r b) ≡ length r = headed_length r b (omega arith) in omega arith) in
         ap (λ x. recording (Recorded x) room' r') n
-        ∙ written_all Accepted k (g ∙ ones_flags (read s) (headed r b) b (λ i h. typable_flag (read s) (body_at i) (t.typing (body_at i), t.consistent (body_at i))))
+        ∙ written_all Accepted k (g ∙ ones_flags (read s) (headed r b) b (long) (λ i h. typable_flag (read s) (body_at i) (t.typing (body_at i), t.consistent (body_at i))))
 
 pub lends_all : (s : List ℕ) (c : Sections) (r : List ℕ) (b : ℕ) → Packed s c → refusal s ≡ 0 → b ≡ c.functions + 1 → 8 + b ≤ length r → Lends s c 0 b r
 lends_all s c r b p e q h = record { packed = p; readable = e; order = omega arith; few = omega arith; long = h }
-
-pub headed_length : (r : List ℕ) (n : ℕ) → 8 ≤ length r → length (headed r n) ≡ length r
-headed_length r n h = ap length (headed_is r n h) ∙ go r h
-  where
-    go : (r : List ℕ) → 8 ≤ length r → length ((bytes 4 n ++ bytes 4 8) ++ drop 8 r) ≡ length r
-    go (a ∷ b ∷ c ∷ d ∷ e ∷ f ∷ g ∷ h ∷ r) l = refl
-    go [] l = absurd (omega arith)
-    go (a ∷ []) l = absurd (omega arith)
-    go (a ∷ b ∷ []) l = absurd (omega arith)
-    go (a ∷ b ∷ c ∷ []) l = absurd (omega arith)
-    go (a ∷ b ∷ c ∷ d ∷ []) l = absurd (omega arith)
-    go (a ∷ b ∷ c ∷ d ∷ e ∷ []) l = absurd (omega arith)
-    go (a ∷ b ∷ c ∷ d ∷ e ∷ f ∷ []) l = absurd (omega arith)
-    go (a ∷ b ∷ c ∷ d ∷ e ∷ f ∷ g ∷ []) l = absurd (omega arith)

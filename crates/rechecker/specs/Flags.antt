@@ -2,8 +2,8 @@
 use Rattle.std.specs.Prelude.{◌≡◌, ℕ, zero, suc, ◌+◌, ◌-◌, ◌*◌, ◌≤◌, Bool, List, length, set}
 use Rattle.rules.specs.Tables.{Module}
 use Rattle.rules.specs.ModuleFile.{refusal, read}
-use Rattle.rules.specs.declared.CheckAnswer.{CheckAnswer}
-use Rattle.rules.specs.declared.RecordingAnswer.{RecordingAnswer}
+use Rattle.rules.specs.AnswerTypes.{CheckAnswer}
+use Rattle.rules.specs.AnswerTypes.{RecordingAnswer}
 use Rattle.rules.specs.Recording.{flag_of, record_length, recording, check_recording, rechecked, recheck}
 use Rattle.format.specs.declared.Sections.{Sections}
 use Rattle.format.specs.Layout.{Packed}

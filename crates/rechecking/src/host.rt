@@ -1,28 +1,30 @@
 // The same for C: the number is the answer, and what else an answer holds goes through pointers.
 ghost use Rattle.std.specs.Prelude.{◌≡◌};
 ghost use Rattle.rules.specs.Host.{recording_body_after, recording_written_after};
+ghost use Rattle.rules.specs.Results.{recording_answer};
 ghost use Rattle.rules.specs.Recording.{recording_number};
 ghost use Rattle.promises.specs.RecordingPromises.{HostRecordingKeeps, HostRecheckKeeps};
 
-use rules::RecordingAnswer;
+use rules::CheckError;
 
+// The number that C reads where the error names a body.
 const NO_TYPING: u32 = 11;
 
 // An answer's number. The body without typing is written with 11 only, the length with 0 only.
-pub fn recording_number(answer: RecordingAnswer, body: &mut u32, written: &mut u64) -> u32
-    ensures value { result ≡ recording_number answer }
-    ensures body_after { body.new ≡ recording_body_after answer body.old }
-    ensures written_after { written.new ≡ recording_written_after answer written.old }
+pub fn recording_number(answer: Result<u64, CheckError>, body: &mut u32, written: &mut u64) -> u32
+    ensures value { result ≡ recording_number (recording_answer answer) }
+    ensures body_after { body.new ≡ recording_body_after (recording_answer answer) body.old }
+    ensures written_after { written.new ≡ recording_written_after (recording_answer answer) written.old }
 {
     match answer {
-        RecordingAnswer::Unrecorded(n) => n,
-        RecordingAnswer::RecordedUntyped(b) => {
-            *body = b;
-            NO_TYPING
-        }
-        RecordingAnswer::Recorded(n) => {
+        Ok(n) => {
             *written = n;
             0
+        }
+        Err(CheckError::Refused(refusal)) => u32::from(refusal),
+        Err(CheckError::Untyped(b)) => {
+            *body = b;
+            NO_TYPING
         }
     }
 }

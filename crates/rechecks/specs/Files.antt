@@ -24,8 +24,8 @@ use Rattle.soundness.specs.Cutting.{good_file, function_count_lem, few_functions
 use Rattle.rules.specs.Check.{bodies, first_untyped}
 use Rattle.rules.specs.Answers.{check_number, check_body_named, check}
 use Rattle.rules.specs.Demand3.{Exists}
-use Rattle.rules.specs.declared.RecordingAnswer.{RecordingAnswer}
-use Rattle.rules.specs.declared.RecordingAnswer.TheVariants.{Unrecorded, RecordedUntyped, Recorded}
+use Rattle.rules.specs.AnswerTypes.{RecordingAnswer}
+use Rattle.rules.specs.AnswerTypes.{Unrecorded, RecordedUntyped, Recorded}
 use Rattle.rules.specs.Recording.{index_of, record_of, record_length, recording_number, recording_body_named, Recording, recording, recording_with, check_recording, answer_from, recheck}
 use Rattle.rules.specs.Rechecked.{SameCode, count_in, function_in, SameOutside, Faithful, Rechecks}
 use Rattle.rechecks.specs.Same.{SameTables, SameBody}

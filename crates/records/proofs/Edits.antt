@@ -247,22 +247,6 @@ pub record Emptying (r r' : List ℕ) (n : ℕ) : Type 0 where
   pub rest : (i : ℕ) → n ≤ i → i < 32 → byte r' (32 + i) ≡ 0
 
 module _ (r : List ℕ) (n : ℕ) where
-  pub empty_starts : Holds r → n ≡ byte r 2 → Emptying r r n
-  empty_starts h e =
-      record { long = h.long; few = let f = h.few_operands in omega arith; kept = λ i a. refl; rest = λ i a b. h.operand_rest i (omega arith) b }
-
-  pub empty_again : (r' : List ℕ) → Emptying r r' n → 0 < n → Emptying r (set r' (32 + (n - 1)) 0) (n - 1)
-  empty_again r' v l =
-      let g = v.long in
-      let f = v.few in
-      record {
-        long = length-set r' (32 + (n - 1)) 0 ∙ g;
-        few = omega arith;
-        kept = λ i a. get_or-set_other r' (32 + (n - 1)) i 0 0 (λ p. omega arith) ∙ v.kept i a;
-        rest = λ i a b. either i (n - 1) (λ e. rw e (get_or-set_same r' (32 + (n - 1)) 0 0 (omega arith)))
-            (λ ne. get_or-set_other r' (32 + (n - 1)) (32 + i) 0 0 (λ p. ne (omega arith)) ∙ v.rest i (omega arith) b);
-      }
-
   pub empty_ends : (r' : List ℕ) → Holds r → Emptying r r' n → n ≤ 0 → Emptied r (set r' 2 0)
   empty_ends r' h v l =
       let g = v.long in

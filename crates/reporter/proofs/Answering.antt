@@ -8,7 +8,7 @@ use mathlib.Core.List.{List, ◌++◌, append_assoc, append-nil}
 use lib.ListN.{length, get_or, take, drop, length-append}
 use lib.Seq.{take_at, drop-append-add, drop-drop}
 use lib.Dec.{ltb, eqb}
-use Rattle.rules.specs.declared.NeedAnswer.TheVariants.{Unreported, ReportLoops, Reported}
+use Rattle.rules.specs.AnswerTypes.{Unreported, ReportLoops, Reported}
 use Rattle.rules.specs.Bytes.{bytes, written}
 use Rattle.rules.specs.Tables.{fn, body_number}
 use Rattle.rules.specs.ModuleFile.{functions, read}

@@ -6,8 +6,11 @@ use native.Mathlib.Omega.{arith}
 use mathlib.Core.Option.{none, some}
 use mathlib.Core.List.{List}
 use lib.ListN.{length, get_or, replicate, length-replicate}
-use Rattle.rules.specs.declared.CheckAnswer.{CheckAnswer}
-use Rattle.rules.specs.declared.CheckAnswer.TheVariants.{Accepted}
+use Rattle.rules.specs.AnswerTypes.{CheckAnswer}
+use Rattle.rules.specs.AnswerTypes.{Refused, Untyped, Accepted}
+use Rattle.std.specs.Prelude.{Err}
+use Rattle.rules.specs.declared.CheckError.{CheckError}
+use Rattle.rules.specs.Results.{refusal_number, check_answer, need_answer, need_error}
 use Rattle.rules.specs.ModuleFile.{refusal, functions, labels, read}
 use Rattle.rules.specs.Answers.{Checked, checked, check_number, check}
 use Rattle.rules.specs.Demand3.{IsAccepted, Exists}
@@ -25,7 +28,7 @@ use Rattle.settle.specs.Tables.{table_low, ended_needs}
 use Rattle.tracks.specs.Visits.{Shown}
 use Rattle.reporter.specs.Rows.{Asks, Filled}
 use Rattle.reporter.specs.After.{shown_after}
-use Rattle.reporter.specs.Told.{Known, BlankRows, Checkable}
+use Rattle.reporter.specs.Told.{Known, BlankRows, Checkable, ReportIs}
 
 -- ---- blank tables
 
@@ -99,6 +102,11 @@ module _ (s room room' : List ℕ) where
   pub report_checked : (out : List ℕ) (a : CheckAnswer) → checked a room' ≡ check s room → report_after s room' out a ≡ report_needs s room out
   unfolding report_needs
   report_checked out a e = ap (λ (x : Checked). report_after s x.room out x.answer) e
+
+  -- an error of the check is the report's
+  pub report_failed : (out : List ℕ) (e : CheckError) → checked (check_answer {T = Unit {0}} (Err e)) room' ≡ check s room → ReportIs s room out (need_answer (Err (need_error e))) room' out
+  report_failed out (CheckError.Refused r) k = report_checked out (Refused (refusal_number r)) k
+  report_failed out (CheckError.Untyped b) k = report_checked out (Untyped b) k
 
   pub asks_after : (c : Sections) (table : List ℕ) → Packed s c → refusal s ≡ 0 → Tabled s table → 64 * c.labels ≤ length room' → checked Accepted room' ≡ check s room
       → Asks s c table room'

@@ -1,5 +1,5 @@
 -- The table of calls, row by row.
-use Rattle.std.specs.Prelude.{◌≡◌, ℕ, suc, ◌+◌, ◌*◌, ◌≤◌, ◌<◌, List, ◌++◌, length, get_or, take, drop}
+use Rattle.std.specs.Prelude.{◌≡◌, ℕ, suc, ◌*◌, ◌≤◌, ◌<◌, List, ◌++◌, length, get_or, take, drop}
 use Rattle.rules.specs.ModuleFile.{labels, refusal, read}
 use Rattle.rules.specs.Typing.{WellTyped}
 use Rattle.format.specs.declared.Sections.{Sections}

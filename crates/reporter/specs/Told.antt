@@ -1,7 +1,7 @@
 -- What the functions of this crate promise.
-use Rattle.std.specs.Prelude.{◌≡◌, ◌⊎◌, ℕ, zero, suc, ◌+◌, ◌*◌, ◌≤◌, ◌<◌, List, [], ◌++◌, length, get_or}
+use Rattle.std.specs.Prelude.{◌≡◌, ◌⊎◌, ℕ, zero, suc, ◌*◌, ◌≤◌, ◌<◌, List, [], ◌++◌, length, get_or}
 use Rattle.std.proofs.Math.Option.{none, some}
-use Rattle.rules.specs.declared.NeedAnswer.{NeedAnswer}
+use Rattle.rules.specs.AnswerTypes.{NeedAnswer}
 use Rattle.rules.specs.Bytes.{bytes}
 use Rattle.rules.specs.ModuleFile.{refusal, functions, read}
 use Rattle.rules.specs.Check.{bodies}

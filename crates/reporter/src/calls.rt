@@ -60,6 +60,7 @@ pub fn all(
     requires filled { Filled file.now c.functions 0 own.old offsets.old marks.old grounds.old }
     ensures { TableOf (read file.now) c.functions own.new offsets.new }
 {
+    // Count and owner go up together, the entry first: a `for` over either would have to make the other of it by a test.
     let n = c.functions;
     let mut owner = 0xffff_ffff;
     let mut i = 0;

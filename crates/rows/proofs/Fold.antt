@@ -8,7 +8,7 @@ use lib.ListN.{length, take, drop, length-append, length-drop}
 use lib.Seq.{length-take-le, take-length}
 use native.Mathlib.Nat.{mul_comm, mul_assoc, suc-mul, mul-le-mul_right}
 use borrow.Author.Tests.{ne_eqb, lt-leb}
-use Rattle.rules.specs.declared.RunAnswer.TheVariants.{Rejected}
+use Rattle.rules.specs.AnswerTypes.{Rejected}
 use Rattle.rules.specs.declared.Slot.{Slot}
 use Rattle.rules.specs.declared.Tally.{Tally}
 use Rattle.rules.specs.Instructions.{Ty, kind_of}
@@ -24,9 +24,10 @@ use Rattle.state.specs.State.{memory_of}
 use Rattle.state.proofs.Stack.{length_slots}
 use Rattle.runs.specs.Runs.{lent_of, slots_in, lent_heap_of, cells_in, Empty, Emptied}
 use Rattle.runs.proofs.Final.{cells_blank, table_blank, stack_of, heap_past, heap_of_lem}
-use Rattle.rules.specs.declared.MapAnswer.{MapAnswer}
+use Rattle.rules.specs.AnswerTypes.{MapAnswer}
 use Rattle.rows.specs.declared.RowEnd.{RowEnd}
 use Rattle.rules.specs.Mapping.{types_of, params_of, row_of, with_value, mapped, map_rows, run_row}
+use Rattle.machine.specs.Ends.{number_of}
 use Rattle.rows.specs.Rows.{param_types, low_ints, value_in, answer_of, left, Admits, Stage, RowIs, Mappable, RowsAre}
 use Rattle.rows.proofs.Types.{types_shown, admits_low}
 use Rattle.rows.proofs.Cleared.{again, capacity_after, value_is, past_cells, past_table}
@@ -209,7 +210,7 @@ module _ (s : List ℕ) (readable : refusal s ≡ 0) (l : Sections) (f start end
       st = slots_of p' t' height
 
       abbrev o : Outcome
-      o = outcome g.ended.number (allowance - g.ended.rest) (keeping (memory_of p' t' height) R.heap)
+      o = outcome (number_of g.ended.stop) (allowance - g.ended.rest) (keeping (memory_of p' t' height) R.heap)
 
       abbrev x₀ : Lent
       x₀ = lent_of p₀ t₀
@@ -272,7 +273,7 @@ module _ (s : List ℕ) (readable : refusal s ≡ 0) (l : Sections) (f start end
         from_here = G.rest scan same ∙ ap (λ (k : ℕ). map_rows each k i out x₀ y₀) more
 
         -- with the row's value
-        valued : g.ended.number ≡ 0 → map_rows each (length out₀ / 8) 0 out₀ x₀ y₀ ≡ map_rows each (length out₀ / 8 - i - 1) (suc i) (value_in out i p' height) (lent_after st x₀) (lent_heap_after R.heap y₀)
+        valued : (number_of g.ended.stop) ≡ 0 → map_rows each (length out₀ / 8) 0 out₀ x₀ y₀ ≡ map_rows each (length out₀ / 8 - i - 1) (suc i) (value_in out i p' height) (lent_after st x₀) (lent_heap_after R.heap y₀)
         valued e =
             from_here ∙ goes each o i x₀ y₀ ran_so (length out₀ / 8 - i - 1) out e
             ∙ ap (λ (u : List ℕ). map_rows each (length out₀ / 8 - i - 1) (suc i) u (lent_after st x₀) (lent_heap_after R.heap y₀))
@@ -280,14 +281,14 @@ module _ (s : List ℕ) (readable : refusal s ≡ 0) (l : Sections) (f start end
             ∙ value_is p' t' small height cap same_cap R.high p₀ t₀ lp lt dp dt out i)
 
       -- it did not finish
-      pub ends_not : (g.ended.number ≡ 0 → ⊥) → (p'' t'' : List ℕ) → lent_of p'' t'' ≡ lent_after st (lent_of p' t')
-          → RowsAre s f args out₀ allowance p₀ t₀ c₀ h₀ out p'' t'' c' h' (answer_of g.ended.number i)
+      pub ends_not : ((number_of g.ended.stop) ≡ 0 → ⊥) → (p'' t'' : List ℕ) → lent_of p'' t'' ≡ lent_after st (lent_of p' t')
+          → RowsAre s f args out₀ allowance p₀ t₀ c₀ h₀ out p'' t'' c' h' (answer_of (number_of g.ended.stop) i)
       ends_not n p'' t'' e scan same =
-          (λ j. record { answer = answer_of g.ended.number i; output = out; stack = slots_left p'' t'' e j; heap = heap_left j })
+          (λ j. record { answer = answer_of (number_of g.ended.stop) i; output = out; stack = slots_left p'' t'' e j; heap = heap_left j })
           ∙ sym (stops (each scan same) o i x₀ y₀ (ran_so scan same) (length out₀ / 8 - i - 1) out n) ∙ sym (from_here scan same)
 
       -- it finished; the outputs are out' now
-      module _ (done : g.ended.number ≡ 0) (out' : List ℕ) (eo : out' ≡ value_in out i p' height) where
+      module _ (done : (number_of g.ended.stop) ≡ 0) (out' : List ℕ) (eo : out' ≡ value_in out i p' height) where
         closing : (n k : ℕ) (p'' t'' : List ℕ) → lent_of p'' t'' ≡ lent_after st (lent_of p' t') → left (answer_of n k) out' p'' t'' c' h' ≡ mapped n k out' (lent_after st x₀) (lent_heap_after R.heap y₀)
         closing n k p'' t'' e = λ j. record { answer = answer_of n k; output = out'; stack = slots_left p'' t'' e j; heap = heap_left j }
 

@@ -1,7 +1,7 @@
 -- A call for rows of a module that can be read: its refusals, and the function's rows.
 use Prim.Native.Nat.{ℕ, zero, suc, ◌+◌, ◌*◌, ◌-◌, ◌/◌, ◌%◌, ◌≤◌, ◌<◌}
 use native.Mathlib.Omega.{arith}
-use mathlib.Core.Path.{◌≡◌, refl, sym, ap, ◌∙◌}
+use mathlib.Core.Path.{subst, ◌≡◌, refl, sym, ap, ◌∙◌}
 use mathlib.Core.Bool.{Bool, true, false, cond, not, ◌&&◌}
 use mathlib.Core.Option.{none, some}
 use mathlib.Core.List.{List}
@@ -17,14 +17,15 @@ use Rattle.rules.specs.Typing.{start_of}
 use Rattle.rules.specs.Answers.{made_for, other_profile}
 use Rattle.soundness.specs.Tests.{and_both}
 use Rattle.format.specs.declared.Sections.{Sections}
-use Rattle.format.specs.Layout.{Packed, sections_of}
+use Rattle.format.specs.Layout.{Packed}
 use Rattle.reader.specs.declared.entries.FunctionRecord.{FunctionRecord}
-use Rattle.reader.specs.declared.entries.FoundFunction.TheVariants.{Record}
-use Rattle.reader.specs.declared.Opened.TheVariants.{Refused}
-use Rattle.reader.specs.Answers.{answer, opened_of, function_found}
-use Rattle.reader.proofs.Opening.{opened_refused}
+use Rattle.std.specs.Prelude.{Some}
+use Rattle.rules.specs.declared.Refusal.{Refusal}
+use Rattle.rules.specs.Results.{refusal_number}
+use Rattle.reader.specs.Answers.{function_found}
+use Rattle.reader.proofs.Opening.{refusal_some}
 use Rattle.runs.proofs.Bodies.{names_function}
-use Rattle.rules.specs.declared.MapAnswer.{MapAnswer}
+use Rattle.rules.specs.AnswerTypes.{MapAnswer}
 use Rattle.rules.specs.Mapping.{takes_numbers, has_result, mappable, map_refusal, map_rows, map_module}
 use Rattle.rows.specs.Rows.{param_types, TypesAre, sized, answer_of, Mappable, RowsAre, MapIs}
 
@@ -44,15 +45,13 @@ module _ (s : List ℕ) (f scan : ℕ) (a o : List ℕ) (allowance : ℕ) (p t c
   abbrev Refuses : ℕ → Type 0
   Refuses n = MapIs s f scan a o allowance p t c h o p t c h (answer_of n 0)
 
-  pub map_unread : (k : ℕ) → Refused k ≡ opened_of s → Refuses k
+  pub map_unread : (e : Refusal) → refusal s ≡ refusal_number e → Refuses (refusal_number e)
   unfolding map_module map_refusal
-  map_unread k q = go (refusal s) refl
+  map_unread e q = subst Refuses q (go (refusal s) refl)
     where
-      go : (r : ℕ) → refusal s ≡ r → Refuses k
-      go zero w =
-          absurd (let g : Refused k ≡ answer zero (sections_of s) = q ∙ ap (λ (j : ℕ). answer j (sections_of s)) w in
-          let z : ◌≡◌ {A = ℕ} 0 1 = cc in omega arith)
-      go (suc r) w = let e : k ≡ suc r = opened_refused s k q ∙ w in rw w (rw e refl)
+      go : (r : ℕ) → refusal s ≡ r → Refuses (refusal s)
+      go zero w = absurd (refusal_some e (sym q ∙ w))
+      go (suc r) w = rw w refl
 
   module _ (readable : refusal s ≡ 0) where
     pub map_entry : f ≡ 0xffffffff → Refuses 13
@@ -65,7 +64,7 @@ module _ (s : List ℕ) (f scan : ℕ) (a o : List ℕ) (allowance : ℕ) (p t c
 
     -- ---- a function that is there
 
-    module _ (l : Sections) (packed : Packed s l) (g : FunctionRecord) (other : f ≡ 0xffffffff → ⊥) (there : function_found s f (Record g) ≡ (read s).function f) where
+    module _ (l : Sections) (packed : Packed s l) (g : FunctionRecord) (other : f ≡ 0xffffffff → ⊥) (there : function_found s f (Some g) ≡ (read s).function f) where
       abbrev params : List Ty
       params = param_types s f g.params
 

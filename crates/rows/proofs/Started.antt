@@ -5,6 +5,7 @@ use mathlib.Core.Path.{◌≡◌, refl, sym, ap, ◌∙◌}
 use mathlib.Core.Bool.{true}
 use mathlib.Core.List.{List}
 use lib.ListN.{length}
+use Rattle.machine.specs.Ends.{number_of}
 use Rattle.rules.specs.ModuleFile.{read, refusal}
 use Rattle.rules.specs.Machine.{outcome, keeping}
 use Rattle.format.specs.declared.Sections.{Sections}
@@ -32,7 +33,7 @@ module _ (s : List ℕ) (l : Sections) (k start end : ℕ) (a b p t c h : List �
         let z : allowance - g.ended.rest ≡ 0 + (allowance - g.ended.rest) = omega arith in
         record {
           heap = u.0.heap;
-          exact = ap (λ (i : ℕ). outcome g.ended.number i (keeping (memory_of p' t' g.ended.last.height) u.0.heap)) z ∙ u.0.exact 0
+          exact = ap (λ (i : ℕ). outcome (number_of g.ended.stop) i (keeping (memory_of p' t' g.ended.last.height) u.0.heap)) z ∙ u.0.exact 0
               ∙ sym (starts_as s k a b p t c h l _ ad.body true (sym ad.admits) refl cap st.slots st.fit p₁ t₁ w w' r copied 1536 words (omega arith) (omega arith) er ew allowance n);
           cells_are = u.0.cells_are;
           table_is = u.0.table_is;

@@ -7,12 +7,13 @@ use Rattle.rules.specs.ModuleFile.{edition, read, functions_in}
 use Rattle.rules.specs.Heap.{Heap, cells_after, table_after}
 use Rattle.rules.specs.Machine.{outcome, keeping}
 use Rattle.rules.specs.Answers.{admitted, arguments, outcome_of, made_for, other_profile}
-use Rattle.rules.specs.declared.MapAnswer.{MapAnswer}
+use Rattle.rules.specs.AnswerTypes.{MapAnswer}
 use Rattle.rules.specs.Mapping.{takes_numbers, Mapped, map_rows, run_row, map_module}
 use Rattle.format.specs.declared.Sections.{Sections}
 use Rattle.state.specs.declared.Registers.{Registers}
 use Rattle.state.specs.State.{memory_of}
 use Rattle.runs.specs.Runs.{lent_of, lent_heap_of, slots_in, Empty, RunsOver, BodyIs}
+use Rattle.machine.specs.Ends.{number_of}
 use Rattle.rows.specs.declared.RowEnd.{RowEnd}
 
 -- ---- rows of arguments and of outputs
@@ -64,7 +65,7 @@ pub record Stage (cap n : ℕ) (b p t cells table : List ℕ) : Type 0 where
 -- table show
 pub record RowIs (s : List ℕ) (f : ℕ) (a b : List ℕ) (allowance cap n : ℕ) (g : RowEnd) (p t cells table p' t' cells' table' : List ℕ) : Type 0 where
   pub heap : Heap
-  pub exact : outcome g.ended.number (allowance - g.ended.rest) (keeping (memory_of p' t' g.ended.last.height) heap)
+  pub exact : outcome (number_of g.ended.stop) (allowance - g.ended.rest) (keeping (memory_of p' t' g.ended.last.height) heap)
       ≡ outcome_of (read s) (body_of f) (arguments (lent_of a b)) allowance cap n
   pub cells_are : cells' ≡ cells_after n heap.blocks cells
   pub table_is : table' ≡ table_after n heap.blocks table

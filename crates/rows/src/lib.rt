@@ -4,6 +4,7 @@
 
 ghost use Rattle.std.specs.Prelude.{◌≡◌, true, ◌+◌, ◌*◌, ◌/◌, ◌<◌, ◌≤◌, length};
 ghost use Rattle.rules.specs.Instructions.{ty_of};
+ghost use Rattle.rules.specs.Results.{map_answer};
 ghost use Rattle.rules.specs.Mapping.{takes_numbers};
 ghost use Rattle.rules.specs.ModuleFile.{edition, read, refusal};
 ghost use Rattle.format.specs.Layout.{Packed};
@@ -11,24 +12,14 @@ ghost use Rattle.keys.specs.Keys.{Keyed};
 ghost use Rattle.machine.specs.Ends.{Fits};
 ghost use Rattle.rules.specs.Stack.{slots_of, lent_after};
 ghost use Rattle.runs.specs.Runs.{lent_of, slots_in, cells_in, Empty};
-ghost use Rattle.rows.specs.Rows.{is_number, param_types, TypesAre, low_ints, value_in, sized, RunsAs, Admits, Stage, RowIs, answer_of, Mappable, FirstLow, RowsAre, MapIs};
+ghost use Rattle.rows.specs.Rows.{is_number, param_types, TypesAre, low_ints, value_in, sized, RunsAs, Admits, Stage, RowIs, Mappable, FirstLow, RowsAre, MapIs};
 
 use format::Sections;
 use machine::Ended;
-use reader::Opened;
-use reader::entries::FoundFunction;
-use rules::MapAnswer;
+use rules::{Exception, MapError, Refusal};
 use state::Registers;
 
 const ENTRY: u32 = 0xffff_ffff;
-
-const NO_SUCH_FUNCTION: u32 = 12;
-
-const ARGUMENTS_REFUSED: u32 = 13;
-
-const PROFILE_DIFFERS: u32 = 17;
-
-const STACK_OVERFLOW: u32 = 20;
 
 // ---- rows of arguments and of outputs
 
@@ -44,9 +35,7 @@ fn types_of(file: &[u8], c: Sections, k: usize, n: usize, kinds: &mut [u8]) -> b
     requires { Packed file.now c × (k < c.functions) × (n ≤ 8) × (length kinds.old ≡ 8) }
     ensures { (result ≡ takes_numbers (param_types file.now k n)) × (result ≡ true → TypesAre file.now k n kinds.new) }
 {
-    let mut j = n;
-    while 0 < j {
-        j -= 1;
+    for j in (0..n).rev() {
         let b = reader::entries::param(file, c, k, j);
         let numeric = is_number(b);
         if !numeric {
@@ -76,9 +65,7 @@ fn admits_row(args: &[u8], kinds: &[u8]) -> bool
     requires { length args.now ≡ length kinds.now * 8 }
     ensures { result ≡ low_ints args.now kinds.now (length kinds.now) }
 {
-    let mut j = kinds.len();
-    while 0 < j {
-        j -= 1;
+    for j in (0..kinds.len()).rev() {
         if kinds[j] == 3 {
             let v = memory::load64(args, j * 8);
             if 4294967296 <= v {
@@ -102,7 +89,7 @@ fn put_value(out: &mut [u8], i: usize, p: &[u8], height: usize)
 
 // ---- a row
 
-// How a row's run ended, and whether it used the heap.
+// How a row's run ended, and whether it used the heap. (No Option: there is an end either way.)
 #[derive(Clone, Copy)]
 struct RowEnd {
     ended: Ended,
@@ -130,7 +117,7 @@ fn run_row(
     ensures { RunsAs file.now cap size first allowance result p.old t.old f.old cells.old table.old p.new t.new cells.new table.new }
 {
     let e = machine::run_from(file, c, cap, first, allowance, p, t, f, source, from);
-    let waits = machine::left(e.number);
+    let waits = machine::left(e.stop);
     if !waits {
         return RowEnd {
             ended: e,
@@ -178,30 +165,12 @@ fn row(
 
 // ---- all rows
 
-// An answer before any row was run.
-fn stopped(number: u32) -> MapAnswer
-    ensures { result ≡ answer_of number 0 }
-{
-    MapAnswer { number, rows: 0 }
-}
-
-// Ends a call: clears the slots from the last row's height to the capacity, and answers.
-fn close(
-    number: u32,
-    rows: usize,
-    height: usize,
-    cap: usize,
-    p: &mut [u8],
-    t: &mut [u8],
-) -> MapAnswer
+// Ends a call: clears the slots from the last row's height to the capacity.
+fn clear_slots(height: usize, cap: usize, p: &mut [u8], t: &mut [u8])
     requires { (cap ≡ slots_in p.old t.old) × (height ≤ cap) }
-    ensures { (result ≡ answer_of number rows) × (lent_of p.new t.new ≡ lent_after (slots_of p.old t.old height) (lent_of p.old t.old)) }
+    ensures { lent_of p.new t.new ≡ lent_after (slots_of p.old t.old height) (lent_of p.old t.old) }
 {
-    runs::close(number, 0, height, cap, p, t);
-    MapAnswer {
-        number,
-        rows: rows as u64,
-    }
+    let _answer = runs::close(None, 0, height, cap, p, t);
 }
 
 // Each row, the first of which is admitted, on code that is lent in keys.
@@ -221,10 +190,10 @@ fn map_rows(
     from: usize,
     cells: &mut [u8],
     table: &mut [u8],
-) -> MapAnswer
+) -> Result<u64, MapError>
     requires packed { Packed file.now c × (refusal file.now ≡ 0) × Keyed file.now source.now from }
     requires mappable { Mappable file.now c k start end kinds.now args.now out.old × FirstLow args.now kinds.now × (length kinds.now ≤ slots_in p.old t.old) × Empty (cells_in cells.old table.old) cells.old table.old }
-    ensures { RowsAre file.now k args.now out.old allowance p.old t.old cells.old table.old out.new p.new t.new cells.new table.new result }
+    ensures { RowsAre file.now k args.now out.old allowance p.old t.old cells.old table.old out.new p.new t.new cells.new table.new (map_answer result) }
 {
     let n = kinds.len();
     let width = n * 8;
@@ -235,7 +204,8 @@ fn map_rows(
     let mut f = [0u16; 1536];
     let mut i = 0;
     let mut at = 0;
-    loop {
+    // No `for`: the last turn ends in its middle, so that a row costs no test more.
+    'turn: loop {
         let to = at + width;
         let g = row(
             file,
@@ -258,19 +228,22 @@ fn map_rows(
         );
         let e = g.ended;
         let height = e.last.height;
-        if e.number != 0 {
-            return close(e.number, i, height, cap, p, t);
+        if let Some(stop) = e.stop {
+            clear_slots(height, cap, p, t);
+            return Err(MapError::Stopped(stop, i as u64));
         }
         put_value(out, i, p, height);
         i += 1;
         at = to;
         if i == rows {
-            return close(0, i, height, cap, p, t);
+            clear_slots(height, cap, p, t);
+            return Ok(i as u64);
         }
         let after = at + width;
         let low = admits_row(&args[at..after], kinds);
         if !low {
-            return close(ARGUMENTS_REFUSED, i, height, cap, p, t);
+            clear_slots(height, cap, p, t);
+            return Err(MapError::Refused(Refusal::BadArguments, i as u64));
         }
         if g.used {
             runs::clear_heap(cells, table);
@@ -293,10 +266,10 @@ fn map_old(
     t: &mut [u8],
     cells: &mut [u8],
     table: &mut [u8],
-) -> MapAnswer
+) -> Result<u64, MapError>
     requires packed { Packed file.now c × (refusal file.now ≡ 0) × (edition file.now ≡ 1) }
     requires mappable { Mappable file.now c k start end kinds.now args.now out.old × FirstLow args.now kinds.now × (length kinds.now ≤ slots_in p.old t.old) × Empty (cells_in cells.old table.old) cells.old table.old }
-    ensures { RowsAre file.now k args.now out.old allowance p.old t.old cells.old table.old out.new p.new t.new cells.new table.new result }
+    ensures { RowsAre file.now k args.now out.old allowance p.old t.old cells.old table.old out.new p.new t.new cells.new table.new (map_answer result) }
 {
     let mut own = [0u8; 16384];
     let at = c.code;
@@ -321,20 +294,21 @@ fn start_rows(
     t: &mut [u8],
     cells: &mut [u8],
     table: &mut [u8],
-) -> MapAnswer
+) -> Result<u64, MapError>
     requires { Packed file.now c × (refusal file.now ≡ 0) × Mappable file.now c k start end kinds.now args.now out.old }
-    ensures { RowsAre file.now k args.now out.old allowance p.old t.old cells.old table.old out.new p.new t.new cells.new table.new result }
+    ensures { RowsAre file.now k args.now out.old allowance p.old t.old cells.old table.old out.new p.new t.new cells.new table.new (map_answer result) }
 {
     let n = kinds.len();
     let width = n * 8;
     let low = admits_row(&args[0..width], kinds);
     if !low {
-        return stopped(ARGUMENTS_REFUSED);
+        return Err(MapError::Refused(Refusal::BadArguments, 0));
     }
     runs::clear_heap(cells, table);
     let cap = runs::capacity(p, t);
     if cap < n {
-        return close(STACK_OVERFLOW, 0, 0, cap, p, t);
+        clear_slots(0, cap, p, t);
+        return Err(MapError::Stopped(Exception::StackOverflow, 0));
     }
     let edition = format::word(file, 0);
     if edition == 1 {
@@ -361,31 +335,31 @@ fn map_opened(
     t: &mut [u8],
     cells: &mut [u8],
     table: &mut [u8],
-) -> MapAnswer
+) -> Result<u64, MapError>
     requires { Packed file.now c × (refusal file.now ≡ 0) }
-    ensures { MapIs file.now function profile args.now out.old allowance p.old t.old cells.old table.old out.new p.new t.new cells.new table.new result }
+    ensures { MapIs file.now function profile args.now out.old allowance p.old t.old cells.old table.old out.new p.new t.new cells.new table.new (map_answer result) }
 {
     if function == ENTRY {
-        return stopped(ARGUMENTS_REFUSED);
+        return Err(MapError::Refused(Refusal::BadArguments, 0));
     }
     let k = function as usize;
     let found = view::function(file, c, k);
-    let FoundFunction::Record(g) = found else {
-        return stopped(NO_SUCH_FUNCTION);
+    let Some(g) = found else {
+        return Err(MapError::Refused(Refusal::NoSuchFunction, 0));
     };
     let n = g.params;
     let mut kinds = [0u8; 8];
     let numbers = types_of(file, c, k, n, &mut kinds);
     let whole = same_rows(n, args.len(), out.len());
     if !(numbers & whole & (g.result != 0)) {
-        return stopped(ARGUMENTS_REFUSED);
+        return Err(MapError::Refused(Refusal::BadArguments, 0));
     }
     let other = runs::other_profile(file, c, function, profile);
     if other {
-        return stopped(PROFILE_DIFFERS);
+        return Err(MapError::Refused(Refusal::OtherProfile, 0));
     }
     if out.len() == 0 {
-        return stopped(0);
+        return Ok(0);
     }
     start_rows(
         file,
@@ -416,13 +390,12 @@ pub fn map(
     types: &mut [u8],
     heap: &mut [u8],
     blocks: &mut [u8],
-) -> MapAnswer
-    ensures { MapIs file.now function profile arg_payloads.now out.old allowance payloads.old types.old heap.old blocks.old out.new payloads.new types.new heap.new blocks.new result }
+) -> Result<u64, MapError>
+    ensures { MapIs file.now function profile arg_payloads.now out.old allowance payloads.old types.old heap.old blocks.old out.new payloads.new types.new heap.new blocks.new (map_answer result) }
 {
-    let opened = reader::open(file);
-    match opened {
-        Opened::Refused(n) => stopped(n),
-        Opened::Module(c) => map_opened(
+    match reader::open(file) {
+        Err(e) => Err(MapError::Refused(e, 0)),
+        Ok(c) => map_opened(
             file,
             c,
             function,

@@ -50,3 +50,5 @@ pub mod Formulas
 pub mod Typings
 pub mod Values
 pub mod Printed
+pub mod AnswerTypes
+pub mod Results

@@ -2,7 +2,7 @@
 -- the lent slots and the lent heap; the answer, the outputs and what stands in lent memory after are those of a fold over `run_module`.
 use Rattle.std.specs.Prelude.{ℕ, zero, suc, ◌*◌, ◌/◌, ◌%◌, Bool, true, false, ◌&&◌, cond, List, [], ◌∷◌, ◌++◌, length, eqb}
 use Rattle.std.proofs.Math.Option.{Option, none, some}
-pub use Rattle.rules.specs.declared.MapAnswer.{MapAnswer}
+pub use Rattle.rules.specs.AnswerTypes.{MapAnswer}
 use Rattle.rules.specs.Bytes.{maybe, cut, written}
 use Rattle.rules.specs.Numbers.{done, no_such_function, arguments_refused, profile_differs}
 use Rattle.rules.specs.Instructions.{Ty, num, ptr, kind_of}

@@ -1,8 +1,8 @@
 -- 02, A10: the record of which bodies have a typing, the check that writes it, and the check of one body beside it.
 use Rattle.std.specs.Prelude.{ℕ, zero, suc, ◌+◌, Bool, ◌||◌, cond, List, [], ◌∷◌, ◌++◌, length, set, drop, ltb, eqb}
 use Rattle.std.proofs.Math.Option.{Option, none, some}
-pub use Rattle.rules.specs.declared.RecordingAnswer.{RecordingAnswer}
-pub use Rattle.rules.specs.declared.RecordingAnswer.TheVariants.{Unrecorded, RecordedUntyped, Recorded}
+pub use Rattle.rules.specs.AnswerTypes.{RecordingAnswer}
+pub use Rattle.rules.specs.AnswerTypes.{Unrecorded, RecordedUntyped, Recorded}
 use Rattle.rules.specs.Bytes.{bytes, byte, word, some_below, maybe}
 use Rattle.rules.specs.Numbers.{done, no_typing, no_such_function, output_too_short, record_differs_number}
 use Rattle.rules.specs.Tables.{differs, Body, entry, fn, body_of, body_number, Module}

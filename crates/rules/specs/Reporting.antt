@@ -1,8 +1,8 @@
 -- 02, A11: the report of the stack that a module needs: what is answered and what is written, from bytes to bytes.
 use Rattle.std.specs.Prelude.{ℕ, suc, ◌*◌, cond, List, [], ◌∷◌, ◌++◌, length, drop, ltb}
 use Rattle.std.proofs.Math.Option.{Option, none, some}
-pub use Rattle.rules.specs.declared.NeedAnswer.{NeedAnswer}
-pub use Rattle.rules.specs.declared.NeedAnswer.TheVariants.{Unreported, ReportUntyped, ReportLoops, Reported}
+pub use Rattle.rules.specs.AnswerTypes.{NeedAnswer}
+pub use Rattle.rules.specs.AnswerTypes.{Unreported, ReportUntyped, ReportLoops, Reported}
 use Rattle.rules.specs.Bytes.{bytes}
 use Rattle.rules.specs.Numbers.{done, no_typing, output_too_short, calls_loop}
 use Rattle.rules.specs.Tables.{Body, body_number, Module}

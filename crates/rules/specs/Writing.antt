@@ -2,8 +2,8 @@
 -- writes it too (a structure for another edition is 4)".
 use Rattle.std.specs.Prelude.{ℕ, zero, suc, ◌+◌, ◌/◌, ◌%◌, Bool, false, ◌||◌, cond, List, [], ◌∷◌, ◌++◌, length, drop, ltb, eqb}
 use Rattle.std.proofs.Math.Option.{Option, none, some}
-pub use Rattle.rules.specs.declared.WriteAnswer.{WriteAnswer}
-pub use Rattle.rules.specs.declared.WriteAnswer.TheVariants.{Unwritten, Written}
+pub use Rattle.rules.specs.AnswerTypes.{WriteAnswer}
+pub use Rattle.rules.specs.AnswerTypes.{Unwritten, Written}
 use Rattle.rules.specs.Bytes.{words}
 use Rattle.rules.specs.Numbers.{done, output_too_short}
 use Rattle.rules.specs.Tables.{Tables, function_size, constant_count, function_count, label_count, structure_count, differs, header_size, unknown_edition, over_limits, first_of, content_tests}

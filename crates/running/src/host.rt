@@ -2,25 +2,26 @@
 ghost use Rattle.promises.specs.Promises.{lent_of, lent_heap_of, HostRunKeeps};
 ghost use Rattle.std.specs.Prelude.{◌≡◌};
 ghost use Rattle.rules.specs.Answers.{run_number};
+ghost use Rattle.rules.specs.Results.{run_answer};
 ghost use Rattle.rules.specs.Host.{steps_after, height_after};
 
-use rules::RunAnswer;
+use rules::{RunError, Tally};
 
 // The number of a run that did not finish; of one that did, 0. A refusal writes nothing.
-pub fn stop(answer: RunAnswer, steps: &mut u64, height: &mut u64) -> u32
-    ensures { (result ≡ run_number answer) × (steps.new ≡ steps_after answer steps.old) × (height.new ≡ height_after answer height.old) }
+pub fn stop(answer: Result<Tally, RunError>, steps: &mut u64, height: &mut u64) -> u32
+    ensures { (result ≡ run_number (run_answer answer)) × (steps.new ≡ steps_after (run_answer answer) steps.old) × (height.new ≡ height_after (run_answer answer) height.old) }
 {
     match answer {
-        RunAnswer::Rejected(n) => n,
-        RunAnswer::Stopped(n, tally) => {
-            *steps = tally.steps;
-            *height = tally.height;
-            n
-        }
-        RunAnswer::Finished(tally) => {
+        Ok(tally) => {
             *steps = tally.steps;
             *height = tally.height;
             0
+        }
+        Err(RunError::Rejected(refusal)) => u32::from(refusal),
+        Err(RunError::Stopped(exception, tally)) => {
+            *steps = tally.steps;
+            *height = tally.height;
+            u32::from(exception)
         }
     }
 }
@@ -54,7 +55,7 @@ pub fn host_run(
         heap,
         blocks,
     );
-    let RunAnswer::Finished(tally) = answer else {
+    let Ok(tally) = answer else {
         return stop(answer, steps, height);
     };
     *steps = tally.steps;

@@ -1,9 +1,10 @@
 // The public call `run`, with its promise.
 #![tactic(auto)]
 
+ghost use Rattle.rules.specs.Results.{run_answer};
 ghost use Rattle.promises.specs.Promises.{lent_of, lent_heap_of, RunKeeps};
 
-use rules::RunAnswer;
+use rules::{RunError, Tally};
 
 pub mod host;
 
@@ -20,8 +21,8 @@ pub fn run(
     types: &mut [u8],
     heap: &mut [u8],
     blocks: &mut [u8],
-) -> RunAnswer
-    ensures { RunKeeps file.now function (lent_of arg_payloads.now arg_types.now) profile allowance (lent_of payloads.old types.old) (lent_heap_of heap.old blocks.old) result (lent_of payloads.new types.new) (lent_heap_of heap.new blocks.new) }
+) -> Result<Tally, RunError>
+    ensures { RunKeeps file.now function (lent_of arg_payloads.now arg_types.now) profile allowance (lent_of payloads.old types.old) (lent_heap_of heap.old blocks.old) (run_answer result) (lent_of payloads.new types.new) (lent_heap_of heap.new blocks.new) }
 {
     runs::run(
         file,

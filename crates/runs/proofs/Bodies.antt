@@ -11,7 +11,7 @@ use Rattle.rules.specs.Typing.{start_of}
 use Rattle.format.specs.declared.Sections.{Sections}
 use Rattle.format.specs.Layout.{Packed}
 use Rattle.reader.specs.declared.entries.FunctionRecord.{FunctionRecord}
-use Rattle.reader.specs.declared.entries.FoundFunction.TheVariants.{Record}
+use Rattle.std.specs.Prelude.{Some}
 use Rattle.reader.specs.Answers.{function_found}
 use Rattle.reader.proofs.Records.{function_count_lem}
 use Rattle.control.proofs.Files.{callee}
@@ -36,7 +36,7 @@ module _ (s : List ℕ) (c : Sections) (packed : Packed s c) (f : ℕ) where
     pub names_none : (read s).function f ≡ none → start_of (read s) (body_of f) ≡ none
     names_none e = rw (ne_eqb f 0xffffffff other, e) refl
 
-    pub names_function : refusal s ≡ 0 → (g : FunctionRecord) → function_found s f (Record g) ≡ (read s).function f
+    pub names_function : refusal s ≡ 0 → (g : FunctionRecord) → function_found s f (Some g) ≡ (read s).function f
         → BodyIs s c f (record { body = f; start = g.start; end = g.end; params = g.params })
     names_function readable g e =
         let k = callee s readable f g e in

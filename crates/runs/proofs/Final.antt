@@ -5,8 +5,10 @@ use mathlib.Core.Path.{◌≡◌, refl, sym, ap, ◌∙◌}
 use mathlib.Core.List.{List, [], ◌∷◌, ◌++◌}
 use lib.ListN.{length, take, drop, get_or, replicate, length-drop}
 use lib.Seq.{take-add, length-take-le, take-suc, drop-drop}
-use Rattle.rules.specs.declared.RunAnswer.{RunAnswer}
-use Rattle.rules.specs.declared.RunAnswer.TheVariants.{Stopped, Finished}
+use Rattle.rules.specs.declared.Exception.{Exception}
+use Rattle.rules.specs.Results.{exception_number}
+use Rattle.rules.specs.AnswerTypes.{RunAnswer}
+use Rattle.rules.specs.AnswerTypes.{Stopped, Finished}
 use Rattle.rules.specs.Stack.{Lent, slot_at, slots_of, payload_bytes, type_bytes, payloads_after, types_after}
 use Rattle.rules.specs.Heap.{empty_heap, LentHeap, cells_after, table_after}
 use Rattle.rules.specs.Machine.{Outcome, outcome}
@@ -78,6 +80,10 @@ module _ (p t p' t' : List ℕ) (small : (i : ℕ) → get_or p i 0 < 256) (n k 
       more : (n : ℕ) → (n ≡ 0 → ⊥) → Stopped n (record { steps = k; height = h }) ≡ answered n (record { steps = k; height = h })
       more zero e = absurd (e refl)
       more (suc n) e = refl
+
+-- no exception's number is 0
+pub exception_some : (e : Exception) → exception_number e ≡ 0 → ⊥
+exception_some e z = grind arith
 
 -- ---- the lent heap
 

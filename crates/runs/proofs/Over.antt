@@ -26,7 +26,11 @@ use Rattle.state.specs.declared.Registers.{Registers}
 use Rattle.state.specs.declared.Progress.{Progress}
 use Rattle.state.specs.declared.Progress.TheVariants.{Goes, Finishes, Stops}
 use Rattle.machine.specs.declared.Ended.{Ended}
-use Rattle.machine.specs.Ends.{Fits, Resumes, Deferred, left, RunsTo}
+use Rattle.std.specs.Prelude.{Some, None}
+use Rattle.std.specs.declared.option.Option.{Option}
+use Rattle.rules.specs.declared.Exception.{Exception}
+use Rattle.rules.specs.Results.{exception_number}
+use Rattle.machine.specs.Ends.{number_of, Fits, Resumes, Deferred, left, RunsTo}
 use Rattle.machine.proofs.Arms.{step_is}
 use Rattle.machine.proofs.Turns.{turned, run_turn, advance_step}
 use Rattle.access.specs.Access.{shelf_of, heap_in, HeapReady, Accessed}
@@ -96,11 +100,11 @@ module _ (s : List ℕ) (readable : refusal s ≡ 0) (cap n : ℕ) (r₀ : Regis
   h = heap_in n (structures_in s) g c b
 
   -- the run ended with the number z, on the slots p' and t' and the heap of c' and b', with this rest
-  over : (z rest' : ℕ) (last : Registers) (g' p' t' c' b' : List ℕ) → HeapReady n (structures_in s) g' c' b' → Small c' → Small b'
-      → ((k : ℕ) → outcome z (k + (n₀ - rest')) (keeping (memory_of p' t' last.height) (heap_in n (structures_in s) g' c' b')) ≡ rest_of s cap n r₀ n₀ k p₀ t₀ f₀)
+  over : (z : Option Exception) (rest' : ℕ) (last : Registers) (g' p' t' c' b' : List ℕ) → HeapReady n (structures_in s) g' c' b' → Small c' → Small b'
+      → ((k : ℕ) → outcome (number_of z) (k + (n₀ - rest')) (keeping (memory_of p' t' last.height) (heap_in n (structures_in s) g' c' b')) ≡ rest_of s cap n r₀ n₀ k p₀ t₀ f₀)
       → rest' ≤ n₀ → last.height ≤ cap → drop (cap * 8) p' ≡ drop (cap * 8) p₀ → drop cap t' ≡ drop cap t₀ → drop (n * 8) c' ≡ drop (n * 8) c₀
       → drop (n * 24) b' ≡ drop (n * 24) b₀ → length p' ≡ length p₀ → length t' ≡ length t₀
-      → RunsOver s cap n r₀ n₀ (record { number = z; rest = rest'; last = last }) p₀ t₀ f₀ c₀ b₀ p' t' c' b'
+      → RunsOver s cap n r₀ n₀ (record { stop = z; rest = rest'; last = last }) p₀ t₀ f₀ c₀ b₀ p' t' c' b'
   over z rest' last g' p' t' c' b' ready sc sb exact le high rp rt rc rb lp lt =
       record {
         heap = heap_in n (structures_in s) g' c' b';
@@ -120,16 +124,16 @@ module _ (s : List ℕ) (readable : refusal s ≡ 0) (cap n : ℕ) (r₀ : Regis
   sums k = omega (arith, u.left, d.left)
 
   -- the machine has ended it
-  pub ended : length f₀ ≡ 1536 → left x.number ≡ false → RunsOver s cap n r₀ n₀ x p₀ t₀ f₀ c₀ b₀ p₂ t₂ c b
+  pub ended : length f₀ ≡ 1536 → left (number_of x.stop) ≡ false → RunsOver s cap n r₀ n₀ x p₀ t₀ f₀ c₀ b₀ p₂ t₂ c b
   ended all over-it =
-      over x.number x.rest x.last g p₂ t₂ c b u.heap_ready u.small_cells u.small_table
-      (λ k. ap (λ (i : ℕ). outcome x.number i (keeping (memory_of p₂ t₂ x.last.height) h)) (sym (sums k))
+      over x.stop x.rest x.last g p₂ t₂ c b u.heap_ready u.small_cells u.small_table
+      (λ k. ap (λ (i : ℕ). outcome (number_of x.stop) i (keeping (memory_of p₂ t₂ x.last.height) h)) (sym (sums k))
       ∙ d.exact (λ q. omega (arith, u.same_words)) over-it h (k + (n₀ - rest)) ∙ u.same k)
       (omega (arith, u.left, d.left)) d.high (d.rest_payloads ∙ u.rest_payloads) (d.rest_types ∙ u.rest_types) u.rest_cells u.rest_table
       (d.same_payloads ∙ u.same_payloads) (d.same_types ∙ u.same_types)
 
   -- it has left an instruction
-  module _ (yes : left x.number ≡ true) where
+  module _ (yes : left (number_of x.stop) ≡ true) where
     abbrev resumed : Resumes m cap rest (state_of r p t f) x p₂ t₂ f₂
     resumed = d.resumes (inr yes)
 
@@ -194,10 +198,10 @@ module _ (s : List ℕ) (readable : refusal s ≡ 0) (cap n : ℕ) (r₀ : Regis
           }
 
       pub returned : (q : Registers) → Accessed (exec_in m cap i) cap n x.last (Finishes q) (structures_in s) f₂ p₂ t₂ g c b p' t' g' c' b'
-          → RunsOver s cap n r₀ n₀ (record { number = 0; rest = x.rest - 1; last = q }) p₀ t₀ f₀ c₀ b₀ p' t' c' b'
+          → RunsOver s cap n r₀ n₀ (record { stop = None; rest = x.rest - 1; last = q }) p₀ t₀ f₀ c₀ b₀ p' t' c' b'
       unfolding turned
       returned q done =
-          over 0 (x.rest - 1) q g' p' t' c' b' done.heap_ready sc sb
+          over None (x.rest - 1) q g' p' t' c' b' done.heap_ready sc sb
           (λ k. ap (λ (j : ℕ). outcome 0 j (keeping (memory_of p' t' q.height) (heap_in n (structures_in s) g' c' b'))) (sym (counted (Finishes q) g' p' t' c' b' done sc sb k))
           ∙ turn m cap st i waits.inside waits.instruction.found (x.rest - 1) (k + (n₀ - x.rest)) _ done.result
           ∙ ap (λ (j : ℕ). run m cap j (k + (n₀ - x.rest)) st) (more (Finishes q) g' p' t' c' b' done sc sb) ∙ from_there k)
@@ -205,12 +209,12 @@ module _ (s : List ℕ) (readable : refusal s ≡ 0) (cap n : ℕ) (r₀ : Regis
           (done.rest_cells ∙ u.rest_cells) (done.rest_table ∙ u.rest_table) (done.same_payloads ∙ d.same_payloads ∙ u.same_payloads)
           (done.same_types ∙ d.same_types ∙ u.same_types)
 
-      pub stopped : (z : ℕ) → Accessed (exec_in m cap i) cap n x.last (Stops z) (structures_in s) f₂ p₂ t₂ g c b p' t' g' c' b'
-          → RunsOver s cap n r₀ n₀ (record { number = z; rest = x.rest; last = x.last }) p₀ t₀ f₀ c₀ b₀ p' t' c' b'
+      pub stopped : (z : Exception) → Accessed (exec_in m cap i) cap n x.last (Stops z) (structures_in s) f₂ p₂ t₂ g c b p' t' g' c' b'
+          → RunsOver s cap n r₀ n₀ (record { stop = Some z; rest = x.rest; last = x.last }) p₀ t₀ f₀ c₀ b₀ p' t' c' b'
       unfolding turned
       stopped z done =
-          over z x.rest x.last g' p' t' c' b' done.heap_ready sc sb
-          (λ k. ap (λ (y : State). outcome z (k + (n₀ - x.rest)) y.memory) done.unchanged
+          over (Some z) x.rest x.last g' p' t' c' b' done.heap_ready sc sb
+          (λ k. ap (λ (y : State). outcome (exception_number z) (k + (n₀ - x.rest)) y.memory) done.unchanged
           ∙ turn m cap st i waits.inside waits.instruction.found (x.rest - 1) (k + (n₀ - x.rest)) _ done.result
           ∙ ap (λ (j : ℕ). run m cap j (k + (n₀ - x.rest)) st) (more (Stops z) g' p' t' c' b' done sc sb) ∙ from_there k)
           (omega (arith, u.left, d.left)) d.high (done.rest_payloads ∙ d.rest_payloads ∙ u.rest_payloads) (done.rest_types ∙ d.rest_types ∙ u.rest_types)

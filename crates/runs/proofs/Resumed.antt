@@ -7,7 +7,7 @@ use mathlib.Core.Bool.{true, false}
 use mathlib.Core.List.{List}
 use lib.ListN.{length, take, drop, get_or, set}
 use lib.Seq.{get_or-set_same, get_or-set_other}
-use Rattle.rules.specs.declared.RunAnswer.{RunAnswer}
+use Rattle.rules.specs.AnswerTypes.{RunAnswer}
 use Rattle.rules.specs.Tables.{Module}
 use Rattle.rules.specs.ModuleFile.{edition, code_at, read, refusal}
 use Rattle.rules.specs.Heap.{Heap, empty_heap}
@@ -22,7 +22,7 @@ use Rattle.state.specs.declared.Registers.{Registers}
 use Rattle.state.proofs.Stack.{split_lt}
 use Rattle.state.proofs.Locals.{Alike, locals_same, callers_alike, waiting_alike}
 use Rattle.machine.specs.declared.Ended.{Ended}
-use Rattle.machine.specs.Ends.{Fits, left, RunsTo}
+use Rattle.machine.specs.Ends.{number_of, Fits, left, RunsTo}
 use Rattle.heap.proofs.Lent.{Small}
 use Rattle.runs.specs.Runs.{lent_of, slots_in, lent_heap_of, cells_in, ClosedAs, LeavesAs, Empty, Standing, rest_of, RestIs, RunsOver, Begins}
 use Rattle.runs.proofs.Final.{joined, cells_blank, table_blank, stack_of}
@@ -110,7 +110,7 @@ module _ (m : Module) (cap n : ℕ) (r : Registers) (p t f : List ℕ) (e : Ende
         ∙ ap (λ (y : Outcome). ran y (lent_of p t) (lent_heap_of c b)) q
 
     -- the run has gone on
-    pub closed_deeper : (k j : ℕ) → j ≡ k + (n - e.rest) → (e.number ≡ 20) ⊎ (left e.number ≡ true)
+    pub closed_deeper : (k j : ℕ) → j ≡ k + (n - e.rest) → ((number_of e.stop) ≡ 20) ⊎ (left (number_of e.stop) ≡ true)
         → LeavesAs (run m cap e.rest j (over (state_of e.last p₂ t₂ f₂))) p₂ t₂ c b p' t' c' b' x
         → LeavesAs (run m cap n k (over (state_of r p t f))) p t c b p' t' c' b' x
     closed_deeper k j z full =
@@ -118,24 +118,24 @@ module _ (m : Module) (cap n : ℕ) (r : Registers) (p t f : List ℕ) (e : Ende
 
   -- the run is over, k steps counted before and j in all
   pub closed_over : (c b p' t' : List ℕ) (x : RunAnswer) → Empty (cells_in c b) c b → Small c → Small b
-      → (k j : ℕ) → j ≡ k + (n - e.rest) → (e.number ≡ 20 → 1536 ≤ length f) → left e.number ≡ false
-      → ClosedAs (outcome e.number j (memory_of p₂ t₂ e.last.height)) p₂ t₂ p' t' x
+      → (k j : ℕ) → j ≡ k + (n - e.rest) → ((number_of e.stop) ≡ 20 → 1536 ≤ length f) → left (number_of e.stop) ≡ false
+      → ClosedAs (outcome (number_of e.stop) j (memory_of p₂ t₂ e.last.height)) p₂ t₂ p' t' x
       → LeavesAs (run m cap n k (with_heap (empty_heap (cells_in c b)) (state_of r p t f))) p t c b p' t' c b x
   closed_over c b p' t' x empty sc sb k j z all over-it closed =
       let h : Heap = empty_heap (cells_in c b) in
-      let o : Outcome = outcome e.number j (keeping (memory_of p₂ t₂ e.last.height) h) in
-      back c b p' t' c b x o _ (ap (λ (i : ℕ). outcome e.number i (keeping (memory_of p₂ t₂ e.last.height) h)) z ∙ d.exact all over-it h k)
+      let o : Outcome = outcome (number_of e.stop) j (keeping (memory_of p₂ t₂ e.last.height) h) in
+      back c b p' t' c b x o _ (ap (λ (i : ℕ). outcome (number_of e.stop) i (keeping (memory_of p₂ t₂ e.last.height) h)) z ∙ d.exact all over-it h k)
       (joined o p₂ t₂ c b p' t' c b x closed (cells_blank (cells_in c b) c b empty sc) (table_blank (cells_in c b) c b empty sb))
 
 -- over the heap
 pub finished_over : (s : List ℕ) (cap n : ℕ) (e g : Ended) (a : ℕ) (p t f c b p₂ t₂ c' b' : List ℕ) → cap ≡ slots_in p t → n ≡ cells_in c b → e.rest ≤ a
-    → RunsOver s cap n e.last e.rest g p t f c b p₂ t₂ c' b' → (p' t' : List ℕ) (x : RunAnswer) → ClosedAs (outcome g.number (a - g.rest) (memory_of p₂ t₂ g.last.height)) p₂ t₂ p' t' x
+    → RunsOver s cap n e.last e.rest g p t f c b p₂ t₂ c' b' → (p' t' : List ℕ) (x : RunAnswer) → ClosedAs (outcome (number_of g.stop) (a - g.rest) (memory_of p₂ t₂ g.last.height)) p₂ t₂ p' t' x
     → RestIs s cap e a p t f c b p' t' c' b' x
 finished_over s cap n e g a p t f c b p₂ t₂ c' b' ec en le d p' t' x closed =
     let k : ℕ = a - e.rest in
     let z : a - g.rest ≡ k + (e.rest - g.rest) = omega (arith, d.left) in
-    let o : Outcome = outcome g.number (a - g.rest) (keeping (memory_of p₂ t₂ g.last.height) d.heap) in
+    let o : Outcome = outcome (number_of g.stop) (a - g.rest) (keeping (memory_of p₂ t₂ g.last.height) d.heap) in
     joined o p₂ t₂ c b p' t' c' b' x closed (rw en at d.cells_are) (rw en at d.table_is)
     ∙ stack_of o p t p₂ t₂ (lent_heap_of c b) cap ec d.same_payloads d.same_types d.rest_payloads d.rest_types
     ∙ ap (λ (y : Outcome). ran y (lent_of p t) (lent_heap_of c b))
-    (ap (λ (i : ℕ). outcome g.number i (keeping (memory_of p₂ t₂ g.last.height) d.heap)) z ∙ d.exact k ∙ ap (λ (i : ℕ). rest_of s cap i e.last e.rest k p t f) en)
+    (ap (λ (i : ℕ). outcome (number_of g.stop) i (keeping (memory_of p₂ t₂ g.last.height) d.heap)) z ∙ d.exact k ∙ ap (λ (i : ℕ). rest_of s cap i e.last e.rest k p t f) en)

@@ -1,14 +1,14 @@
 -- What the run of a body answers, return by return.
 use Prim.Native.Nat.{ℕ, zero, suc, ◌+◌, ◌*◌, ◌≤◌, ◌<◌}
 use native.Mathlib.Omega.{arith}
-use mathlib.Core.Path.{◌≡◌, refl, sym, ap, ◌∙◌}
+use mathlib.Core.Path.{◌≡◌, refl, sym, ap, ◌∙◌, subst}
 use mathlib.Core.Bool.{Bool, true, false}
 use mathlib.Core.Option.{none}
 use mathlib.Core.List.{List, []}
 use lib.ListN.{length}
 use borrow.Author.Tests.{le-leb, lt-leb}
-use Rattle.rules.specs.declared.RunAnswer.{RunAnswer}
-use Rattle.rules.specs.declared.RunAnswer.TheVariants.{Rejected}
+use Rattle.rules.specs.AnswerTypes.{RunAnswer}
+use Rattle.rules.specs.AnswerTypes.{Rejected}
 use Rattle.rules.specs.declared.Slot.{Slot}
 use Rattle.rules.specs.Instructions.{Ty}
 use Rattle.rules.specs.Tables.{body_of, function_at, params_from}
@@ -21,10 +21,9 @@ use Rattle.rules.specs.Answers.{admitted, arguments, start_state, outcome_of, ra
 use Rattle.soundness.specs.Framed.{with_heap}
 use Rattle.soundness.specs.Kinds.{start_kinds}
 use Rattle.format.specs.declared.Sections.{Sections}
-use Rattle.format.specs.Layout.{sections_of}
-use Rattle.reader.specs.declared.Opened.TheVariants.{Refused}
-use Rattle.reader.specs.Answers.{answer, opened_of}
-use Rattle.reader.proofs.Opening.{opened_refused}
+use Rattle.rules.specs.declared.Refusal.{Refusal}
+use Rattle.rules.specs.Results.{refusal_number}
+use Rattle.reader.proofs.Opening.{refusal_some}
 use Rattle.state.specs.State.{memory_of, state_of, Ready}
 use Rattle.state.specs.declared.Registers.{Registers}
 use Rattle.heap.proofs.Lent.{Small}
@@ -39,15 +38,13 @@ use Rattle.runs.proofs.Arguments.{admitted_lengths}
 
 -- the file s, the body's number f, the arguments a and b, the lent bytes p and t, c and h
 module _ (s : List ℕ) (f : ℕ) (a b p t c h : List ℕ) where
-  pub run_unread : (scan n k : ℕ) → Refused k ≡ opened_of s → RunIs s f a b scan n p t c h p t c h (Rejected k)
+  pub run_unread : (scan n : ℕ) (e : Refusal) → refusal s ≡ refusal_number e → RunIs s f a b scan n p t c h p t c h (Rejected (refusal_number e))
   unfolding run_module run_refusal scan_refusal
-  run_unread scan n k q = go (refusal s) refl
+  run_unread scan n e q = subst (λ (k : ℕ). RunIs s f a b scan n p t c h p t c h (Rejected k)) q (go (refusal s) refl)
     where
-      go : (r : ℕ) → refusal s ≡ r → RunIs s f a b scan n p t c h p t c h (Rejected k)
-      go zero w =
-          absurd (let g : Refused k ≡ answer zero (sections_of s) = q ∙ ap (λ (j : ℕ). answer j (sections_of s)) w in
-          let z : ◌≡◌ {A = ℕ} 0 1 = cc in omega arith)
-      go (suc r) w = let e : k ≡ suc r = opened_refused s k q ∙ w in rw w (rw e refl)
+      go : (r : ℕ) → refusal s ≡ r → RunIs s f a b scan n p t c h p t c h (Rejected (refusal s))
+      go zero w = absurd (refusal_some e (sym q ∙ w))
+      go (suc r) w = rw w refl
 
   pub run_12 : (scan n : ℕ) → refusal s ≡ 0 → start_of (read s) (body_of f) ≡ none → RunIs s f a b scan n p t c h p t c h (Rejected 12)
   unfolding run_module run_refusal scan_refusal

@@ -1,7 +1,7 @@
 -- What a run is given and what it leaves: the body that a host names, its arguments, the lent bytes.
-use Rattle.std.specs.Prelude.{ℕ, ◌+◌, ◌*◌, ◌-◌, ◌≤◌, ◌<◌, ◌≡◌, Bool, false, not, ◌&&◌, ◌||◌, List, ◌++◌, eqb, length, get_or, take, drop, replicate}
+use Rattle.std.specs.Prelude.{ℕ, ◌+◌, ◌*◌, ◌-◌, ◌≤◌, ◌<◌, ◌≡◌, Bool, false, not, ◌&&◌, ◌||◌, List, ◌++◌, eqb, length, get_or, take, drop, replicate, Some, None}
 use Rattle.std.proofs.Math.Option.{none, some}
-use Rattle.rules.specs.declared.RunAnswer.{RunAnswer}
+use Rattle.rules.specs.AnswerTypes.{RunAnswer}
 use Rattle.rules.specs.declared.Slot.{Slot}
 use Rattle.rules.specs.Instructions.{Ty, num, ptr, num_kind}
 use Rattle.rules.specs.Tables.{body_of, function_at, params_from}
@@ -17,10 +17,9 @@ use Rattle.heap.specs.Blocks.{bare, Sane}
 use Rattle.state.specs.State.{body_in, memory_of, state_of}
 use Rattle.state.specs.declared.Registers.{Registers}
 use Rattle.machine.specs.declared.Ended.{Ended}
-use Rattle.machine.specs.Ends.{Fits, left}
+use Rattle.machine.specs.Ends.{Fits, left, number_of}
 use Rattle.runs.specs.declared.BodyRecord.{BodyRecord}
-use Rattle.runs.specs.declared.FoundBody.{FoundBody}
-use Rattle.runs.specs.declared.FoundBody.TheVariants.{Record, Nothing}
+use Rattle.std.specs.declared.option.Option.{Option}
 
 -- ---- lent bytes
 
@@ -90,7 +89,7 @@ RestIs s cap e allowance p t f c b p' t' c' b' r = LeavesAs (rest_of s cap (cell
 -- the rest of a run over n cells ended as g says: the stack is in the first slots, `heap` is what the cells and the table show
 pub record RunsOver (s : List ℕ) (cap n : ℕ) (r : Registers) (i : ℕ) (g : Ended) (p t f c b p' t' c' b' : List ℕ) : Type 0 where
   pub heap : Heap
-  pub exact : (k : ℕ) → outcome g.number (k + (i - g.rest)) (keeping (memory_of p' t' g.last.height) heap) ≡ rest_of s cap n r i k p t f
+  pub exact : (k : ℕ) → outcome (number_of g.stop) (k + (i - g.rest)) (keeping (memory_of p' t' g.last.height) heap) ≡ rest_of s cap n r i k p t f
   pub cells_are : c' ≡ cells_after n heap.blocks c
   pub table_is : b' ≡ table_after n heap.blocks b
   pub left : g.rest ≤ i
@@ -136,9 +135,9 @@ pub record BodyIs (s : List ℕ) (c : Sections) (f : ℕ) (b : BodyRecord) : Typ
   pub near : b.end ≤ 16384
   pub body_fits : b.body < 65536
 
-abbrev pub FoundIs : List ℕ → Sections → ℕ → FoundBody → Type 0
-FoundIs s c f (Record b) = BodyIs s c f b
-FoundIs s c f Nothing = start_of (read s) (body_of f) ≡ none
+abbrev pub FoundIs : List ℕ → Sections → ℕ → Option BodyRecord → Type 0
+FoundIs s c f (Some b) = BodyIs s c f b
+FoundIs s c f None = start_of (read s) (body_of f) ≡ none
 
 -- ---- words of frames
 

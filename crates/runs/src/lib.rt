@@ -1,8 +1,9 @@
 // The run of a body by number on lent arguments: refusals, the arguments in their slots, the first frame, the heap, the answer.
 #![tactic(auto)]
 
-ghost use Rattle.std.specs.Prelude.{◌≡◌, ◌+◌, ◌-◌, ◌*◌, ◌<◌, ◌≤◌, min, length, replicate};
+ghost use Rattle.std.specs.Prelude.{◌≡◌, ◌+◌, ◌-◌, ◌*◌, ◌<◌, ◌≤◌, length};
 ghost use Rattle.rules.specs.Answers as Answers;
+ghost use Rattle.rules.specs.Results.{run_answer};
 ghost use Rattle.rules.specs.Instructions.{ty_of};
 ghost use Rattle.rules.specs.Machine.{outcome};
 ghost use Rattle.rules.specs.Tables.{body_of, function_at, params_from};
@@ -10,61 +11,30 @@ ghost use Rattle.rules.specs.ModuleFile.{edition, read, refusal, functions_in};
 ghost use Rattle.format.specs.Layout.{Packed};
 ghost use Rattle.keys.specs.Keys.{Keyed};
 ghost use Rattle.state.specs.State.{memory_of};
-ghost use Rattle.machine.specs.Ends.{end_with, Fits};
+ghost use Rattle.machine.specs.Ends.{number_of, Fits};
 ghost use Rattle.runs.specs.Runs.{lent_of, slots_in, cells_in, cleared_to, ClosedAs, RunIs, Empty, Emptied, Standing, RestIs, RunsOver, is_over, suits, Copied, FoundIs, Named, Begins};
 
 use format::Sections;
 use machine::Ended;
-use reader::Opened;
-use reader::entries::FoundFunction;
-use rules::{RunAnswer, Slot, Tally};
-use state::{Progress, Registers};
+use rules::{Exception, Refusal, RunError, Slot, Tally};
+use state::Progress;
 
 const ENTRY: u32 = 0xffff_ffff;
 
-const NO_SUCH_FUNCTION: u32 = 12;
-
-const ARGUMENTS_REFUSED: u32 = 13;
-
-const PROFILE_DIFFERS: u32 = 17;
-
-const STACK_OVERFLOW: u32 = 20;
-
 // ---- lent slots
-
-fn least(a: usize, b: usize) -> usize
-    ensures { result ≡ min a b }
-{
-    if b < a {
-        return b;
-    }
-    a
-}
 
 // The smaller number of whole slots, at most 4,096.
 pub fn capacity(p: &[u8], t: &[u8]) -> usize
     ensures { result ≡ slots_in p.now t.now }
 {
-    let whole = least(p.len() / 8, t.len());
-    least(whole, 4096)
+    (p.len() / 8).min(t.len()).min(4096)
 }
 
 // The smaller number of whole cells and entries, at most 4,096.
 pub fn heap_capacity(cells: &[u8], table: &[u8]) -> usize
     ensures { result ≡ cells_in cells.now table.now }
 {
-    let whole = least(cells.len() / 8, table.len() / 24);
-    least(whole, 4096)
-}
-
-fn clear(s: &mut [u8])
-    ensures { s.new ≡ replicate (length s.old) 0 }
-{
-    let mut i = 0;
-    while i < s.len() {
-        s[i] = 0;
-        i += 1;
-    }
+    (cells.len() / 8).min(table.len() / 24).min(4096)
 }
 
 // Zeros from a to e.
@@ -72,20 +42,20 @@ fn clear_part(s: &mut [u8], a: usize, e: usize)
     requires { (a ≤ e) × (e ≤ length s.old) }
     ensures { s.new ≡ cleared_to s.old a e }
 {
-    clear(&mut s[a..e]);
+    s[a..e].fill(0);
 }
 
 // Ends a run: clears the slots from the height to the capacity, and answers.
 pub fn close(
-    number: u32,
+    stop: Option<Exception>,
     steps: u64,
     height: usize,
     cap: usize,
     p: &mut [u8],
     t: &mut [u8],
-) -> RunAnswer
+) -> Result<Tally, RunError>
     requires { (cap ≡ slots_in p.old t.old) × (height ≤ cap) }
-    ensures { ClosedAs (outcome number steps (memory_of p.old t.old height)) p.old t.old p.new t.new result }
+    ensures { ClosedAs (outcome (number_of stop) steps (memory_of p.old t.old height)) p.old t.old p.new t.new (run_answer result) }
 {
     clear_part(p, height * 8, cap * 8);
     clear_part(t, height, cap);
@@ -93,10 +63,10 @@ pub fn close(
         steps,
         height: height as u64,
     };
-    if number == 0 {
-        return RunAnswer::Finished(tally);
+    match stop {
+        None => Ok(tally),
+        Some(e) => Err(RunError::Stopped(e, tally)),
     }
-    RunAnswer::Stopped(number, tally)
 }
 
 // Clears the lent heap, up to its capacity.
@@ -136,13 +106,10 @@ fn admits(file: &[u8], c: Sections, k: usize, n: usize, args: &[u8], kinds: &[u8
     if args.len() != n * 8 {
         return false;
     }
-    let mut j = n;
-    while 0 < j {
-        j -= 1;
+    for j in (0..n).rev() {
         let b = reader::entries::param(file, c, k, j);
         let v = state::slot_at(args, kinds, j);
-        let fits = takes(b, v);
-        if !fits {
+        if !takes(b, v) {
             return false;
         }
     }
@@ -154,11 +121,9 @@ pub fn copy_arguments(args: &[u8], kinds: &[u8], n: usize, p: &mut [u8], t: &mut
     requires { (n * 8 ≤ length args.now) × (n ≤ length kinds.now) × (n * 8 ≤ length p.old) × (n ≤ length t.old) }
     ensures { Copied args.now kinds.now p.old t.old n p.new t.new }
 {
-    let mut i = 0;
-    while i < n {
+    for i in 0..n {
         let v = state::slot_at(args, kinds, i);
         state::put_slot(p, t, i, v);
-        i += 1;
     }
 }
 
@@ -173,19 +138,13 @@ struct BodyRecord {
     params: usize,
 }
 
-#[derive(Clone, Copy)]
-enum FoundBody {
-    Record(BodyRecord),
-    Nothing,
-}
-
 // The body that the host names.
-fn find(file: &[u8], c: Sections, function: u32) -> FoundBody
+fn find(file: &[u8], c: Sections, function: u32) -> Option<BodyRecord>
     requires { Packed file.now c × (refusal file.now ≡ 0) }
     ensures { FoundIs file.now c function result }
 {
     if function == ENTRY {
-        return FoundBody::Record(BodyRecord {
+        return Some(BodyRecord {
             body: 65535,
             start: 0,
             end: c.entry,
@@ -193,11 +152,8 @@ fn find(file: &[u8], c: Sections, function: u32) -> FoundBody
         });
     }
     let body = function as usize;
-    let found = view::function(file, c, body);
-    let FoundFunction::Record(g) = found else {
-        return FoundBody::Nothing;
-    };
-    FoundBody::Record(BodyRecord {
+    let g = view::function(file, c, body)?;
+    Some(BodyRecord {
         body,
         start: g.start,
         end: g.end,
@@ -224,20 +180,13 @@ pub fn other_profile(file: &[u8], c: Sections, function: u32, profile: u32) -> b
 // ---- the run
 
 // Whether a run for which few words and no heap were at hand is over.
-fn is_over(number: u32) -> bool
-    ensures { result ≡ is_over number }
+fn is_over(stop: Option<Exception>) -> bool
+    ensures { result ≡ is_over (number_of stop) }
 {
-    if number == STACK_OVERFLOW {
-        return false;
+    match stop {
+        Some(Exception::StackOverflow) => false,
+        _ => !machine::left(stop),
     }
-    let waits = machine::left(number);
-    !waits
-}
-
-fn ended(number: u32, rest: u64, last: Registers) -> Ended
-    ensures { result ≡ end_with number rest last }
-{
-    Ended { number, rest, last }
 }
 
 // Copies words, so that frames go on where more are lent.
@@ -245,11 +194,7 @@ fn copy_words(from: &[u16], to: &mut [u16])
     requires { length from.now ≤ length to.old }
     ensures { Begins to.new from.now }
 {
-    let mut i = 0;
-    while i < from.len() {
-        to[i] = from[i];
-        i += 1;
-    }
+    to[..from.len()].copy_from_slice(from);
 }
 
 // The rest of a run over the heap, which has no blocks yet: the machine as far as it goes without the heap, then the instruction
@@ -279,22 +224,28 @@ pub fn run_over(
     let mut rest = e.rest;
     loop {
         let g = machine::run_from(file, c, cap, last, rest, p, t, f, source, from);
-        let waits = machine::left(g.number);
-        if !waits {
+        if !machine::left(g.stop) {
             return g;
         }
         let r = g.last;
-        let a = access::step(file, c, code, cap, size, r, &mut shelf, p, t, cells, table);
-        match a {
+        match access::step(file, c, code, cap, size, r, &mut shelf, p, t, cells, table) {
             Progress::Goes(q) => {
                 last = q;
                 rest = g.rest - 1;
             }
             Progress::Finishes(q) => {
-                return ended(0, g.rest - 1, q);
+                return Ended {
+                    stop: None,
+                    rest: g.rest - 1,
+                    last: q,
+                };
             }
             Progress::Stops(n) => {
-                return ended(n, g.rest, r);
+                return Ended {
+                    stop: Some(n),
+                    rest: g.rest,
+                    last: r,
+                };
             }
         }
     }
@@ -314,14 +265,14 @@ fn finish(
     from: usize,
     cells: &mut [u8],
     table: &mut [u8],
-) -> RunAnswer
+) -> Result<Tally, RunError>
     requires packed { Packed file.now c × (refusal file.now ≡ 0) × Keyed file.now source.now from }
     requires standing { Standing file.now cap e allowance p.old t.old f.old cells.old table.old × (length f.old ≡ 1536) }
-    ensures { RestIs file.now cap e allowance p.old t.old f.old cells.old table.old p.new t.new cells.new table.new result }
+    ensures { RestIs file.now cap e allowance p.old t.old f.old cells.old table.old p.new t.new cells.new table.new (run_answer result) }
 {
     let size = heap_capacity(cells, table);
     let g = run_over(file, c, cap, size, e, p, t, f, source, from, cells, table);
-    close(g.number, allowance - g.rest, g.last.height, cap, p, t)
+    close(g.stop, allowance - g.rest, g.last.height, cap, p, t)
 }
 
 // The same of edition 1, whose code is put in keys first.
@@ -336,10 +287,10 @@ fn finish_old(
     f: &mut [u16],
     cells: &mut [u8],
     table: &mut [u8],
-) -> RunAnswer
+) -> Result<Tally, RunError>
     requires packed { Packed file.now c × (refusal file.now ≡ 0) × (edition file.now ≡ 1) }
     requires standing { Standing file.now cap e allowance p.old t.old f.old cells.old table.old × (length f.old ≡ 1536) }
-    ensures { RestIs file.now cap e allowance p.old t.old f.old cells.old table.old p.new t.new cells.new table.new result }
+    ensures { RestIs file.now cap e allowance p.old t.old f.old cells.old table.old p.new t.new cells.new table.new (run_answer result) }
 {
     let mut own = [0u8; 16384];
     let at = c.code;
@@ -359,10 +310,10 @@ fn deeper(
     few: &[u16],
     cells: &mut [u8],
     table: &mut [u8],
-) -> RunAnswer
+) -> Result<Tally, RunError>
     requires packed { Packed file.now c × (refusal file.now ≡ 0) }
     requires standing { Standing file.now cap e allowance p.old t.old few.now cells.old table.old }
-    ensures { RestIs file.now cap e allowance p.old t.old few.now cells.old table.old p.new t.new cells.new table.new result }
+    ensures { RestIs file.now cap e allowance p.old t.old few.now cells.old table.old p.new t.new cells.new table.new (run_answer result) }
 {
     let mut f = [0u16; 1536];
     copy_words(few, &mut f);
@@ -388,21 +339,20 @@ fn run_old(
     few: &mut [u16],
     cells: &mut [u8],
     table: &mut [u8],
-) -> RunAnswer
+) -> Result<Tally, RunError>
     requires packed { Packed file.now c × (refusal file.now ≡ 0) × (edition file.now ≡ 1) × (c.extent ≤ 512) }
     requires standing { Standing file.now cap e allowance p.old t.old few.old cells.old table.old }
-    ensures { RestIs file.now cap e allowance p.old t.old few.old cells.old table.old p.new t.new cells.new table.new result }
+    ensures { RestIs file.now cap e allowance p.old t.old few.old cells.old table.old p.new t.new cells.new table.new (run_answer result) }
 {
     let mut own = [0u8; 512];
     let at = c.code;
     keys::edition1::translate(&file[at..], &mut own);
     let last = e.last;
     let g = machine::run_from(file, c, cap, last, e.rest, p, t, few, &own, 0);
-    let over = is_over(g.number);
-    if !over {
+    if !is_over(g.stop) {
         return deeper(file, c, cap, g, allowance, p, t, few, cells, table);
     }
-    close(g.number, allowance - g.rest, g.last.height, cap, p, t)
+    close(g.stop, allowance - g.rest, g.last.height, cap, p, t)
 }
 
 // The rest of a run that is not edition 3's with few words and no heap. It is a function of its own for the compiler's sake: so the
@@ -418,10 +368,10 @@ fn run_rest(
     few: &mut [u16],
     cells: &mut [u8],
     table: &mut [u8],
-) -> RunAnswer
+) -> Result<Tally, RunError>
     requires packed { Packed file.now c × (refusal file.now ≡ 0) }
     requires standing { Standing file.now cap e allowance p.old t.old few.old cells.old table.old }
-    ensures { RestIs file.now cap e allowance p.old t.old few.old cells.old table.old p.new t.new cells.new table.new result }
+    ensures { RestIs file.now cap e allowance p.old t.old few.old cells.old table.old p.new t.new cells.new table.new (run_answer result) }
 {
     let edition = format::word(file, 0);
     if edition == 1 {
@@ -445,27 +395,24 @@ fn run_opened(
     t: &mut [u8],
     cells: &mut [u8],
     table: &mut [u8],
-) -> RunAnswer
+) -> Result<Tally, RunError>
     requires { Packed file.now c × (refusal file.now ≡ 0) }
-    ensures { RunIs file.now function args.now kinds.now profile allowance p.old t.old cells.old table.old p.new t.new cells.new table.new result }
+    ensures { RunIs file.now function args.now kinds.now profile allowance p.old t.old cells.old table.old p.new t.new cells.new table.new (run_answer result) }
 {
-    let found = find(file, c, function);
-    let FoundBody::Record(b) = found else {
-        return RunAnswer::Rejected(NO_SUCH_FUNCTION);
+    let Some(b) = find(file, c, function) else {
+        return Err(RunError::Rejected(Refusal::NoSuchFunction));
     };
     let n = b.params;
-    let admitted = admits(file, c, b.body, n, args, kinds);
-    if !admitted {
-        return RunAnswer::Rejected(ARGUMENTS_REFUSED);
+    if !admits(file, c, b.body, n, args, kinds) {
+        return Err(RunError::Rejected(Refusal::BadArguments));
     }
-    let other = other_profile(file, c, function, profile);
-    if other {
-        return RunAnswer::Rejected(PROFILE_DIFFERS);
+    if other_profile(file, c, function, profile) {
+        return Err(RunError::Rejected(Refusal::OtherProfile));
     }
     clear_heap(cells, table);
     let cap = capacity(p, t);
     if cap < n {
-        return close(STACK_OVERFLOW, 0, 0, cap, p, t);
+        return close(Some(Exception::StackOverflow), 0, 0, cap, p, t);
     }
     copy_arguments(args, kinds, n, p, t);
     let mut f = [0u16; 96];
@@ -473,7 +420,7 @@ fn run_opened(
     let edition = format::word(file, 0);
     if edition == 1 {
         let e = Ended {
-            number: 0,
+            stop: None,
             rest: allowance,
             last: first,
         };
@@ -481,11 +428,10 @@ fn run_opened(
     }
     let from = c.code;
     let e = machine::run_from(file, c, cap, first, allowance, p, t, &mut f, file, from);
-    let over = is_over(e.number);
-    if !over {
+    if !is_over(e.stop) {
         return run_rest(file, c, cap, e, allowance, p, t, &mut f, cells, table);
     }
-    close(e.number, allowance - e.rest, e.last.height, cap, p, t)
+    close(e.stop, allowance - e.rest, e.last.height, cap, p, t)
 }
 
 // The run of any body of any bytes, for a scan of this profile. ffffffff names the entry.
@@ -500,24 +446,21 @@ pub fn run(
     types: &mut [u8],
     heap: &mut [u8],
     blocks: &mut [u8],
-) -> RunAnswer
-    ensures { RunIs file.now function arg_payloads.now arg_types.now profile allowance payloads.old types.old heap.old blocks.old payloads.new types.new heap.new blocks.new result }
+) -> Result<Tally, RunError>
+    ensures { RunIs file.now function arg_payloads.now arg_types.now profile allowance payloads.old types.old heap.old blocks.old payloads.new types.new heap.new blocks.new (run_answer result) }
 {
-    let opened = reader::open(file);
-    match opened {
-        Opened::Refused(n) => RunAnswer::Rejected(n),
-        Opened::Module(c) => run_opened(
-            file,
-            c,
-            function,
-            arg_payloads,
-            arg_types,
-            profile,
-            allowance,
-            payloads,
-            types,
-            heap,
-            blocks,
-        ),
-    }
+    let c = reader::open(file)?;
+    run_opened(
+        file,
+        c,
+        function,
+        arg_payloads,
+        arg_types,
+        profile,
+        allowance,
+        payloads,
+        types,
+        heap,
+        blocks,
+    )
 }

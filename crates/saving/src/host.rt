@@ -1,22 +1,23 @@
 // The same for C: the number is the answer, and what else an answer holds goes through pointers.
 ghost use Rattle.rules.specs.Tables.{tables};
 ghost use Rattle.std.specs.Prelude.{◌≡◌};
+ghost use Rattle.rules.specs.Results.{write_answer};
 ghost use Rattle.rules.specs.Writing.{write_number};
 ghost use Rattle.rules.specs.Host.{written_after};
 ghost use Rattle.promises.specs.WritePromises.{HostWriteKeeps};
 
-use rules::WriteAnswer;
+use rules::Refusal;
 
 // An answer's number. The length is written with 0 only.
-pub fn write_number(answer: WriteAnswer, written: &mut u64) -> u32
-    ensures { (result ≡ write_number answer) × (written.new ≡ written_after answer written.old) }
+pub fn write_number(answer: Result<u64, Refusal>, written: &mut u64) -> u32
+    ensures { (result ≡ write_number (write_answer answer)) × (written.new ≡ written_after (write_answer answer) written.old) }
 {
     match answer {
-        WriteAnswer::Unwritten(n) => n,
-        WriteAnswer::Written(n) => {
+        Ok(n) => {
             *written = n;
             0
         }
+        Err(refusal) => u32::from(refusal),
     }
 }
 

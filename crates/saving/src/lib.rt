@@ -2,9 +2,10 @@
 #![tactic(auto)]
 
 ghost use Rattle.rules.specs.Tables.{tables};
+ghost use Rattle.rules.specs.Results.{write_answer};
 ghost use Rattle.promises.specs.WritePromises.{WriteKeeps};
 
-use rules::WriteAnswer;
+use rules::Refusal;
 
 pub mod host;
 
@@ -18,8 +19,8 @@ pub fn write(
     code: &[u8],
     entry: usize,
     out: &mut [u8],
-) -> WriteAnswer
-    ensures { WriteKeeps (tables edition constants.now functions.now labels.now structures.now code.now entry) out.old result out.new }
+) -> Result<u64, Refusal>
+    ensures { WriteKeeps (tables edition constants.now functions.now labels.now structures.now code.now entry) out.old (write_answer result) out.new }
 {
     writer::write(
         edition, constants, functions, labels, structures, code, entry, out,

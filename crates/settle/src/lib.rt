@@ -1,7 +1,7 @@
 // Need and frames of all bodies, from a table of their own heights and calls.
 #![tactic(auto)]
 
-ghost use Rattle.std.specs.Prelude.{◌≡◌, suc, ◌+◌, ◌*◌, ◌<◌, ◌≤◌, max, length};
+ghost use Rattle.std.specs.Prelude.{◌≡◌, suc, ◌+◌, ◌*◌, ◌<◌, ◌≤◌, length};
 ghost use Rattle.settle.specs.Graph.{offset_at, NextCall, Joined, Callees, Low, Sizes, Settled, Open, Visited, Reached, mark_of, unseen, Ended};
 
 #[derive(Clone, Copy)]
@@ -10,35 +10,18 @@ pub struct Pair {
     pub frames: u32,
 }
 
-fn wide(x: u16) -> u32
-    ensures { (result ≡ x) × (result < 65536) }
-{
-    x as u32
-}
-
-fn larger(x: u32, y: u32) -> u32
-    ensures { result ≡ max x y }
-{
-    if x < y {
-        return y;
-    }
-    x
-}
-
 // The first function from k on that row b calls, or n.
 fn next_call(offsets: &[u16], b: usize, k: usize, n: usize) -> usize
     requires { (b ≤ n) × (k ≤ n) × (n ≤ 128) × (128 * suc n ≤ length offsets.now) }
     ensures { NextCall offsets.now b k n result }
 {
     let row = 128 * b;
-    let mut i = k;
-    while i < n {
+    for i in k..n {
         if offsets[row + i] > 0 {
             return i;
         }
-        i += 1;
     }
-    i
+    n
 }
 
 // Row b, all of whose n callees have their need and frames.
@@ -51,9 +34,9 @@ fn join(b: usize, n: usize, own: &[u32], offsets: &[u16], need: &[u32], frames: 
     let mut y: u32 = 1;
     let mut k = next_call(offsets, b, 0, n);
     while k < n {
-        let a = wide(offsets[128 * b + k]);
-        x = larger(x, a - 1 + need[k + 1]);
-        y = larger(y, frames[k + 1] + 1);
+        let a = u32::from(offsets[128 * b + k]);
+        x = x.max(a - 1 + need[k + 1]);
+        y = y.max(frames[k + 1] + 1);
         k = next_call(offsets, b, k + 1, n);
     }
     Pair { need: x, frames: y }
@@ -148,9 +131,7 @@ pub fn settle(
     requires { Ended n own.now offsets.now 0 marks.old need.old frames.old × Low n own.now offsets.now }
     ensures { Ended n own.now offsets.now (n + 1) marks.new need.new frames.new }
 {
-    let mut b = 0;
-    while b <= n {
+    for b in 0..n + 1 {
         begin(b, n, own, offsets, marks, need, frames);
-        b += 1;
     }
 }

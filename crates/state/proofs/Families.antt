@@ -9,6 +9,7 @@ use lib.ListN.{set}
 use lib.Seq.{set-get_or}
 use borrow.Author.Tests.{eq-eqb, ne_eqb}
 use Rattle.rules.specs.declared.Slot.{Slot}
+use Rattle.rules.specs.declared.Exception.TheVariants as Exception
 use Rattle.rules.specs.declared.Unary.{Unary}
 use Rattle.rules.specs.declared.Binary.{Binary}
 use Rattle.rules.specs.declared.Instruction.{Instruction}
@@ -50,20 +51,20 @@ module _ (cap : ℕ) (r : Registers) (p t f : List ℕ) (k : Ready cap r p t f) 
 
   -- ---- too few operands
 
-  pub one_21 : (o : Unary) → r.height < r.floor + 1 → Does cap r (Stops 21) p t f p t f (exec_in m cap (One o) (state_of r p t f))
+  pub one_21 : (o : Unary) → r.height < r.floor + 1 → Does cap r (Stops Exception.StackEmpty) p t f p t f (exec_in m cap (One o) (state_of r p t f))
   unfolding exec_in
-  one_21 o h = stopping cap r p t f k 21 _ (take1_short p t r.floor r.height _ h)
+  one_21 o h = stopping cap r p t f k Exception.StackEmpty _ (take1_short p t r.floor r.height _ h)
 
-  pub two_21 : (o : Binary) → r.height < r.floor + 2 → Does cap r (Stops 21) p t f p t f (exec_in m cap (Two o) (state_of r p t f))
+  pub two_21 : (o : Binary) → r.height < r.floor + 2 → Does cap r (Stops Exception.StackEmpty) p t f p t f (exec_in m cap (Two o) (state_of r p t f))
   unfolding exec_in
-  two_21 o h = stopping cap r p t f k 21 _ (take2_short p t r.floor r.height _ h)
+  two_21 o h = stopping cap r p t f k Exception.StackEmpty _ (take2_short p t r.floor r.height _ h)
 
   -- ---- an instruction i that does j with the slot that w names, h slots being left
 
   module _ (i : Instruction) (w : Slot) (h : ℕ) (j : Memory → Spot → Slot → Next)
       (e : (g : Heap) → exec_in m cap i (with_heap g (state_of r p t f)) ≡ deref m (memory_over g) w (slots_of p t h) (j (memory_over g))) where
-    pub named_31 : is_pointer w.kind ≡ false → DoesOver cap r (Stops 31) p t f p t f (exec_in m cap i)
-    named_31 ne = stopping_over cap r p t f k 31 (exec_in m cap i) (λ g. e g ∙ rw ne refl)
+    pub named_31 : is_pointer w.kind ≡ false → DoesOver cap r (Stops Exception.PointerNotPointer) p t f p t f (exec_in m cap i)
+    named_31 ne = stopping_over cap r p t f k Exception.PointerNotPointer (exec_in m cap i) (λ g. e g ∙ rw ne refl)
 
     -- over every heap it is a slot
     pub named : is_pointer w.kind ≡ true → w.payload < h → h ≤ r.height

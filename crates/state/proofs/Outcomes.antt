@@ -6,6 +6,8 @@ use mathlib.Core.List.{List, ◌∷◌}
 use lib.ListN.{length, get_or, drop, length-set}
 use lib.Seq.{drop-set-lt}
 use Rattle.rules.specs.declared.Slot.{Slot}
+use Rattle.rules.specs.declared.Exception.{Exception}
+use Rattle.rules.specs.Results.{exception_number}
 use Rattle.rules.specs.Stack.{slots_of, put}
 use Rattle.rules.specs.Heap.{Heap, empty_heap}
 use Rattle.rules.specs.Machine.{State, goto, bind, becomes, Next, goes, stops, finishes}
@@ -32,7 +34,7 @@ over_every e s y q g = q g ∙ sym (ap (onto g) (q s.memory.heap) ∙ twice y)
     twice (finishes M) = refl
 
 -- left to who has the heap
-pub deferring : (p t : List ℕ) → Defers (Stops 33) p t p t
+pub deferring : (p t : List ℕ) → Defers (Stops Exception.PointerUnknownAddress) p t p t
 deferring p t = record { stops_with = refl; keeps_payloads = refl; keeps_types = refl }
 
 pub ready_moved : {cap : ℕ} {r : Registers} {p t f p' t' : List ℕ} (q h : ℕ) → Ready cap r p t f → length p' ≡ length p → length t' ≡ length t
@@ -55,13 +57,14 @@ ready_moved q h k ep et le fl =
 
 module _ (cap : ℕ) (r : Registers) (p t f : List ℕ) (k : Ready cap r p t f) where
   -- nothing changes, and the run is over with e
-  pub stopping : (e : ℕ) (x : Next) → x ≡ stops e → Does cap r (Stops e) p t f p t f x
+  pub stopping : (e : Exception) (x : Next) → x ≡ stops (exception_number e) → Does cap r (Stops e) p t f p t f x
   stopping e x q =
       record { result = sym q; unchanged = refl; ready = k; rest_payloads = refl; rest_types = refl; same_payloads = refl; same_types = refl }
 
   -- over every heap
-  pub stopping_over : (n : ℕ) (e : State → Next) → ((g : Heap) → e (with_heap g (state_of r p t f)) ≡ stops n) → DoesOver cap r (Stops n) p t f p t f e
-  stopping_over n e q = (stopping n _ (q (empty_heap 0)), over_every e (state_of r p t f) (stops n) q)
+  pub stopping_over : (n : Exception) (e : State → Next) → ((g : Heap) → e (with_heap g (state_of r p t f)) ≡ stops (exception_number n))
+      → DoesOver cap r (Stops n) p t f p t f e
+  stopping_over n e q = (stopping n _ (q (empty_heap 0)), over_every e (state_of r p t f) (stops (exception_number n)) q)
 
   -- the place changes, and the stack loses its top slots down to h
   pub dropping : (q h : ℕ) (x : Next) → h ≤ r.height → r.floor ≤ h → x ≡ shifted (state_of r p t f) q (slots_of p t h)

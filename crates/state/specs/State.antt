@@ -5,6 +5,8 @@ use Rattle.rules.specs.Stack.{slots_of}
 use Rattle.rules.specs.Heap.{Heap, empty_heap}
 use Rattle.rules.specs.Machine.{Frame, Memory, State, Next, goes, stops, finishes}
 use Rattle.soundness.specs.Framed.{with_heap, onto}
+use Rattle.rules.specs.Results.{exception_number}
+use Rattle.rules.specs.declared.Exception.TheVariants as Exception
 use Rattle.state.specs.declared.Registers.{Registers}
 use Rattle.state.specs.declared.Progress.{Progress}
 use Rattle.state.specs.declared.Progress.TheVariants.{Goes, Finishes, Stops}
@@ -65,7 +67,7 @@ state_of r p t f = record { memory = memory_of p t r.height; top = top_of r f; c
 abbrev pub next_of : Progress → List ℕ → List ℕ → List ℕ → Next
 next_of (Goes q) p t f = goes (state_of q p t f)
 next_of (Finishes q) p t f = finishes (memory_of p t q.height)
-next_of (Stops e) p t f = stops e
+next_of (Stops e) p t f = stops (exception_number e)
 
 -- ---- what holds between instructions
 
@@ -136,7 +138,7 @@ DoesOver cap r a p t f p' t' f' e = Does cap r a p t f p' t' f' (e (state_of r p
 
 -- the instruction is left to who has the heap; nothing changed
 pub record Defers (a : Progress) (p t p' t' : List ℕ) : Type 0 where
-  pub stops_with : a ≡ Stops 33
+  pub stops_with : a ≡ Stops Exception.PointerUnknownAddress
   pub keeps_payloads : p' ≡ p
   pub keeps_types : t' ≡ t
 
@@ -148,7 +150,7 @@ ActsOrDefers cap r a p t p' t' e = (f : List ℕ) → Ready cap r p t f → Does
 
 -- the code found no words for another frame, and fewer than 64 are lent; nothing changed
 pub record Lacks (a : Progress) (p t f p' t' f' : List ℕ) : Type 0 where
-  pub stops_with : a ≡ Stops 20
+  pub stops_with : a ≡ Stops Exception.StackOverflow
   pub fewer : length f < 1536
   pub keeps_payloads : p' ≡ p
   pub keeps_types : t' ≡ t

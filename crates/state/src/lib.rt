@@ -6,7 +6,7 @@ ghost use Rattle.rules.specs.Stack.{slot_at};
 ghost use Rattle.state.specs.Slots.{payloads_with, types_with};
 ghost use Rattle.state.specs.State.{moved_to, bound_to};
 
-use rules::Slot;
+use rules::{Exception, Slot};
 
 // The running frame, and the slots in use. stop is its body's end, floor where its operands begin, frame where its words begin.
 // The words have its body, first slot, count of locals and locals.
@@ -19,12 +19,12 @@ pub struct Registers {
     pub height: usize,
 }
 
-// What an instruction does: the run goes on, the host's own call has returned, or the run is over with a number.
+// What an instruction does: the run goes on, the host's own call has returned, or the run stops with an exception.
 #[derive(Clone, Copy)]
 pub enum Progress {
     Goes(Registers),
     Finishes(Registers),
-    Stops(u32),
+    Stops(Exception),
 }
 
 pub fn slot_at(p: &[u8], t: &[u8], i: usize) -> Slot
@@ -50,18 +50,16 @@ pub fn put_slot(p: &mut [u8], t: &mut [u8], i: usize, v: Slot)
 pub fn moved(r: Registers, place: usize, height: usize) -> Registers
     ensures { result ≡ moved_to r place height }
 {
-    let mut q = r;
-    q.place = place;
-    q.height = height;
-    q
+    Registers { place, height, ..r }
 }
 
 // The registers past a binding store.
 pub fn bound(r: Registers, place: usize) -> Registers
     ensures { result ≡ bound_to r place }
 {
-    let mut q = r;
-    q.place = place;
-    q.floor = r.height;
-    q
+    Registers {
+        place,
+        floor: r.height,
+        ..r
+    }
 }

@@ -19,7 +19,7 @@ use Rattle.rules.specs.Typing.{Flow, judge, to, with_result}
 use Rattle.format.specs.declared.Sections.{Sections}
 use Rattle.format.specs.Layout.{Packed}
 use Rattle.reader.specs.declared.entries.FunctionRecord.{FunctionRecord}
-use Rattle.reader.specs.declared.entries.FoundFunction.TheVariants.{Record}
+use Rattle.std.specs.Prelude.{Some}
 use Rattle.reader.specs.Answers.{function_found}
 use Rattle.reader.proofs.Records.{function_count_lem}
 use Rattle.soundness.specs.Readable.{orderly, params_length, parameter_type, StructureByte, ManagedByte, ResultByte, result_type, byte_back}
@@ -44,7 +44,7 @@ not_null z b (inr (inl (inr (inl y)))) e = omega arith
 not_null z b (inr (inl (inr (inr y)))) e = omega arith
 not_null z b (inr (inr y)) e = let l = y.0 in omega arith
 
-module _ (s : List ℕ) (e : refusal s ≡ 0) (k : ℕ) (g : FunctionRecord) (is : function_found s k (Record g) ≡ (read s).function k) where
+module _ (s : List ℕ) (e : refusal s ≡ 0) (k : ℕ) (g : FunctionRecord) (is : function_found s k (Some g) ≡ (read s).function k) where
   pub function_few : g.params ≤ 8
   function_few =
       let f : length (params_from (functions_in s) (function_at (edition s) k + 10) g.params) ≤ 8 = (orderly (tables_in s) (good_file s e)).few_params k _ (sym is) in
@@ -57,7 +57,7 @@ module _ (s : List ℕ) (e : refusal s ≡ 0) (k : ℕ) (g : FunctionRecord) (is
   pub function_number : (c : Sections) → Packed s c → k < c.functions
   function_number c packed = omega (arith, function_there, function_count_lem s c packed)
 
-  function_same : function_found s k (Record g) ≡ some (function_of (edition s) (functions_in s) (function_at (edition s) k))
+  function_same : function_found s k (Some g) ≡ some (function_of (edition s) (functions_in s) (function_at (edition s) k))
   unfolding module_of
   function_same = rw (lt-ltb k (function_count (edition s) (functions_in s)) function_there) at is
 
@@ -106,7 +106,7 @@ module _ (s : List ℕ) (b : Body) (k q : ℕ) (r : List ℕ) where
   pub call_nowhere : Holds r → (read s).function k ≡ none → Judges (read s) b (Call k) q r Breaks r
   call_nowhere h e = breaks (read s) b q _ r h (rw e refl)
 
-  module _ (g : FunctionRecord) (is : function_found s k (Record g) ≡ (read s).function k) (r' : List ℕ) where
+  module _ (g : FunctionRecord) (is : function_found s k (Some g) ≡ (read s).function k) (r' : List ℕ) where
     abbrev params : List Ty
     params = params_from (functions_in s) (function_at (edition s) k + 10) g.params
 
@@ -142,7 +142,7 @@ module _ (s : List ℕ) (c : Sections) (packed : Packed s c) (o q : ℕ) (r : Li
   pub ret_nowhere : (read s).function o ≡ none → Judges (read s) (body_of o) Ret q r Breaks r
   ret_nowhere e = breaks (read s) (body_of o) q _ r h (rw (own_is s c packed o, e) refl)
 
-  module _ (g : FunctionRecord) (is : function_found s o (Record g) ≡ (read s).function o) where
+  module _ (g : FunctionRecord) (is : function_found s o (Some g) ≡ (read s).function o) where
     pub ret_bare : g.result ≡ 0 → Judges (read s) (body_of o) Ret q r Stops r
     ret_bare z = stops (read s) (body_of o) q _ r h (rw (own_is s c packed o, ← is, z) refl)
 

@@ -1,6 +1,7 @@
 -- Where an instruction leads from the lists of a record, and its key.
-use Rattle.std.specs.Prelude.{◌≡◌, ℕ, ◌+◌, ◌^◌, ◌≤◌, ◌<◌, Bool, true, false, ◌&&◌, ◌||◌, List, [], ◌∷◌, ◌++◌, length, leb, ltb}
+use Rattle.std.specs.Prelude.{◌≡◌, ℕ, ◌+◌, ◌^◌, ◌≤◌, ◌<◌, Bool, true, false, ◌&&◌, ◌||◌, List, [], ◌∷◌, ◌++◌, length, leb, ltb, Some, None}
 use Rattle.std.proofs.Math.Option.{Option, none, some}
+use Rattle.std.specs.declared.option.Option as found
 use Rattle.rules.specs.declared.Instruction.{Instruction}
 use Rattle.rules.specs.Bytes.{word, maybe}
 use Rattle.rules.specs.Instructions.{Ty, num_kind, ty_of, opcode_of, instruction_of, size}
@@ -11,8 +12,6 @@ use Rattle.soundness.specs.Numbering.{key_table}
 use Rattle.keys.specs.Keys.{Known, each}
 use Rattle.records.specs.Record.{lists_of, Holds, Judged}
 use Rattle.records.specs.declared.Transfer.{Transfer}
-use Rattle.transfer.specs.declared.FoundPlace.{FoundPlace}
-use Rattle.transfer.specs.declared.FoundPlace.TheVariants.{At, Nothing}
 
 -- ---- instructions
 
@@ -24,9 +23,9 @@ Judges m b i q r a r' = Judged m b q (judge m b i q (lists_of r).locals (lists_o
 abbrev pub Pushes : ℕ → ℕ → List ℕ → Transfer → List ℕ → Type 0
 Pushes t q r a r' = (m : Module) (b : Body) → Judged m b q (to q (lists_of r).locals (ty_of t ∷ (lists_of r).operands)) a r'
 
-abbrev pub place_of : FoundPlace → Option ℕ
-place_of (At q) = some q
-place_of Nothing = none
+abbrev pub place_of : found.Option ℕ → Option ℕ
+place_of (Some q) = some q
+place_of None = none
 
 -- ok says whether the operands of r end in arguments of these types; r' is r without them where they do
 pub record Stripped (ps : List Ty) (r : List ℕ) (ok : Bool) (r' : List ℕ) : Type 0 where

@@ -15,14 +15,7 @@ ghost use Rattle.keys.specs.Keys.{Known, Outside};
 ghost use Rattle.transfer.specs.Transfers.{Judges, Pushes, place_of, Stripped, KeyAt, Moves, made, Numbered, field_type, firsts, seconds};
 
 use format::Sections;
-use reader::entries::{FoundConstant, FoundFunction, FoundLabel};
 use records::Transfer;
-
-fn wide(x: u8) -> usize
-    ensures { (result ≡ x) × (result < 256) }
-{
-    x as usize
-}
 
 // ---- constants
 
@@ -44,8 +37,7 @@ fn push_constant(file: &[u8], c: Sections, k: u32, q: usize, st: &mut [u8]) -> T
     requires holds { Holds st.old }
     ensures { (b : Body) → Judges (read file.now) b (Push k) q st.old result st.new }
 {
-    let found = view::constant(file, c, k as usize);
-    let FoundConstant::Constant(v) = found else {
+    let Some(v) = view::constant(file, c, k as usize) else {
         return Transfer::Breaks;
     };
     push_type(v.kind, q, st)
@@ -53,26 +45,16 @@ fn push_constant(file: &[u8], c: Sections, k: u32, q: usize, st: &mut [u8]) -> T
 
 // ---- labels
 
-// A label's place.
-#[derive(Clone, Copy)]
-enum FoundPlace {
-    At(usize),
-    Nothing,
-}
-
 // The place of label k, where it is one of this body's.
-fn target(file: &[u8], c: Sections, owner: usize, k: u32) -> FoundPlace
+fn target(file: &[u8], c: Sections, owner: usize, k: u32) -> Option<usize>
     requires { Packed file.now c }
     ensures { place_of result ≡ owned (body_of owner) ((read file.now).label k) }
 {
-    let found = view::label(file, c, k as usize);
-    let FoundLabel::Record(l) = found else {
-        return FoundPlace::Nothing;
-    };
+    let l = view::label(file, c, k as usize)?;
     if l.owner != owner {
-        return FoundPlace::Nothing;
+        return None;
     }
-    FoundPlace::At(l.place)
+    Some(l.place)
 }
 
 // `jmp`.
@@ -80,8 +62,7 @@ fn jmp(file: &[u8], c: Sections, owner: usize, k: u32) -> Transfer
     requires { Packed file.now c }
     ensures { (q : ℕ) (r : List ℕ) → Holds r → Judges (read file.now) (body_of owner) (Jmp k) q r result r }
 {
-    let to = target(file, c, owner, k);
-    let FoundPlace::At(place) = to else {
+    let Some(place) = target(file, c, owner, k) else {
         return Transfer::Breaks;
     };
     Transfer::Jumps(place)
@@ -93,11 +74,10 @@ fn branch(file: &[u8], c: Sections, owner: usize, k: u32, q: usize, st: &mut [u8
     requires holds { Holds st.old }
     ensures { (o : Condition) → Judges (read file.now) (body_of owner) (Branch o k) q st.old result st.new }
 {
-    let to = target(file, c, owner, k);
-    let FoundPlace::At(place) = to else {
+    let Some(place) = target(file, c, owner, k) else {
         return Transfer::Breaks;
     };
-    let n = wide(st[2]);
+    let n = usize::from(st[2]);
     if n == 0 {
         return Transfer::Breaks;
     }
@@ -117,10 +97,8 @@ fn take_arguments(file: &[u8], c: Sections, k: usize, n: usize, st: &mut [u8]) -
     requires holds { Holds st.old }
     ensures { Stripped (params_from (functions_in file.now) (function_at (edition file.now) k + 10) n) st.old result st.new }
 {
-    let mut j = n;
-    while 0 < j {
-        j -= 1;
-        let m = wide(st[2]);
+    for j in (0..n).rev() {
+        let m = usize::from(st[2]);
         if m == 0 {
             return false;
         }
@@ -140,8 +118,7 @@ fn call(file: &[u8], c: Sections, k: u32, q: usize, st: &mut [u8]) -> Transfer
     ensures { (b : Body) → Judges (read file.now) b (Call k) q st.old result st.new }
 {
     let number = k as usize;
-    let found = view::function(file, c, number);
-    let FoundFunction::Record(f) = found else {
+    let Some(f) = view::function(file, c, number) else {
         return Transfer::Breaks;
     };
     let alike = take_arguments(file, c, number, f.params, st);
@@ -160,14 +137,13 @@ fn ret(file: &[u8], c: Sections, owner: usize, st: &[u8]) -> Transfer
     requires holds { Holds st.now }
     ensures { (q : ℕ) → Judges (read file.now) (body_of owner) Ret q st.now result st.now }
 {
-    let found = view::function(file, c, owner);
-    let FoundFunction::Record(f) = found else {
+    let Some(f) = view::function(file, c, owner) else {
         return Transfer::Breaks;
     };
     if f.result == 0 {
         return Transfer::Stops;
     }
-    let n = wide(st[2]);
+    let n = usize::from(st[2]);
     if n == 0 {
         return Transfer::Breaks;
     }
@@ -231,7 +207,7 @@ fn field(file: &[u8], i: usize, n: usize) -> u8
         return 0;
     }
     let at = format::word(file, 52) + 12 * i;
-    if wide(file[at]) <= n {
+    if usize::from(file[at]) <= n {
         return 0;
     }
     file[at + 1 + n]
@@ -244,7 +220,7 @@ fn flea(file: &[u8], n: u32, q: usize, st: &mut [u8]) -> Transfer
     requires holds { Holds st.old }
     ensures { (b : Body) → Judges (read file.now) b (Flea n) q st.old result st.new }
 {
-    let h = wide(st[2]);
+    let h = usize::from(st[2]);
     if h < 1 {
         return Transfer::Breaks;
     }
@@ -252,7 +228,7 @@ fn flea(file: &[u8], n: u32, q: usize, st: &mut [u8]) -> Transfer
     if t < 128 {
         return Transfer::Breaks;
     }
-    let k = wide(t) % 64;
+    let k = usize::from(t) % 64;
     if k < 10 {
         return Transfer::Breaks;
     }

@@ -1,4 +1,5 @@
 -- `toi` and `tol` of a double: of an int, or of a long where w holds. Assumes nothing.
+use Prim.Native.Nat.{ℕ}
 use mathlib.Core.Path.{◌≡◌, refl}
 use mathlib.Core.Bool.{Bool, true, false, cond, not, ◌&&◌}
 use native.Mathlib.Nat.{mod-eq_of_lt}
@@ -11,19 +12,22 @@ use Rattle.rules.specs.declared.Num.TheVariants.{Int as int, Long as long}
 use Rattle.rules.specs.declared.Slot.{Slot}
 use Rattle.rules.specs.declared.Unary.TheVariants.{Convert}
 use Rattle.soundness.specs.Narrow.{cut_narrow}
-use Rattle.doubles.specs.Width.{width}
 use Rattle.values.specs.Values.{gives}
+
+-- the bits of an int, and of a long where w holds
+abbrev pub bits : Bool → ℕ
+bits w = cond w 64 32
 
 abbrev pub whole : Bool → Num
 whole w = cond w long int
 
 module _ (b : Bool) (s : Slot) {x : Float} (k : s.kind ≡ 6) (e : x ≡ decode_of s.payload) where
-  pub raised : (w : Bool) → (b && not (cut_fits (width w) x)) ≡ true → raises 44 ≡ apply1 (Convert b (whole w)) s
+  pub raised : (w : Bool) → (b && not (cut_fits (bits w) x)) ≡ true → raises 44 ≡ apply1 (Convert b (whole w)) s
   unfolding unfit
   raised true h = rw (k, ← e, h) refl
   raised false h = rw (k, ← e, h) refl
 
-  pub truncated : (w : Bool) → (b && not (cut_fits (width w) x)) ≡ false → gives (num_kind (whole w)) (cut_of (width w) x) ≡ apply1 (Convert b (whole w)) s
+  pub truncated : (w : Bool) → (b && not (cut_fits (bits w) x)) ≡ false → gives (num_kind (whole w)) (cut_of (bits w) x) ≡ apply1 (Convert b (whole w)) s
   unfolding unfit converted
   truncated true h = rw (k, ← e, h) refl
   truncated false h = rw (k, ← e, h) refl

@@ -2,3 +2,4 @@
 pub mod Cases
 pub mod Conversions
 pub mod Order
+pub mod Changes

@@ -1,5 +1,5 @@
 -- Values, and what operations give for them, in the rules' terms.
-use Rattle.std.specs.Prelude.{◌≡◌, Bool, cond, [], ◌∷◌, ℕ, eqb, leb}
+use Rattle.std.specs.Prelude.{◌≡◌, Bool, cond, [], ◌∷◌, ℕ, eqb, leb, Ok, Err}
 use Rattle.rules.specs.Doubles.{decode_of, encode_of}
 use Rattle.rules.specs.Instructions.{num_kind, ptr_kind}
 use Rattle.rules.specs.Operations.{low, apply1, apply2, Result, yields, raises}
@@ -12,8 +12,9 @@ use Rattle.rules.specs.declared.Unary.TheVariants.{Convert}
 use Rattle.soundness.specs.Kinds.{Kind}
 use Rattle.values.specs.declared.Value.{Value}
 use Rattle.values.specs.declared.Value.TheVariants.{Int, Long, Double, Pointer}
-use Rattle.values.specs.declared.Computed.{Computed}
-use Rattle.values.specs.declared.Computed.TheVariants.{Yields, Raises}
+use Rattle.std.specs.declared.result.Result as code
+use Rattle.rules.specs.declared.Exception.{Exception}
+use Rattle.rules.specs.Results.{exception_number}
 
 -- the value of a slot
 unfoldable pub value_of : Slot → Value
@@ -39,22 +40,22 @@ abbrev pub slot_of : Value → Slot
 slot_of v = slot (kind_of_value v) (payload_of v)
 
 -- the result that an answer stands for
-abbrev pub result_of : Computed → Result
-result_of (Yields v) = yields (slot_of v ∷ [])
-result_of (Raises e) = raises e
+abbrev pub result_of : code.Result Value Exception → Result
+result_of (Ok v) = yields (slot_of v ∷ [])
+result_of (Err e) = raises (exception_number e)
 
 -- one slot
 abbrev pub gives : ℕ → ℕ → Result
 gives k x = yields (slot k x ∷ [])
 
 -- r is what o gives for two slots of which a, the deeper, and b are the values
-abbrev pub Computes : Binary → Value → Value → Computed → Type 0
+abbrev pub Computes : Binary → Value → Value → code.Result Value Exception → Type 0
 Computes o a b r = (s u : Slot) → Kind s.kind → Kind u.kind → a ≡ value_of s → b ≡ value_of u → result_of r ≡ apply2 o s u
 
 -- r is what o gives for a slot of the value a
-abbrev pub Turns : Unary → Value → Computed → Type 0
+abbrev pub Turns : Unary → Value → code.Result Value Exception → Type 0
 Turns o a r = (s : Slot) → Kind s.kind → a ≡ value_of s → result_of r ≡ apply1 o s
 
 -- the same of a conversion to the type n, which a slot does not have; b: 44 where a double does not fit
-abbrev pub Converts : Bool → Num → Value → Computed → Type 0
+abbrev pub Converts : Bool → Num → Value → code.Result Value Exception → Type 0
 Converts b n a r = (s : Slot) → Kind s.kind → (s.kind ≡ num_kind n → ⊥) → a ≡ value_of s → result_of r ≡ apply1 (Convert b n) s

@@ -1,84 +1,58 @@
 // `cmp` and `icmp` on two values; a is the deeper operand. Doubles and pointers have one order; a NaN has none.
-ghost use Rattle.std.specs.Prelude.{true, false};
+ghost use Rattle.std.specs.Prelude.{◌≡◌, cond};
+ghost use Rattle.rules.specs.Words.{cmp_of, icmp_of};
 ghost use Rattle.rules.specs.declared.Binary.TheVariants.{Cmp};
 ghost use Rattle.values.specs.Values.{Computes};
 
-use crate::{Computed, DOUBLE_UNORDERED, STACK_DIFFERENTTYPE, Value};
+use crate::Value;
+use rules::Exception;
+use words::Word;
 
-// `cmp`.
-pub fn cmp_values(a: Value, b: Value) -> Computed
-    ensures { Computes (Cmp false) a b result }
+fn order<W: Word, const SIGNED: bool>(x: W, y: W) -> u32
+    ensures { result ≡ cond SIGNED (icmp_of W.width (W.value x) (W.value y)) (cmp_of (W.value x) (W.value y)) }
 {
-    match a {
-        Value::Int(x) => {
-            let Value::Int(y) = b else {
-                return Computed::Raises(STACK_DIFFERENTTYPE);
-            };
-            Computed::Yields(Value::Int(words::cmp32(x, y)))
-        }
-        Value::Long(x) => {
-            let Value::Long(y) = b else {
-                return Computed::Raises(STACK_DIFFERENTTYPE);
-            };
-            Computed::Yields(Value::Int(words::cmp64(x, y)))
-        }
-        Value::Double(x) => {
-            let Value::Double(y) = b else {
-                return Computed::Raises(STACK_DIFFERENTTYPE);
-            };
-            let unordered = doubles::unordered(x, y);
-            if unordered {
-                return Computed::Raises(DOUBLE_UNORDERED);
-            }
-            Computed::Yields(Value::Int(doubles::compare(x, y)))
-        }
-        Value::Pointer(g, x) => {
-            let Value::Pointer(h, y) = b else {
-                return Computed::Raises(STACK_DIFFERENTTYPE);
-            };
-            if g != h {
-                return Computed::Raises(STACK_DIFFERENTTYPE);
-            }
-            Computed::Yields(Value::Int(words::cmp64(x, y)))
-        }
+    if SIGNED {
+        words::icmp(x, y)
+    } else {
+        words::cmp(x, y)
     }
 }
 
-// `icmp`.
-pub fn icmp_values(a: Value, b: Value) -> Computed
-    ensures { Computes (Cmp true) a b result }
+// `icmp`, or `cmp` where not SIGNED.
+pub fn compare<const SIGNED: bool>(a: Value, b: Value) -> Result<Value, Exception>
+    ensures { Computes (Cmp SIGNED) a b result }
 {
     match a {
         Value::Int(x) => {
             let Value::Int(y) = b else {
-                return Computed::Raises(STACK_DIFFERENTTYPE);
+                return Err(Exception::StackDifferentType);
             };
-            Computed::Yields(Value::Int(words::icmp32(x, y)))
+            Ok(Value::Int(order::<u32, SIGNED>(x, y)))
         }
         Value::Long(x) => {
             let Value::Long(y) = b else {
-                return Computed::Raises(STACK_DIFFERENTTYPE);
+                return Err(Exception::StackDifferentType);
             };
-            Computed::Yields(Value::Int(words::icmp64(x, y)))
+            Ok(Value::Int(order::<u64, SIGNED>(x, y)))
         }
         Value::Double(x) => {
             let Value::Double(y) = b else {
-                return Computed::Raises(STACK_DIFFERENTTYPE);
+                return Err(Exception::StackDifferentType);
             };
             let unordered = doubles::unordered(x, y);
             if unordered {
-                return Computed::Raises(DOUBLE_UNORDERED);
+                return Err(Exception::DoubleUnordered);
             }
-            Computed::Yields(Value::Int(doubles::compare(x, y)))
+            Ok(Value::Int(doubles::compare(x, y)))
         }
         Value::Pointer(g, x) => {
             let Value::Pointer(h, y) = b else {
-                return Computed::Raises(STACK_DIFFERENTTYPE);
+                return Err(Exception::StackDifferentType);
             };
             if g != h {
-                return Computed::Raises(STACK_DIFFERENTTYPE);
+                return Err(Exception::StackDifferentType);
             }
-            Computed::Yields(Value::Int(words::cmp64(x, y)))
+            Ok(Value::Int(words::cmp(x, y)))
         }
     }
 }

@@ -9,30 +9,13 @@ use rules::Slot;
 pub mod comparison;
 pub mod single;
 
-pub(crate) const STACK_DIFFERENTTYPE: u32 = 22;
-
-pub(crate) const POINTER_INVALIDFORPOINTER: u32 = 32;
-
-pub(crate) const DOUBLE_INVALIDFORDOUBLE: u32 = 34;
-
-pub(crate) const DOUBLE_UNORDERED: u32 = 35;
-
-pub(crate) const CONVERT_OUTOFRANGE: u32 = 44;
-
 // An int, a long, a double with its number, or a pointer with its address; true: a managed one.
-#[derive(Clone, Copy)]
+#[derive(Clone, Copy, Debug)]
 pub enum Value {
     Int(u32),
     Long(u64),
     Double(f64),
     Pointer(bool, u64),
-}
-
-// The value that replaces the operands, or the exception that they raise.
-#[derive(Clone, Copy)]
-pub enum Computed {
-    Yields(Value),
-    Raises(u32),
 }
 
 // The value of a slot. The types are 3, 4, 6, 7 and 8; of other numbers those from 7 on are taken as a pointer's, the rest as a
@@ -56,7 +39,7 @@ pub fn payload_of(v: Value) -> u64
     ensures { result ≡ payload_of v }
 {
     match v {
-        Value::Int(n) => n as u64,
+        Value::Int(n) => u64::from(n),
         Value::Long(n) => n,
         Value::Double(x) => doubles::encode(x),
         Value::Pointer(_, n) => n,

@@ -1,105 +1,141 @@
-// `neg`, `not`, conversions, and a number one up or down.
-ghost use Rattle.std.specs.Prelude.{true, false};
+// `neg`, `not`, a number one up or down, and conversions.
+ghost use Rattle.std.specs.Prelude.{◌≡◌, ℕ, false};
+ghost use Rattle.rules.specs.Doubles.{decode_of};
 ghost use Rattle.rules.specs.declared.Num.TheVariants.{Int as int, Long as long, Double as double};
-ghost use Rattle.rules.specs.declared.Unary.TheVariants.{Neg, Not, Convert, Count};
+ghost use Rattle.rules.specs.declared.Unary.{Unary};
+ghost use Rattle.rules.specs.declared.Unary.TheVariants as Unary;
 ghost use Rattle.values.specs.Values.{Turns, Converts};
+ghost use Rattle.values.specs.Changes.{Keeping, negs, nots, counts, changed, double_changed, double_result, Cuts};
 
-use crate::{
-    CONVERT_OUTOFRANGE, Computed, DOUBLE_INVALIDFORDOUBLE, POINTER_INVALIDFORPOINTER, Value,
-};
+use crate::Value;
+use rules::Exception;
+use words::Word;
+
+// An instruction that changes a number within its type.
+pub trait Change {
+    ghost unary: { Unary };
+
+    fn on_word<W: Word>(x: W) -> W
+        ensures { W.value result ≡ changed W.width unary (W.value x) };
+
+    fn on_double(x: f64) -> Result<f64, Exception>
+        ensures { (p : ℕ) → x ≡ decode_of p → double_result result ≡ double_changed unary p };
+
+    ghost keeps: { Keeping unary };
+}
 
 // `neg`: wraps, or flips a double's sign.
-pub fn neg_value(a: Value) -> Computed
-    ensures { Turns Neg a result }
-{
-    match a {
-        Value::Int(x) => Computed::Yields(Value::Int(words::neg32(x))),
-        Value::Long(x) => Computed::Yields(Value::Long(words::neg64(x))),
-        Value::Double(x) => Computed::Yields(Value::Double(-x)),
-        Value::Pointer(_, _) => Computed::Raises(POINTER_INVALIDFORPOINTER),
+pub struct Neg;
+
+impl Change for Neg {
+    ghost unary = { Unary.Neg };
+
+    ghost keeps = { negs };
+
+    fn on_word<W: Word>(x: W) -> W {
+        words::neg(x)
+    }
+
+    fn on_double(x: f64) -> Result<f64, Exception> {
+        Ok(-x)
     }
 }
 
 // `not`, of ints and longs.
-pub fn not_value(a: Value) -> Computed
-    ensures { Turns Not a result }
-{
-    match a {
-        Value::Int(x) => Computed::Yields(Value::Int(words::not32(x))),
-        Value::Long(x) => Computed::Yields(Value::Long(words::not64(x))),
-        Value::Double(_) => Computed::Raises(DOUBLE_INVALIDFORDOUBLE),
-        Value::Pointer(_, _) => Computed::Raises(POINTER_INVALIDFORPOINTER),
+pub struct Not;
+
+impl Change for Not {
+    ghost unary = { Unary.Not };
+
+    ghost keeps = { nots };
+
+    fn on_word<W: Word>(x: W) -> W {
+        words::complement(x)
+    }
+
+    fn on_double(_x: f64) -> Result<f64, Exception> {
+        Err(Exception::DoubleInvalidForDouble)
     }
 }
 
+// `inc`, or `dec` where not UP, of the top value or of the number that a pointer names.
+pub struct Count<const UP: bool>;
+
+impl<const UP: bool> Change for Count<UP> {
+    ghost unary = { Unary.Count UP };
+
+    ghost keeps = { counts UP };
+
+    fn on_word<W: Word>(x: W) -> W {
+        let one = W::cut(1);
+        if UP {
+            words::add(x, one)
+        } else {
+            words::sub(x, one)
+        }
+    }
+
+    fn on_double(x: f64) -> Result<f64, Exception> {
+        if UP { Ok(x + 1.0) } else { Ok(x - 1.0) }
+    }
+}
+
+pub fn apply<C: Change>(a: Value) -> Result<Value, Exception>
+    ensures { Turns C.unary a result }
+{
+    match a {
+        Value::Int(x) => Ok(Value::Int(C::on_word(x))),
+        Value::Long(x) => Ok(Value::Long(C::on_word(x))),
+        Value::Double(x) => Ok(Value::Double(C::on_double(x)?)),
+        Value::Pointer(_, _) => Err(Exception::PointerInvalidForPointer),
+    }
+}
+
+// A double cut to a word. Where what does not fit raises nothing, it gives the pattern with only the top bit set.
+fn cut<W: Word>(raises: bool, x: f64) -> Result<W, Exception>
+    ensures { Cuts W.value W.width raises x result }
+{
+    let Some(w) = doubles::truncate::<W>(x) else {
+        if raises {
+            return Err(Exception::ConvertOutOfRange);
+        }
+        return Ok(W::cut(W::top()));
+    };
+    Ok(w)
+}
+
 // `toi`, of what is no int. Where it does not raise 44, it is edition 1's.
-pub fn toi_value(raises: bool, a: Value) -> Computed
+pub fn toi_value(raises: bool, a: Value) -> Result<Value, Exception>
     ensures { Converts raises int a result }
 {
     match a {
-        Value::Int(x) => Computed::Yields(Value::Int(x)),
-        Value::Long(x) => Computed::Yields(Value::Int(words::low(x))),
-        Value::Double(x) => {
-            let t = doubles::truncate(false, x);
-            if raises & !t.fits {
-                return Computed::Raises(CONVERT_OUTOFRANGE);
-            }
-            Computed::Yields(Value::Int(words::low(t.pattern)))
-        }
-        Value::Pointer(_, _) => Computed::Raises(POINTER_INVALIDFORPOINTER),
+        Value::Int(x) => Ok(Value::Int(x)),
+        Value::Long(x) => Ok(Value::Int(words::low(x))),
+        Value::Double(x) => Ok(Value::Int(cut(raises, x)?)),
+        Value::Pointer(_, _) => Err(Exception::PointerInvalidForPointer),
     }
 }
 
 // `tol`, in the same way.
-pub fn tol_value(raises: bool, a: Value) -> Computed
-    ensures { Turns (Convert raises long) a result }
+pub fn tol_value(raises: bool, a: Value) -> Result<Value, Exception>
+    ensures { Turns (Unary.Convert raises long) a result }
 {
     match a {
-        Value::Int(x) => Computed::Yields(Value::Long(x as u64)),
-        Value::Long(x) => Computed::Yields(Value::Long(x)),
-        Value::Double(x) => {
-            let t = doubles::truncate(true, x);
-            if raises & !t.fits {
-                return Computed::Raises(CONVERT_OUTOFRANGE);
-            }
-            Computed::Yields(Value::Long(t.pattern))
-        }
-        Value::Pointer(_, _) => Computed::Raises(POINTER_INVALIDFORPOINTER),
+        Value::Int(x) => Ok(Value::Long(u64::from(x))),
+        Value::Long(x) => Ok(Value::Long(x)),
+        Value::Double(x) => Ok(Value::Long(cut(raises, x)?)),
+        Value::Pointer(_, _) => Err(Exception::PointerInvalidForPointer),
     }
 }
 
 // `tod`, of what is no double.
-pub fn tod_value(a: Value) -> Computed
+pub fn tod_value(a: Value) -> Result<Value, Exception>
     ensures { Converts false double a result }
 {
     match a {
-        Value::Int(x) => Computed::Yields(Value::Double(doubles::tod_int(x))),
-        Value::Long(x) => Computed::Yields(Value::Double(doubles::tod_long(x))),
-        Value::Double(x) => Computed::Yields(Value::Double(x)),
-        Value::Pointer(_, _) => Computed::Raises(POINTER_INVALIDFORPOINTER),
-    }
-}
-
-// `inc`, of the top value or of the number that a pointer names.
-pub fn inc_value(a: Value) -> Computed
-    ensures { Turns (Count true) a result }
-{
-    match a {
-        Value::Int(x) => Computed::Yields(Value::Int(words::add32(x, 1))),
-        Value::Long(x) => Computed::Yields(Value::Long(words::add64(x, 1))),
-        Value::Double(x) => Computed::Yields(Value::Double(x + 1.0)),
-        Value::Pointer(_, _) => Computed::Raises(POINTER_INVALIDFORPOINTER),
-    }
-}
-
-// `dec`.
-pub fn dec_value(a: Value) -> Computed
-    ensures { Turns (Count false) a result }
-{
-    match a {
-        Value::Int(x) => Computed::Yields(Value::Int(words::sub32(x, 1))),
-        Value::Long(x) => Computed::Yields(Value::Long(words::sub64(x, 1))),
-        Value::Double(x) => Computed::Yields(Value::Double(x - 1.0)),
-        Value::Pointer(_, _) => Computed::Raises(POINTER_INVALIDFORPOINTER),
+        Value::Int(x) => Ok(Value::Double(doubles::tod_int(x))),
+        Value::Long(x) => Ok(Value::Double(doubles::tod_long(x))),
+        Value::Double(x) => Ok(Value::Double(x)),
+        Value::Pointer(_, _) => Err(Exception::PointerInvalidForPointer),
     }
 }

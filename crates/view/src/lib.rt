@@ -7,7 +7,8 @@ ghost use Rattle.format.specs.Layout.{Packed};
 ghost use Rattle.reader.specs.Answers.{slot_in, function_found, label_in};
 
 use format::Sections;
-use reader::entries::{FoundConstant, FoundFunction, FoundLabel};
+use reader::entries::{FunctionRecord, LabelRecord};
+use rules::Slot;
 
 // The file's bytes stay the lender's; the counts are those that `reader::open` gives of them.
 #[derive(Clone, Copy)]
@@ -26,7 +27,7 @@ impl<'a> Module<'a> {
     }
 
     // Constant k.
-    pub fn constant(self, k: usize) -> FoundConstant
+    pub fn constant(self, k: usize) -> Option<Slot>
         requires { Packed self.bytes.now self.counts }
         ensures { slot_in result ≡ (read self.entry.bytes.now).constant k }
     {
@@ -34,7 +35,7 @@ impl<'a> Module<'a> {
     }
 
     // Function k.
-    pub fn function(self, k: usize) -> FoundFunction
+    pub fn function(self, k: usize) -> Option<FunctionRecord>
         requires { Packed self.bytes.now self.counts }
         ensures { function_found self.entry.bytes.now k result ≡ (read self.entry.bytes.now).function k }
     {
@@ -42,7 +43,7 @@ impl<'a> Module<'a> {
     }
 
     // Label k.
-    pub fn label(self, k: usize) -> FoundLabel
+    pub fn label(self, k: usize) -> Option<LabelRecord>
         requires { Packed self.bytes.now self.counts }
         ensures { label_in result ≡ (read self.entry.bytes.now).label k }
     {
@@ -51,21 +52,21 @@ impl<'a> Module<'a> {
 }
 
 // The same on a lent file and its counts, for callers that hold no view.
-pub fn constant(file: &[u8], c: Sections, k: usize) -> FoundConstant
+pub fn constant(file: &[u8], c: Sections, k: usize) -> Option<Slot>
     requires { Packed file.now c }
     ensures { slot_in result ≡ (read file.now).constant k }
 {
     Module::constant(Module::of(file, c), k)
 }
 
-pub fn function(file: &[u8], c: Sections, k: usize) -> FoundFunction
+pub fn function(file: &[u8], c: Sections, k: usize) -> Option<FunctionRecord>
     requires { Packed file.now c }
     ensures { function_found file.now k result ≡ (read file.now).function k }
 {
     Module::function(Module::of(file, c), k)
 }
 
-pub fn label(file: &[u8], c: Sections, k: usize) -> FoundLabel
+pub fn label(file: &[u8], c: Sections, k: usize) -> Option<LabelRecord>
     requires { Packed file.now c }
     ensures { label_in result ≡ (read file.now).label k }
 {

@@ -1,9 +1,10 @@
 -- Laws of words of n bits, each once over the width. Assumes nothing.
-use Rattle.std.proofs.Common.{◌≡◌, ℕ, zero, suc, ◌+◌, ◌-◌, ◌*◌, ◌/◌, ◌%◌, ◌^◌, ◌<◌, ◌≤◌, min, Bool, true, false, cond, not, eqb, ltb, ℤ, pos, negsuc, neg_ℤ, nat_abs, sym, refl, ap, ◌∙◌, ap₂, lt_of_le_of_lt, le_of_lt, add_assoc, mod-eq_of_lt, mul_assoc, mul_comm, add-mul, add_comm, mul-le-mul_left, mul-lt-mul_of_pos_right, pow-suc, div-add-mod', mul-add, div-le_self, mul_left_comm, arith, pow_pos, pow-add, ltb-false, ltb-true, le-ltb, lt-ltb, eq-eqb, ne_eqb, eqb-true}
-use mathlib.Core.Bool.{xor}
-use native.Mathlib.Nat.{mod-le, sub-zero, mod_self, zero-mod, add_left_comm, mul-add-mod_self_left, min-eq_left, min-eq_right, mul-mod_left, div-eq_of_lt, div-zero, mod-zero}
+use Rattle.std.proofs.Common.{◌≡◌, ℕ, zero, suc, ◌+◌, ◌-◌, ◌*◌, ◌/◌, ◌%◌, ◌^◌, ◌<◌, ◌≤◌, min, Bool, true, false, cond, not, eqb, ltb, ℤ, pos, negsuc, neg_ℤ, nat_abs, sym, refl, ap, ◌∙◌, ap₂, lt_of_le_of_lt, le_of_lt, mod-eq_of_lt, mul_assoc, mul_comm, pow-suc, mul-add, div-le_self, arith, pow_pos, pow-add, ltb-false, ltb-true, le-ltb, lt-ltb, eq-eqb, ne_eqb, eqb-true, subst, lt_of_lt_of_le, mul-one, lit<}
+use mathlib.Core.Bool.{xor, beq}
+use native.Mathlib.Nat.{mod-le, sub-zero, mod_self, zero-mod, pow-le-pow_right, mul-add-mod_self_left, min-eq_left, min-eq_right, mul-mod_left, div-eq_of_lt, div-zero, mod-zero}
 use lib.Signed.{non_neg, quot_z, rem_z, lt_z}
 use lib.Pow.{mod-mod-pow}
+use Rattle.std.proofs.Math.Pow.{not_mod}
 use borrow.Author.Tests.{eqb-false}
 use Rattle.rules.specs.Words.{add_of, neg_of, signed_of, pattern_of, idiv_of, imod_of, shl_of, shr_of, sar_of, not_of, cmp_of, icmp_of, order_of}
 
@@ -26,12 +27,20 @@ eqb_by : (t : Bool) (x y u v : ℕ) → eqb x y ≡ t → (x ≡ y → u ≡ v) 
 eqb_by true x y u v e f g = e ∙ sym (eq-eqb u v (f (eqb-true x y e)))
 eqb_by false x y u v e f g = e ∙ sym (ne_eqb u v (λ q. eqb-false x y e (g q)))
 
-xor_by : (s t : Bool) → xor s t ≡ cond s (not t) t
+off : (t : Bool) → not t ≡ true → t ≡ false
+off true e = sym e
+off false e = refl
+
+on : (t : Bool) → not t ≡ false → t ≡ true
+on true e = refl
+on false e = sym e
+
+pub differ : (s t : Bool) → not (beq (not s) (not t)) ≡ xor s t
 unfolding xor
-xor_by true true = refl
-xor_by true false = refl
-xor_by false true = refl
-xor_by false false = refl
+differ true true = refl
+differ true false = refl
+differ false true = refl
+differ false false = refl
 
 -- ---- division by zero
 
@@ -62,7 +71,7 @@ sign_of true x y = refl
 sign_of false x y = refl
 
 -- 2 ^ n is twice 2 ^ (n - 1)
-twice : (n : ℕ) → 0 < n → 2 ^ n ≡ 2 ^ (n - 1) + 2 ^ (n - 1)
+pub twice : (n : ℕ) → 0 < n → 2 ^ n ≡ 2 ^ (n - 1) + 2 ^ (n - 1)
 twice zero p = omega arith
 twice (suc k) p = let e : suc k - 1 ≡ k = omega arith in rw (e, pow-suc) (omega arith)
 
@@ -71,10 +80,11 @@ module _ (n : ℕ) where
   unfolding signed_of
   sign a = sign_of (ltb a (2 ^ (n - 1))) a (2 ^ n - suc a)
 
-  pub signs : (a b : ℕ)
-      → xor (non_neg (signed_of n a)) (non_neg (signed_of n b))
-      ≡ cond (ltb a (2 ^ (n - 1))) (not (ltb b (2 ^ (n - 1)))) (ltb b (2 ^ (n - 1)))
-  signs a b = ap₂ xor (sign a) (sign b) ∙ xor_by (ltb a (2 ^ (n - 1))) (ltb b (2 ^ (n - 1)))
+  pub negative_high : (a : ℕ) → not (non_neg (signed_of n a)) ≡ true → 2 ^ (n - 1) ≤ a
+  negative_high a e = ltb-false a (2 ^ (n - 1)) (sym (sign a) ∙ off _ e)
+
+  pub positive_low : (a : ℕ) → not (non_neg (signed_of n a)) ≡ false → a < 2 ^ (n - 1)
+  positive_low a e = ltb-true a (2 ^ (n - 1)) (sym (sign a) ∙ on _ e)
 
   low : (a : ℕ) → a < 2 ^ (n - 1) → signed_of n a ≡ pos a
   unfolding signed_of
@@ -215,36 +225,48 @@ module _ (n : ℕ) (p : 0 < n) where
     unfolding icmp_of cmp_of
     icmp_law = ap₂ order_of flip_order (eqb_by (eqb a b) a b (flip a) (flip b) refl (λ e. ap flip e) flip_back)
 
--- ---- products
+-- ---- computed on 64 bits and cut to n
 
-regroup : (P a₀ a₁ b₀ b₁ : ℕ)
-    → (a₁ * P + a₀) * (b₁ * P + b₀) ≡ (P * P) * (a₁ * b₁) + ((a₁ * b₀ + a₀ * b₁) * P + a₀ * b₀)
-regroup P a₀ a₁ b₀ b₁ =
-    simp (mul-add, add-mul, mul_assoc, mul_comm, mul_left_comm, add_assoc, add_comm, add_left_comm) refl
+module _ (n : ℕ) (h : n ≤ 64) where
+  rest : 64 - n + n ≡ 64
+  rest = omega arith
 
-cross_out : (P q r z : ℕ) → (q * P + r) * P + z ≡ (P * P) * q + (r * P + z)
-cross_out P q r z = simp (add-mul, mul_assoc, mul_comm, add_assoc, add_comm, add_left_comm) refl
+  pub cut_mod : (x : ℕ) → x % 2 ^ 64 % 2 ^ n ≡ x % 2 ^ n
+  cut_mod x = subst (λ (t : ℕ). x % 2 ^ t % 2 ^ n ≡ x % 2 ^ n) rest (mod-mod-pow x (64 - n) n)
 
--- a product modulo P * P of numbers of two digits in base P: the product of the upper digits falls out
-mul_digits : (P a₀ a₁ b₀ b₁ : ℕ)
-    → (a₁ * P + a₀) * (b₁ * P + b₀) % (P * P) ≡ ((a₁ * b₀ + a₀ * b₁) % P * P + a₀ * b₀) % (P * P)
-mul_digits P a₀ a₁ b₀ b₁ =
-    ap (λ (x : ℕ). x % (P * P)) (regroup P a₀ a₁ b₀ b₁)
-    ∙ mul-add-mod_self_left (P * P) (a₁ * b₁) _
-    ∙ ap (λ (x : ℕ). (x * P + a₀ * b₀) % (P * P)) (sym (div-add-mod' (a₁ * b₀ + a₀ * b₁) P))
-    ∙ ap (λ (x : ℕ). x % (P * P)) (cross_out P _ _ (a₀ * b₀))
-    ∙ mul-add-mod_self_left (P * P) _ _
+  -- 2 ^ 64 is a multiple of 2 ^ n
+  multiple : 2 ^ 64 ≡ 2 ^ n * (2 ^ (64 - n) - 1) + 2 ^ n
+  multiple =
+      let p = pow_pos (64 - n) in
+      let e : 2 ^ (64 - n) ≡ 2 ^ (64 - n) - 1 + 1 = omega arith in
+      subst (λ (t : ℕ). 2 ^ t ≡ 2 ^ n * (2 ^ (64 - n) - 1) + 2 ^ n) rest
+      (pow-add 2 (64 - n) n ∙ mul_comm (2 ^ (64 - n)) (2 ^ n) ∙ ap (λ (t : ℕ). 2 ^ n * t) e ∙ mul-add (2 ^ n) (2 ^ (64 - n) - 1) 1 ∙ ap (λ (t : ℕ). 2 ^ n * (2 ^ (64 - n) - 1) + t) (mul-one (2 ^ n)))
 
--- the same of words of 2 h bits by their halves
-pub mul_halves : (h a b : ℕ)
-    → ((a / 2 ^ h * (b % 2 ^ h) + a % 2 ^ h * (b / 2 ^ h)) % 2 ^ (h + h) % 2 ^ h * 2 ^ h + a % 2 ^ h * (b % 2 ^ h)) % 2 ^ (h + h)
-    ≡ a * b % 2 ^ (h + h)
-mul_halves h a b =
-    rw (mod-mod-pow, pow-add)
-    (sym (mul_digits (2 ^ h) (a % 2 ^ h) (a / 2 ^ h) (b % 2 ^ h) (b / 2 ^ h))
-    ∙ ap₂ (λ (x y : ℕ). x * y % (2 ^ h * 2 ^ h)) (div-add-mod' a (2 ^ h)) (div-add-mod' b (2 ^ h)))
+  pub cut_sub : (a b : ℕ) → b < 2 ^ n → (a + (2 ^ 64 - b)) % 2 ^ 64 % 2 ^ n ≡ (a + (2 ^ n - b)) % 2 ^ n
+  cut_sub a b l =
+      let e : a + (2 ^ 64 - b) ≡ 2 ^ n * (2 ^ (64 - n) - 1) + (a + (2 ^ n - b)) = rw multiple (omega arith) in
+      cut_mod (a + (2 ^ 64 - b)) ∙ rw e (mul-add-mod_self_left (2 ^ n) (2 ^ (64 - n) - 1) (a + (2 ^ n - b)))
 
--- a product of two numbers of k bits has 2 k
-pub below : (k : ℕ) {a b : ℕ} → a < 2 ^ k → b < 2 ^ k → a * b < 2 ^ (k + k)
-below k {a} {b} ha hb =
-    rw pow-add (lt_of_le_of_lt (mul-le-mul_left a (le_of_lt hb)) (mul-lt-mul_of_pos_right ha (pow_pos k)))
+  pub cut_neg : (a : ℕ) → a < 2 ^ n → (0 + (2 ^ 64 - a)) % 2 ^ 64 % 2 ^ n ≡ neg_of n a
+  cut_neg a l = cut_sub 0 a l ∙ ap (λ (t : ℕ). t % 2 ^ n) (omega arith)
+
+  pub cut_not : (a : ℕ) → a < 2 ^ n → (2 ^ 64 - 1 - a) % 2 ^ n ≡ 2 ^ n - 1 - a
+  cut_not a l = subst (λ (t : ℕ). (2 ^ t - 1 - a) % 2 ^ n ≡ 2 ^ n - 1 - a) rest (not_mod (64 - n) n l)
+
+  pub cut_shl : (a k : ℕ) → a * 2 ^ k % 2 ^ 64 % 2 ^ n ≡ shl_of n a k
+  cut_shl a k =
+      cut_mod (a * 2 ^ k)
+      ∙ split k n (λ l. sym (shl_in n a k l))
+      (λ l. let e : k ≡ k - n + n = omega arith in
+      ap (λ (t : ℕ). a * 2 ^ t % 2 ^ n) e ∙ ap (λ (t : ℕ). a * t % 2 ^ n) (pow-add 2 (k - n) n)
+      ∙ ap (λ (t : ℕ). t % 2 ^ n) (sym (mul_assoc a (2 ^ (k - n)) (2 ^ n))) ∙ mul-mod_left (a * 2 ^ (k - n)) (2 ^ n) ∙ sym (shl_out n a k l))
+
+pub cut_shr : (n a k : ℕ) → a < 2 ^ n → a / 2 ^ k % 2 ^ n ≡ shr_of n a k
+cut_shr n a k l =
+    mod-eq_of_lt (lt_of_le_of_lt (div-le_self a (2 ^ k)) l)
+    ∙ split k n (λ j. sym (shr_in n a k j))
+    (λ j. div-eq_of_lt (lt_of_lt_of_le l (pow-le-pow_right (lit< tt) j)) ∙ sym (shr_out n a k l j))
+
+-- a count of 64 or more
+pub gone : (n : ℕ) → 0 % 2 ^ n ≡ 0
+gone n = zero-mod (2 ^ n)

@@ -1,298 +1,235 @@
 // Arithmetic on words of 32 bits (int) and 64 bits (long), as patterns.
 #![tactic(auto)]
 
-ghost use Rattle.std.specs.Prelude.{◌≡◌, ◌-◌, ◌*◌, ◌/◌, ◌%◌, ◌^◌, bit_and, bit_or, bit_xor, unsigned_abs};
+ghost use Rattle.std.specs.Prelude.{◌≡◌, ℕ, ◌-◌, ◌*◌, ◌/◌, ◌%◌, ◌^◌, ◌<◌, ◌≤◌, not, bit_and, bit_or, bit_xor, unsigned_abs};
 ghost use Rattle.std.specs.Bool.{xor};
+ghost use Rattle.std.proofs.Common.{rules};
 ghost use Rattle.std.specs.Int.Signed.{non_neg};
 ghost use Rattle.rules.specs.Words.{add_of, sub_of, mul_of, neg_of, signed_of, idiv_of, imod_of, not_of, shl_of, shr_of, sar_of, cmp_of, icmp_of};
 
-pub fn add32(a: u32, b: u32) -> u32
-    ensures { result ≡ add_of 32 a b }
-{
-    std::num::wrapping_add_u32(a, b)
+// A type of words: its width, the number that a word is, and the words of the least and from the widest. What is computed below is
+// computed on 64 bits and cut to the width.
+pub trait Word: Copy {
+    ghost width: { ℕ };
+
+    ghost value: { Self → ℕ };
+
+    // The pattern with only the top bit set: what is below is not negative.
+    fn top() -> u64
+        ensures { result ≡ 2 ^ (width - 1) };
+
+    fn wide(self) -> u64
+        ensures { (result ≡ value self) × (value self < 2 ^ width) };
+
+    fn cut(n: u64) -> Self
+        ensures { value result ≡ n % 2 ^ width };
+
+    ghost bits: { (0 < width) × (width ≤ 64) };
 }
 
-pub fn add64(a: u64, b: u64) -> u64
-    ensures { result ≡ add_of 64 a b }
-{
-    std::num::wrapping_add_u64(a, b)
+impl Word for u32 {
+    ghost width = { 32 };
+
+    ghost value = { λ n. n };
+
+    ghost bits = { Prim.search rules };
+
+    fn top() -> u64 {
+        0x8000_0000
+    }
+
+    fn wide(self) -> u64 {
+        u64::from(self)
+    }
+
+    fn cut(n: u64) -> u32 {
+        (n % 0x1_0000_0000) as u32
+    }
 }
 
-pub fn sub32(a: u32, b: u32) -> u32
-    ensures { result ≡ sub_of 32 a b }
-{
-    std::num::wrapping_sub_u32(a, b)
+impl Word for u64 {
+    ghost width = { 64 };
+
+    ghost value = { λ n. n };
+
+    ghost bits = { Prim.search rules };
+
+    fn top() -> u64 {
+        0x8000_0000_0000_0000
+    }
+
+    fn wide(self) -> u64 {
+        self
+    }
+
+    fn cut(n: u64) -> u64 {
+        n
+    }
 }
 
-pub fn sub64(a: u64, b: u64) -> u64
-    ensures { result ≡ sub_of 64 a b }
+pub fn add<W: Word>(a: W, b: W) -> W
+    ensures { W.value result ≡ add_of W.width (W.value a) (W.value b) }
 {
-    std::num::wrapping_sub_u64(a, b)
+    W::cut(a.wide().wrapping_add(b.wide()))
 }
 
-pub fn neg32(a: u32) -> u32
-    ensures { result ≡ neg_of 32 a }
+pub fn sub<W: Word>(a: W, b: W) -> W
+    ensures { W.value result ≡ sub_of W.width (W.value a) (W.value b) }
 {
-    std::num::wrapping_sub_u32(0, a)
+    W::cut(a.wide().wrapping_sub(b.wide()))
 }
 
-pub fn neg64(a: u64) -> u64
-    ensures { result ≡ neg_of 64 a }
+pub fn neg<W: Word>(a: W) -> W
+    ensures { W.value result ≡ neg_of W.width (W.value a) }
 {
-    std::num::wrapping_sub_u64(0, a)
+    W::cut(0u64.wrapping_sub(a.wide()))
 }
 
-pub fn mul32(a: u32, b: u32) -> u32
-    ensures { result ≡ mul_of 32 a b }
+pub fn mul<W: Word>(a: W, b: W) -> W
+    ensures { W.value result ≡ mul_of W.width (W.value a) (W.value b) }
 {
-    let product = (a as u64) * (b as u64);
-    (product % 0x1_0000_0000) as u32
-}
-
-// By halves: the product of the upper halves falls out, and of the crossed ones only the low half counts.
-pub fn mul64(a: u64, b: u64) -> u64
-    ensures { result ≡ mul_of 64 a b }
-{
-    let a0 = a % 0x1_0000_0000;
-    let a1 = a / 0x1_0000_0000;
-    let b0 = b % 0x1_0000_0000;
-    let b1 = b / 0x1_0000_0000;
-    let cross = std::num::wrapping_add_u64(a1 * b0, a0 * b1);
-    std::num::wrapping_add_u64((cross % 0x1_0000_0000) * 0x1_0000_0000, a0 * b0)
+    W::cut(a.wide().wrapping_mul(b.wide()))
 }
 
 // The low 32 bits of a long.
 pub fn low(a: u64) -> u32
     ensures { result ≡ a % 2 ^ 32 }
 {
-    (a % 0x1_0000_0000) as u32
+    u32::cut(a)
 }
 
 // By 0 the quotient is 0 and the remainder the dividend, as in the rules; the machine raises 24 before.
-pub fn div32(a: u32, b: u32) -> u32
-    ensures { result ≡ a / b }
+pub fn div<W: Word>(a: W, b: W) -> W
+    ensures { W.value result ≡ W.value a / W.value b }
 {
-    if b == 0 { 0 } else { a / b }
-}
-
-pub fn div64(a: u64, b: u64) -> u64
-    ensures { result ≡ a / b }
-{
-    if b == 0 { 0 } else { a / b }
-}
-
-pub fn mod32(a: u32, b: u32) -> u32
-    ensures { result ≡ a % b }
-{
-    if b == 0 { a } else { a % b }
-}
-
-pub fn mod64(a: u64, b: u64) -> u64
-    ensures { result ≡ a % b }
-{
-    if b == 0 { a } else { a % b }
-}
-
-// The absolute value, unsigned: that of the lowest number is its own pattern. A pattern with the top bit is negative.
-fn magnitude32(a: u32) -> u32
-    ensures { result ≡ unsigned_abs (signed_of 32 a) }
-{
-    if a < 0x8000_0000 { a } else { neg32(a) }
-}
-
-fn magnitude64(a: u64) -> u64
-    ensures { result ≡ unsigned_abs (signed_of 64 a) }
-{
-    if a < 0x8000_0000_0000_0000 {
-        a
+    let d = b.wide();
+    if d == 0 {
+        W::cut(0)
     } else {
-        neg64(a)
+        W::cut(a.wide() / d)
     }
 }
 
-fn signs_differ32(a: u32, b: u32) -> bool
-    ensures { result ≡ xor (non_neg (signed_of 32 a)) (non_neg (signed_of 32 b)) }
+pub fn modulo<W: Word>(a: W, b: W) -> W
+    ensures { W.value result ≡ W.value a % W.value b }
 {
-    if a < 0x8000_0000 {
-        !(b < 0x8000_0000)
-    } else {
-        b < 0x8000_0000
-    }
+    let d = b.wide();
+    if d == 0 { a } else { W::cut(a.wide() % d) }
 }
 
-fn signs_differ64(a: u64, b: u64) -> bool
-    ensures { result ≡ xor (non_neg (signed_of 64 a)) (non_neg (signed_of 64 b)) }
+fn negative<W: Word>(a: W) -> bool
+    ensures { (result ≡ not (non_neg (signed_of W.width (W.value a)))) × (W.value a < 2 ^ W.width) }
 {
-    if a < 0x8000_0000_0000_0000 {
-        !(b < 0x8000_0000_0000_0000)
-    } else {
-        b < 0x8000_0000_0000_0000
-    }
+    let n = a.wide();
+    let top = W::top();
+    !(n < top)
+}
+
+// The absolute value, unsigned: that of the lowest number is its own pattern.
+fn magnitude<W: Word>(a: W) -> W
+    ensures { W.value result ≡ unsigned_abs (signed_of W.width (W.value a)) }
+{
+    if negative(a) { neg(a) } else { a }
+}
+
+fn signs_differ<W: Word>(a: W, b: W) -> bool
+    ensures { (result ≡ xor (non_neg (signed_of W.width (W.value a))) (non_neg (signed_of W.width (W.value b)))) × (W.value a < 2 ^ W.width) }
+{
+    negative(a) != negative(b)
 }
 
 // Signed quotients and remainders: by magnitudes, then the sign.
-pub fn idiv32(a: u32, b: u32) -> u32
-    ensures { result ≡ idiv_of 32 a b }
+pub fn idiv<W: Word>(a: W, b: W) -> W
+    ensures { W.value result ≡ idiv_of W.width (W.value a) (W.value b) }
 {
-    let q = div32(magnitude32(a), magnitude32(b));
-    if signs_differ32(a, b) { neg32(q) } else { q }
+    let q = div(magnitude(a), magnitude(b));
+    if signs_differ(a, b) { neg(q) } else { q }
 }
 
-pub fn idiv64(a: u64, b: u64) -> u64
-    ensures { result ≡ idiv_of 64 a b }
+pub fn imod<W: Word>(a: W, b: W) -> W
+    ensures { W.value result ≡ imod_of W.width (W.value a) (W.value b) }
 {
-    let q = div64(magnitude64(a), magnitude64(b));
-    if signs_differ64(a, b) { neg64(q) } else { q }
+    let m = modulo(magnitude(a), magnitude(b));
+    if negative(a) { neg(m) } else { m }
 }
 
-pub fn imod32(a: u32, b: u32) -> u32
-    ensures { result ≡ imod_of 32 a b }
+pub fn and<W: Word>(a: W, b: W) -> W
+    ensures { W.value result ≡ bit_and (W.value a) (W.value b) }
 {
-    let m = mod32(magnitude32(a), magnitude32(b));
-    if a < 0x8000_0000 { m } else { neg32(m) }
+    W::cut(a.wide() & b.wide())
 }
 
-pub fn imod64(a: u64, b: u64) -> u64
-    ensures { result ≡ imod_of 64 a b }
+pub fn or<W: Word>(a: W, b: W) -> W
+    ensures { W.value result ≡ bit_or (W.value a) (W.value b) }
 {
-    let m = mod64(magnitude64(a), magnitude64(b));
-    if a < 0x8000_0000_0000_0000 {
-        m
-    } else {
-        neg64(m)
-    }
+    W::cut(a.wide() | b.wide())
 }
 
-pub fn and32(a: u32, b: u32) -> u32
-    ensures { result ≡ bit_and a b }
+pub fn xor<W: Word>(a: W, b: W) -> W
+    ensures { W.value result ≡ bit_xor (W.value a) (W.value b) }
 {
-    a & b
+    W::cut(a.wide() ^ b.wide())
 }
 
-pub fn and64(a: u64, b: u64) -> u64
-    ensures { result ≡ bit_and a b }
+pub fn complement<W: Word>(a: W) -> W
+    ensures { W.value result ≡ not_of W.width (W.value a) }
 {
-    a & b
+    W::cut(!a.wide())
 }
 
-pub fn or32(a: u32, b: u32) -> u32
-    ensures { result ≡ bit_or a b }
+// A count is the whole second word. What is shifted by 64 or more is gone, and what by the width or more is cut.
+pub fn shl<W: Word>(a: W, k: W) -> W
+    ensures { W.value result ≡ shl_of W.width (W.value a) (W.value k) }
 {
-    a | b
+    let x = a.wide();
+    let n = k.wide();
+    if n < 64 { W::cut(x << n) } else { W::cut(0) }
 }
 
-pub fn or64(a: u64, b: u64) -> u64
-    ensures { result ≡ bit_or a b }
+pub fn shr<W: Word>(a: W, k: W) -> W
+    ensures { W.value result ≡ shr_of W.width (W.value a) (W.value k) }
 {
-    a | b
-}
-
-pub fn xor32(a: u32, b: u32) -> u32
-    ensures { result ≡ bit_xor a b }
-{
-    a ^ b
-}
-
-pub fn xor64(a: u64, b: u64) -> u64
-    ensures { result ≡ bit_xor a b }
-{
-    a ^ b
-}
-
-pub fn not32(a: u32) -> u32
-    ensures { result ≡ not_of 32 a }
-{
-    !a
-}
-
-pub fn not64(a: u64) -> u64
-    ensures { result ≡ not_of 64 a }
-{
-    !a
-}
-
-pub fn shl32(a: u32, k: u32) -> u32
-    ensures { result ≡ shl_of 32 a k }
-{
-    if k < 32 { a << k } else { 0 }
-}
-
-pub fn shl64(a: u64, k: u64) -> u64
-    ensures { result ≡ shl_of 64 a k }
-{
-    if k < 64 { a << k } else { 0 }
-}
-
-pub fn shr32(a: u32, k: u32) -> u32
-    ensures { result ≡ shr_of 32 a k }
-{
-    if k < 32 { a >> k } else { 0 }
-}
-
-pub fn shr64(a: u64, k: u64) -> u64
-    ensures { result ≡ shr_of 64 a k }
-{
-    if k < 64 { a >> k } else { 0 }
+    let x = a.wide();
+    let n = k.wide();
+    if n < 64 { W::cut(x >> n) } else { W::cut(0) }
 }
 
 // Of a negative number the complement is shifted, so that ones come in from the top.
-pub fn sar32(a: u32, k: u32) -> u32
-    ensures { result ≡ sar_of 32 a k }
+pub fn sar<W: Word>(a: W, k: W) -> W
+    ensures { W.value result ≡ sar_of W.width (W.value a) (W.value k) }
 {
-    if a < 0x8000_0000 {
-        shr32(a, k)
+    if negative(a) {
+        complement(shr(complement(a), k))
     } else {
-        !shr32(!a, k)
-    }
-}
-
-pub fn sar64(a: u64, k: u64) -> u64
-    ensures { result ≡ sar_of 64 a k }
-{
-    if a < 0x8000_0000_0000_0000 {
-        shr64(a, k)
-    } else {
-        !shr64(!a, k)
+        shr(a, k)
     }
 }
 
 // 1 for more, 0 for equal, -1 for less, as an int.
-pub fn cmp32(a: u32, b: u32) -> u32
-    ensures { result ≡ cmp_of a b }
+pub fn cmp<W: Word>(a: W, b: W) -> u32
+    ensures { result ≡ cmp_of (W.value a) (W.value b) }
 {
-    if b < a {
+    let x = a.wide();
+    let y = b.wide();
+    if y < x {
         return 1;
     }
-    if a == b {
+    if x == y {
         return 0;
     }
     0xffff_ffff
 }
 
-pub fn cmp64(a: u64, b: u64) -> u32
-    ensures { result ≡ cmp_of a b }
+// The sign bit turned over.
+fn turned<W: Word>(a: W) -> W
+    ensures { (W.value result ≡ add_of W.width (W.value a) (2 ^ (W.width - 1))) × (W.value a < 2 ^ W.width) }
 {
-    if b < a {
-        return 1;
-    }
-    if a == b {
-        return 0;
-    }
-    0xffff_ffff
+    W::cut(a.wide().wrapping_add(W::top()))
 }
 
 // The sign bit turned over makes the signed order the unsigned one.
-pub fn icmp32(a: u32, b: u32) -> u32
-    ensures { result ≡ icmp_of 32 a b }
+pub fn icmp<W: Word>(a: W, b: W) -> u32
+    ensures { result ≡ icmp_of W.width (W.value a) (W.value b) }
 {
-    cmp32(add32(a, 0x8000_0000), add32(b, 0x8000_0000))
-}
-
-pub fn icmp64(a: u64, b: u64) -> u32
-    ensures { result ≡ icmp_of 64 a b }
-{
-    cmp64(
-        add64(a, 0x8000_0000_0000_0000),
-        add64(b, 0x8000_0000_0000_0000),
-    )
+    cmp(turned(a), turned(b))
 }

@@ -1,17 +1,18 @@
--- Laws of words stored one after the other, of copies and sections, and of the writer's answers.
+-- Laws of words stored one after the other, of sections, and of the writer's answers.
 use Prim.Native.Nat.{ℕ, zero, suc, ◌+◌, ◌-◌, ◌*◌, ◌/◌, ◌%◌, ◌^◌, ◌≤◌, ◌<◌}
-use native.Mathlib.Numerals.{add-one}
 use native.Mathlib.Omega.{arith}
 use mathlib.Core.Path.{◌≡◌, refl, sym, ap, ◌∙◌}
 use mathlib.Core.Bool.{Bool, true, false, ◌||◌}
 use mathlib.Core.List.{List, [], ◌∷◌, ◌++◌, append_assoc, append-nil}
 use lib.Dec.{eqb, ltb}
 use borrow.Author.Tests.{eq-eqb, ne_eqb, ltb-false, lt-ltb, le-ltb}
-use lib.ListN.{length, take, drop, get_or, set, length-append, take-append-drop, drop_of_length-le}
-use lib.Seq.{take_at, take_all, drop_at, drop-drop, length-take-le}
+use lib.ListN.{length, take, drop, length-append, take-append-drop, drop_of_length-le}
+use lib.Seq.{take_at, drop_at, drop-drop, length-take-le}
 use borrow.Rule.Slice.PartMut.{put_mid}
 use Rattle.rules.specs.Bytes.{bytes, words, written}
-use Rattle.rules.specs.declared.WriteAnswer.TheVariants.{Unwritten, Written}
+use Rattle.rules.specs.declared.Refusal.{Refusal}
+use Rattle.rules.specs.Results.{refusal_number}
+use Rattle.rules.specs.AnswerTypes.{Unwritten, Written}
 use Rattle.rules.specs.Tables.{Tables, function_size, constant_count, function_count, label_count, structure_count, structure_limit, header_size, differs, over_limits}
 use Rattle.rules.specs.Writing.{header_words, file_length, file_of, table_refusal, wrote, write_with, write}
 use Rattle.format.specs.Layout.{Fits}
@@ -19,6 +20,7 @@ use Rattle.soundness.specs.Tests.{decide, or_neither}
 use Rattle.soundness.specs.Readable.{good_tables}
 use Rattle.soundness.specs.Saves.{length_file, fits}
 use Rattle.writer.specs.Output.{Takes, filled_with}
+use Rattle.reader.proofs.Opening.{refusal_some}
 use Rattle.memory.proofs.Words.{length_written, drop_written}
 
 -- s with these words written from byte a on
@@ -97,23 +99,6 @@ fourth_size e q = rw q refl
 pub header_length : (e c f l n z entry : ℕ) → length (words (header_words e (header_size e) c f l n z entry)) ≡ header_size e
 header_length e c f l n z entry = decide (eqb e 4) (λ y. rw y refl) (λ y. rw y refl)
 
--- ---- a copy, byte by byte
-
--- one byte more
-pub copy_more : (s d : List ℕ) (i : ℕ) → i < length s → i < length d → set (take i s ++ drop i d) i (get_or s i 0) ≡ take (i + 1) s ++ drop (i + 1) d
-copy_more s d i h k = rw add-one (go s d i h k)
-  where
-    go : (s d : List ℕ) (i : ℕ) → i < length s → i < length d → set (take i s ++ drop i d) i (get_or s i 0) ≡ take (suc i) s ++ drop (suc i) d
-    go [] d i h k = absurd (omega arith)
-    go (x ∷ s) [] i h k = absurd (omega arith)
-    go (x ∷ s) (y ∷ d) zero h k = refl
-    go (x ∷ s) (y ∷ d) (suc i) h k = ap (λ (l : List ℕ). x ∷ l) (go s d i (omega arith) (omega arith))
-
-pub copied : (s d : List ℕ) (i : ℕ) → length s ≤ i → length d ≡ length s → take i s ++ drop i d ≡ s
-copied s d i h k =
-    let l : length d ≤ i = omega arith in
-    ap (λ (x : List ℕ). x ++ drop i d) (take_all i s h) ∙ ap (λ (x : List ℕ). s ++ x) (drop_of_length-le d l) ∙ append-nil s
-
 -- ---- sections
 
 -- P stands at the front of what was `out`; the part behind it, from a to e, was lent and is `new` now
@@ -183,16 +168,17 @@ fits_of e cs fs ls code zs n over is within parts =
     let p = or_neither (differs (length cs % 12) 0 || differs (length fs % function_size e) 0 || differs (length ls % 8) 0 || differs (length zs % 12) 0) (ltb (length code) n) parts in
     (record { few_functions = ltb-false _ _ (or_neither c f l2.0).1; little_code = ltb-false _ _ l3.1; entry_inside = ltb-false _ _ p.1 }, ltb-false _ _ l4.1)
 
-pub not_refused : (t : Tables) (n : ℕ) → n ≡ table_refusal t → n ≡ 0 → table_refusal t ≡ 0
-not_refused t n e z = sym e ∙ z
-
-pub refused_is : (t : Tables) (out : List ℕ) (n : ℕ) → n ≡ table_refusal t → (n ≡ 0 → ⊥) → wrote (Unwritten n) out ≡ write t out
-unfolding write
-refused_is t out n e h = go n h ∙ ap (λ (k : ℕ). write_with k (file_of t) out) e
+-- a refusal's answer, whatever the file would be
+pub refused_with : (e : Refusal) (file out : List ℕ) → wrote (Unwritten (refusal_number e)) out ≡ write_with (refusal_number e) file out
+refused_with e file out = go (refusal_number e) (refusal_some e)
   where
-    go : (n : ℕ) → (n ≡ 0 → ⊥) → wrote (Unwritten n) out ≡ write_with n (file_of t) out
+    go : (n : ℕ) → (n ≡ 0 → ⊥) → wrote (Unwritten n) out ≡ write_with n file out
     go zero h = absurd (h refl)
     go (suc n) h = refl
+
+pub refused_is : (t : Tables) (out : List ℕ) (e : Refusal) → refusal_number e ≡ table_refusal t → wrote (Unwritten (refusal_number e)) out ≡ write t out
+unfolding write
+refused_is t out e q = refused_with e (file_of t) out ∙ ap (λ (k : ℕ). write_with k (file_of t) out) q
 
 -- tables of which no row holds
 module _ (t : Tables) (good : table_refusal t ≡ 0) where

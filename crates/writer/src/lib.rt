@@ -4,24 +4,12 @@
 ghost use Rattle.std.specs.Prelude.{◌≡◌, ◌+◌, ◌<◌, ◌≤◌, ◌^◌, length};
 ghost use Rattle.rules.specs.Bytes.{words, written};
 ghost use Rattle.rules.specs.Tables.{tables, header_size};
+ghost use Rattle.rules.specs.Results.{refused, write_answer};
 ghost use Rattle.rules.specs.Writing.{header_words, table_refusal, wrote};
 ghost use Rattle.rules.specs.Writing as Writing;
 ghost use Rattle.writer.specs.Output.{Takes, filled_with};
 
-use rules::WriteAnswer;
-
-// A section is copied into its own part of the output.
-pub fn put_section(out: &mut [u8], table: &[u8])
-    requires { length out.old ≡ length table.now }
-    ensures { out.new ≡ table.now }
-{
-    let n = table.len();
-    let mut i = 0;
-    while i < n {
-        out[i] = table[i];
-        i += 1;
-    }
-}
+use rules::Refusal;
 
 // Two words of the header: a count and an offset.
 fn put_pair(out: &mut [u8], at: usize, count: usize, offset: usize)
@@ -93,14 +81,14 @@ pub fn put(
         structures.len(),
         entry,
     );
-    put_section(&mut out[constants_at..functions_at], constants);
-    put_section(&mut out[functions_at..labels_at], functions);
-    put_section(&mut out[labels_at..code_at], labels);
-    put_section(&mut out[code_at..structures_at], code);
-    put_section(&mut out[structures_at..end], structures);
+    out[constants_at..functions_at].copy_from_slice(constants);
+    out[functions_at..labels_at].copy_from_slice(functions);
+    out[labels_at..code_at].copy_from_slice(labels);
+    out[code_at..structures_at].copy_from_slice(code);
+    out[structures_at..end].copy_from_slice(structures);
 }
 
-// Rows 2 and 4 to 9 of tables; 0 where none holds.
+// Rows 2 and 4 to 9 of tables.
 fn table_refusal(
     edition: usize,
     constants: &[u8],
@@ -109,11 +97,11 @@ fn table_refusal(
     structures: &[u8],
     code: &[u8],
     entry: usize,
-) -> u32
-    ensures { result ≡ table_refusal (tables edition constants.now functions.now labels.now structures.now code.now entry) }
+) -> Result<(), Refusal>
+    ensures { refused result ≡ table_refusal (tables edition constants.now functions.now labels.now structures.now code.now entry) }
 {
     if (edition != 1) & (edition != 3) & (edition != 4) {
-        return 2;
+        return Err(Refusal::OtherEdition);
     }
     let n = code.len();
     let function_count = format::function_count(edition, functions.len());
@@ -126,7 +114,7 @@ fn table_refusal(
         structures.len() / 12,
     );
     if over {
-        return 4;
+        return Err(Refusal::OverLimit);
     }
     let function_rest = format::function_rest(edition, functions.len());
     let broken = (constants.len() % 12 != 0)
@@ -135,14 +123,14 @@ fn table_refusal(
         | (structures.len() % 12 != 0)
         | (n < entry);
     if broken {
-        return 5;
+        return Err(Refusal::NotPacked);
     }
     reader::content_refusal(
         edition, constants, functions, labels, structures, code, entry,
     )
 }
 
-// Writes tables that are not refused, or answers 16.
+// Writes tables that are not refused, if the output is long enough.
 fn deliver(
     edition: usize,
     constants: &[u8],
@@ -152,20 +140,20 @@ fn deliver(
     code: &[u8],
     entry: usize,
     out: &mut [u8],
-) -> WriteAnswer
+) -> Result<u64, Refusal>
     requires { table_refusal (tables edition constants.now functions.now labels.now structures.now code.now entry) ≡ 0 }
-    ensures { wrote result out.new ≡ Writing.write (tables edition constants.now functions.now labels.now structures.now code.now entry) out.old }
+    ensures { wrote (write_answer result) out.new ≡ Writing.write (tables edition constants.now functions.now labels.now structures.now code.now entry) out.old }
 {
     let header = format::header_size(edition);
     let tables = constants.len() + functions.len() + labels.len();
     let length = header + tables + code.len() + structures.len();
     if out.len() < length {
-        return WriteAnswer::Unwritten(16);
+        return Err(Refusal::OutputTooShort);
     }
     put(
         edition, constants, functions, labels, structures, code, entry, out,
     );
-    WriteAnswer::Written(length as u64)
+    Ok(length as u64)
 }
 
 // Writes a module of an edition, or refuses and changes nothing. Other editions than 4 have no structures then: told so, the
@@ -179,15 +167,12 @@ pub fn write(
     code: &[u8],
     entry: usize,
     out: &mut [u8],
-) -> WriteAnswer
-    ensures { wrote result out.new ≡ Writing.write (tables edition constants.now functions.now labels.now structures.now code.now entry) out.old }
+) -> Result<u64, Refusal>
+    ensures { wrote (write_answer result) out.new ≡ Writing.write (tables edition constants.now functions.now labels.now structures.now code.now entry) out.old }
 {
-    let refusal = table_refusal(
+    table_refusal(
         edition, constants, functions, labels, structures, code, entry,
-    );
-    if refusal != 0 {
-        return WriteAnswer::Unwritten(refusal);
-    }
+    )?;
     if edition == 4 {
         return deliver(
             4, constants, functions, labels, structures, code, entry, out,

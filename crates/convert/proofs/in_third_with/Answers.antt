@@ -19,8 +19,8 @@ slice_bounds-content_refusal-count c = (third_places c.args.file.now c.args.c c.
 pub slice_bounds-content_refusal-start : goal.slice_bounds-content_refusal-start
 slice_bounds-content_refusal-start c = (third_places c.args.file.now c.args.c c.requires.0.packed c.requires.0.fourth).records_at
 
-pub content_refusal-refusal-requires : goal.content_refusal-refusal-requires
-content_refusal-refusal-requires c = let f = third_fits c.args.file.now c.args.c c.requires.0.packed c.requires.0.fourth _ (third_lent c.args.file.now c.args.c c.requires.0.packed c.requires.0.fourth c.args.table.now _ c.lower-profiles.ensures.out_after) in (f.0, refl, f.1)
+pub content_refusal-content-requires : goal.content_refusal-content-requires
+content_refusal-content-requires c = let f = third_fits c.args.file.now c.args.c c.requires.0.packed c.requires.0.fourth _ (third_lent c.args.file.now c.args.c c.requires.0.packed c.requires.0.fourth c.args.table.now _ c.lower-profiles.ensures.out_after) in (f.0, refl, f.1)
 
 pub returns : goal.returns
-returns c = goes_down c.args.file.now c.args.c c.requires.0 c.requires.1 _ (profiles_lent c.args.file.now c.args.c c.requires.0.packed c.requires.0.fourth _ c.lower-profiles.ensures.value) c.if-profiles.false _ (tables_same _ _ (third_lent c.args.file.now c.args.c c.requires.0.packed c.requires.0.fourth c.args.table.now _ c.lower-profiles.ensures.out_after) _ c.content_refusal-refusal.ensures)
+returns c = goes_down c.args.file.now c.args.c c.requires.0 c.requires.1 _ (profiles_lent c.args.file.now c.args.c c.requires.0.packed c.requires.0.fourth _ c.lower-profiles.ensures.value) c.if-profiles.false c.content_refusal-content.result (tables_same _ _ (third_lent c.args.file.now c.args.c c.requires.0.packed c.requires.0.fourth c.args.table.now _ c.lower-profiles.ensures.out_after) _ c.content_refusal-content.ensures) _ c.is_ok.ensures.value

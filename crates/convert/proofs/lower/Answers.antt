@@ -1,5 +1,4 @@
 -- The proof of `convert::lower`.
-use Prim.Native.Nat.{◌-◌}
 use native.Mathlib.Omega.{arith}
 use mathlib.Core.Path.{refl, ap}
 use Rattle.format.proofs.Gathered.{some_none, some_more, some_end}

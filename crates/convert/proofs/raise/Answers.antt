@@ -1,5 +1,4 @@
 -- The proof of `convert::raise`.
-use Prim.Native.Nat.{◌-◌}
 use native.Mathlib.Omega.{arith}
 use mathlib.Core.Path.{refl}
 use Rattle.convert.proofs.Records.{raise_none, raise_more, raise_end}

@@ -5,8 +5,8 @@ use Rattle.doubles.proofs.Nan.{nan_pattern}
 use Rattle.doubles.proofs.decode.Goals as goal
 
 pub float_from_bits-result : goal.float_from_bits-result
-float_from_bits-result c = subst T (sym c.if-n.true ∙ c.number-n.ensures) tt
+float_from_bits-result c = subst T (sym c.if-number.true ∙ c.number.ensures) tt
 
 pub returns : goal.returns
 unfolding of_bits div
-returns c = sym (nan_pattern _ (sym c.number-n.ensures ∙ c.if-n.false))
+returns c = sym (nan_pattern _ (sym c.number.ensures ∙ c.if-number.false))

@@ -1,5 +1,5 @@
--- The invariants and measures of `format::bad_records`.
-use Prim.Native.Nat.{◌≤◌, ◌-◌, ◌+◌, ◌*◌}
+-- The invariant of `format::bad_records`.
+use Prim.Native.Nat.{◌≤◌, ◌+◌, ◌*◌}
 use mathlib.Core.Path.{◌≡◌}
 use mathlib.Core.List.{[]}
 use Rattle.rules.specs.Bytes.{some_below}
@@ -9,6 +9,3 @@ use Rattle.format.proofs.bad_records.Given as goal
 
 abbrev pub invariant-loop-i : goal.invariant-loop-i
 invariant-loop-i l = (l.i ≤ l.n) × (l.bad ≡ some_below l.i (λ k. bad_record (types_of l.edition) l.structures l.table (function_at l.edition k) (end_before (bodies l.edition l.table [] l.code l.entry) k))) × (l.end ≡ end_before (bodies l.edition l.table [] l.code l.entry) l.i) × (l.end ≤ 16384 + l.i * 4294967296)
-
-abbrev pub decreases-loop-i : goal.decreases-loop-i
-decreases-loop-i l = l.n - l.i

@@ -1,5 +1,4 @@
--- The invariants and measures of `format::high_params`.
-use Prim.Native.Nat.{◌≤◌, ◌-◌}
+-- The invariant of `format::high_params`.
 use mathlib.Core.Path.{◌≡◌}
 use Rattle.rules.specs.Bytes.{some_below}
 use Rattle.rules.specs.Tables.{function_at}
@@ -7,7 +6,4 @@ use Rattle.format.specs.Layout.{high_param}
 use Rattle.format.proofs.high_params.Given as goal
 
 abbrev pub invariant-loop-i : goal.invariant-loop-i
-invariant-loop-i l = (l.i ≤ l.n) × (l.high ≡ some_below l.i (λ k. some_below 8 (high_param l.table (function_at 1 k))))
-
-abbrev pub decreases-loop-i : goal.decreases-loop-i
-decreases-loop-i l = l.n - l.i
+invariant-loop-i l = l.high ≡ some_below l.i (λ k. some_below 8 (high_param l.table (function_at 1 k)))

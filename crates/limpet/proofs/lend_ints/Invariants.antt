@@ -1,9 +1,6 @@
-use Rattle.std.proofs.Common.{length, ◌-◌, ◌≤◌, ◌≡◌}
+use Rattle.std.proofs.Common.{length, ◌≤◌, ◌≡◌}
 use Rattle.desk.specs.Commands.{LendsInts}
 use Rattle.limpet.proofs.lend_ints.Given as goal
 
 abbrev pub invariant-loop-k : goal.invariant-loop-k
 invariant-loop-k l = (l.k ≤ l.initial.count) × (length l.payloads ≡ length l.initial.payloads) × (length l.types ≡ length l.initial.types) × LendsInts l.k l.payloads l.types
-
-abbrev pub decreases-loop-k : goal.decreases-loop-k
-decreases-loop-k l = l.initial.count - l.k

@@ -14,4 +14,4 @@ returns-then-t-ge4 c = (c.load32.ensures.0 ∙ word_part 4 c.args.s.now c.args.a
 pub returns : goal.returns
 returns c = let s = c.args.s.now in let at = c.args.at in
     let out = get_or-eq_default (part s at) 0 {n = 3} (omega arith) in
-    omega (arith, word_part 4 s at, word_4 (part s at) 0, out)
+    omega (arith, word_part 4 s at, word_4 (part s at) 0, out, c.from_le_bytes.ensures)

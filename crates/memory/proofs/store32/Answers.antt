@@ -1,17 +1,7 @@
 -- The proof of `memory::store32`.
-use native.Mathlib.Omega.{arith}
-use lib.ListN.{length-set}
-use Rattle.memory.proofs.Words.{put_4}
+use mathlib.Core.Path.{◌∙◌}
+use Rattle.memory.proofs.Words.{stored, low_4}
 use Rattle.memory.proofs.store32.Goals as goal
 
-pub bounds-s-at-2 : goal.bounds-s-at-2
-bounds-s-at-2 c = simp length-set (omega arith)
-
-pub bounds-s-at-3 : goal.bounds-s-at-3
-bounds-s-at-3 c = simp length-set (omega arith)
-
-pub bounds-s-at-4 : goal.bounds-s-at-4
-bounds-s-at-4 c = simp length-set (omega arith)
-
 pub returns : goal.returns
-returns c = put_4 c.args.s.now c.args.at c.args.v (omega arith)
+returns c = stored 4 c.args.s.now c.args.at c.args.v _ (c.copy_from_slice.ensures.after ∙ c.to_le_bytes.ensures ∙ low_4 c.args.v)

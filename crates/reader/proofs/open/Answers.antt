@@ -5,22 +5,24 @@ use Rattle.format.specs.Layout.{Packed}
 use Rattle.format.proofs.Rows.{header_of_lem, packed_of}
 use mathlib.Core.Path.{sym, ◌∙◌, subst}
 use native.Mathlib.Omega.{arith}
+use Rattle.std.proofs.lemmas.Result.{err_from_is_err_and}
 use Rattle.reader.proofs.open.Goals as goal
 
 pub returns-then-file-lt48 : goal.returns-then-file-lt48
 returns-then-file-lt48 c = too_short c.args.file.now c.if-file-lt48.true
 
-pub returns-then-first-ne0 : goal.returns-then-first-ne0
-returns-then-first-ne0 c = refused_first c.args.file.now _ c.header_refusal-first.ensures c.if-first-ne0.true
+pub returns-in_err-header_refusal : goal.returns-in_err-header_refusal
+returns-in_err-header_refusal c = let p = err_from_is_err_and c.from_residual.result c.from_residual.ensures.1 in rw (p.1, p.2) (refused_first c.args.file.now _ c.in_err-header_refusal.ensures)
 
 pub header-c-requires : goal.header-c-requires
 header-c-requires c = let old = old_header c.args.file.now (λ q. c.if-edition-eq4.false (c.word-edition.ensures.0 ∙ q)) in record { in_bounds = (c.if-file-lt48.false, old.0, omega arith, old.1); stride_value = (old.2, omega arith) }
 
-pub file_refusal-later-requires : goal.file_refusal-later-requires
-file_refusal-later-requires c = (subst (λ (x : Sections). Packed c.args.file.now x) (sym c.header-c.ensures) (packed_of c.args.file.now (header_of_lem c.args.file.now (sym c.header_refusal-first.ensures ∙ c.if-first-ne0.false))), (λ q. c.if-edition-eq4.false (c.word-edition.ensures.0 ∙ q)))
+pub file_refusal-requires : goal.file_refusal-requires
+file_refusal-requires c = (subst (λ (x : Sections). Packed c.args.file.now x) (sym c.header-c.ensures) (packed_of c.args.file.now (header_of_lem c.args.file.now (sym c.in_ok-header_refusal.ensures))), (λ q. c.if-edition-eq4.false (c.word-edition.ensures.0 ∙ q)))
 
-pub returns-then-later-ne0 : goal.returns-then-later-ne0
-returns-then-later-ne0 c = refused_later c.args.file.now _ (header_of_lem c.args.file.now (sym c.header_refusal-first.ensures ∙ c.if-first-ne0.false)) c.file_refusal-later.ensures c.if-later-ne0.true
+pub returns-in_err-file_refusal : goal.returns-in_err-file_refusal
+returns-in_err-file_refusal c = let p = err_from_is_err_and c.from_residual-in_err-file_refusal.result c.from_residual-in_err-file_refusal.ensures.1 in
+    rw (p.1, p.2) (refused_later c.args.file.now _ (header_of_lem c.args.file.now (sym c.in_ok-header_refusal.ensures)) c.in_err-file_refusal.ensures)
 
 pub returns : goal.returns
-returns c = not_refused c.args.file.now _ (header_of_lem c.args.file.now (sym c.header_refusal-first.ensures ∙ c.if-first-ne0.false)) c.file_refusal-later.ensures c.if-later-ne0.false _ c.header-c.ensures
+returns c = not_refused c.args.file.now (header_of_lem c.args.file.now (sym c.in_ok-header_refusal.ensures)) c.in_ok-file_refusal.ensures _ c.header-c.ensures

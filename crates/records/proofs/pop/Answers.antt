@@ -4,4 +4,4 @@ use Rattle.records.proofs.pop.Goals as goal
 
 pub returns : goal.returns
 returns c =
-    popped _ _ c.requires.0 c.requires.1 c.wide-n.ensures.0
+    popped _ _ c.requires.0 c.requires.1 c.from-n.ensures

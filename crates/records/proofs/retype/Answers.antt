@@ -4,4 +4,4 @@ use Rattle.records.proofs.retype.Goals as goal
 
 pub returns : goal.returns
 returns c =
-    retyped _ _ _ c.requires.0 c.requires.1 c.requires.2 c.wide-n.ensures.0
+    retyped _ _ _ c.requires.0 c.requires.1 c.requires.2 c.from-n.ensures

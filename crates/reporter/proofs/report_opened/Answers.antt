@@ -2,9 +2,9 @@ use Rattle.reporter.proofs.Settling.{report_checked, checkable}
 use Rattle.transfer.proofs.Structures.{header_long}
 use Rattle.checker.proofs.Verdicts.{short_check}
 use Rattle.checker.proofs.Lent.{lent_file}
-use Rattle.rules.specs.declared.CheckAnswer.TheVariants.{Refused}
+use Rattle.rules.specs.AnswerTypes.{Refused}
 use native.Mathlib.Omega.{arith}
-use mathlib.Core.Path.{◌∙◌}
+use mathlib.Core.Path.{sym, ◌∙◌}
 use Rattle.reporter.proofs.report_opened.Goals as goal
 
 pub returns-then-room-c : goal.returns-then-room-c
@@ -13,11 +13,17 @@ returns-then-room-c c = report_checked _ _ _ _ (Refused 10) (short_check _ c.req
 pub word-edition-requires : goal.word-edition-requires
 word-edition-requires c = omega (arith, header_long _ c.requires.1)
 
-pub with_small_table-requires : goal.with_small_table-requires
-with_small_table-requires c = record { checkable = (checkable _ _ _ c.requires.0 c.requires.1 (omega (arith, c.if-room-c.false)), c.if-c-lt512-2.true); keyed = lent_file _ _ c.requires.0 c.requires.1 (λ e. c.if-edition-eq1.false (c.word-edition.ensures.0 ∙ e)) }
+pub old_with_table-requires : goal.old_with_table-requires
+old_with_table-requires c = record { checkable = (checkable _ _ _ c.requires.0 c.requires.1 (omega (arith, c.if-room-c.false)), omega (arith, c.if-c-lt512.true), c.if-c-lt512.true); sizes = omega arith; file_value = sym c.word-edition.ensures.0 ∙ c.if-edition-eq1.true }
 
-pub with_middle_table-requires : goal.with_middle_table-requires
-with_middle_table-requires c = record { checkable = (checkable _ _ _ c.requires.0 c.requires.1 (omega (arith, c.if-room-c.false)), c.if-c-lt4096.true); keyed = lent_file _ _ c.requires.0 c.requires.1 (λ e. c.if-edition-eq1.false (c.word-edition.ensures.0 ∙ e)) }
+pub old_with_table-requires-then-edition-eq1 : goal.old_with_table-requires-then-edition-eq1
+old_with_table-requires-then-edition-eq1 c = let l = c.requires.0.little_code in record { checkable = (checkable _ _ _ c.requires.0 c.requires.1 (omega (arith, c.if-room-c.false)), l, omega (arith, l)); sizes = omega arith; file_value = sym c.word-edition.ensures.0 ∙ c.if-edition-eq1.true }
 
-pub with_large_table-requires : goal.with_large_table-requires
-with_large_table-requires c = record { checkable = checkable _ _ _ c.requires.0 c.requires.1 (omega (arith, c.if-room-c.false)); keyed = lent_file _ _ c.requires.0 c.requires.1 (λ e. c.if-edition-eq1.false (c.word-edition.ensures.0 ∙ e)) }
+pub with_table-requires : goal.with_table-requires
+with_table-requires c = record { checkable = (checkable _ _ _ c.requires.0 c.requires.1 (omega (arith, c.if-room-c.false)), c.if-c-lt512-2.true); size = omega arith; keyed = lent_file _ _ c.requires.0 c.requires.1 (λ e. c.if-edition-eq1.false (c.word-edition.ensures.0 ∙ e)) }
+
+pub with_table-requires-then-c-lt4096 : goal.with_table-requires-then-c-lt4096
+with_table-requires-then-c-lt4096 c = record { checkable = (checkable _ _ _ c.requires.0 c.requires.1 (omega (arith, c.if-room-c.false)), c.if-c-lt4096.true); size = omega arith; keyed = lent_file _ _ c.requires.0 c.requires.1 (λ e. c.if-edition-eq1.false (c.word-edition.ensures.0 ∙ e)) }
+
+pub with_table-requires-2 : goal.with_table-requires-2
+with_table-requires-2 c = record { checkable = (checkable _ _ _ c.requires.0 c.requires.1 (omega (arith, c.if-room-c.false)), omega (arith, c.requires.0.little_code)); size = omega arith; keyed = lent_file _ _ c.requires.0 c.requires.1 (λ e. c.if-edition-eq1.false (c.word-edition.ensures.0 ∙ e)) }

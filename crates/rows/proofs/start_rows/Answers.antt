@@ -15,10 +15,10 @@ pub slice_bounds-admits_row-end : goal.slice_bounds-admits_row-end
 slice_bounds-admits_row-end c = omega (arith, inside_0 c.args.file.now c.requires.1 c.args.c c.args.k c.args.start c.args.end c.args.kinds.now c.args.args.now c.args.out.now c.requires.2 c.args.allowance c.args.p.now c.args.t.now c.args.cells.now c.args.table.now)
 
 pub returns-then-not-low : goal.returns-then-not-low
-returns-then-not-low c = rw c.stopped.ensures (first_13 c.args.file.now c.requires.1 c.args.c c.args.k c.args.start c.args.end c.args.kinds.now c.args.args.now c.args.out.now c.requires.2 c.args.allowance c.args.p.now c.args.t.now c.args.cells.now c.args.table.now (ap (λ (u : List ℕ). low_ints u c.args.kinds.now (length c.args.kinds.now)) (sym (part_0 (length c.args.kinds.now * 8) c.args.args.now)) ∙ sym c.admits_row-low.ensures ∙ not-true _ c.if-not-low.true-raw))
+returns-then-not-low c = (first_13 c.args.file.now c.requires.1 c.args.c c.args.k c.args.start c.args.end c.args.kinds.now c.args.args.now c.args.out.now c.requires.2 c.args.allowance c.args.p.now c.args.t.now c.args.cells.now c.args.table.now (ap (λ (u : List ℕ). low_ints u c.args.kinds.now (length c.args.kinds.now)) (sym (part_0 (length c.args.kinds.now * 8) c.args.args.now)) ∙ sym c.admits_row-low.ensures ∙ not-true _ c.if-not-low.true-raw))
 
 pub returns-then-cap-n : goal.returns-then-cap-n
-returns-then-cap-n c = rw c.close.ensures.0 (first_20 c.args.file.now c.requires.1 c.args.c c.args.k c.args.start c.args.end c.args.kinds.now c.args.args.now c.args.out.now c.requires.2 c.args.allowance c.args.p.now c.args.t.now c.args.cells.now c.args.table.now (ap (λ (u : List ℕ). low_ints u c.args.kinds.now (length c.args.kinds.now)) (sym (part_0 (length c.args.kinds.now * 8) c.args.args.now)) ∙ sym c.admits_row-low.ensures ∙ not-false _ c.if-not-low.false-raw) _ _ c.clear_heap.ensures (omega (arith, c.capacity-cap.ensures, c.if-cap-n.true)) (λ j. ((c.slice_known-6-1).given j).fits) (λ j. ((c.slice_known-7-1).given j).fits) _ _ c.close.ensures.1)
+returns-then-cap-n c = (first_20 c.args.file.now c.requires.1 c.args.c c.args.k c.args.start c.args.end c.args.kinds.now c.args.args.now c.args.out.now c.requires.2 c.args.allowance c.args.p.now c.args.t.now c.args.cells.now c.args.table.now (ap (λ (u : List ℕ). low_ints u c.args.kinds.now (length c.args.kinds.now)) (sym (part_0 (length c.args.kinds.now * 8) c.args.args.now)) ∙ sym c.admits_row-low.ensures ∙ not-false _ c.if-not-low.false-raw) _ _ c.clear_heap.ensures (omega (arith, c.capacity-cap.ensures, c.if-cap-n.true)) (λ j. ((c.slice_known-6-1).given j).fits) (λ j. ((c.slice_known-7-1).given j).fits) _ _ c.clear_slots.ensures)
 
 pub word-edition-requires : goal.word-edition-requires
 word-edition-requires c = omega (arith, long_enough _ _ c.requires.0)

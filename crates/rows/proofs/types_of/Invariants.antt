@@ -1,5 +1,4 @@
 -- The invariants and measures of `rows::types_of`.
-use Prim.Native.Nat.{◌-◌}
 use Rattle.rows.specs.Rows.{param_types}
 use Rattle.rules.specs.Mapping.{takes_numbers}
 use Rattle.rules.specs.ModuleFile.{edition, functions_in}
@@ -11,7 +10,4 @@ use Prim.Native.Nat.{ℕ, ◌+◌, ◌≤◌, ◌<◌}
 use Rattle.rows.proofs.types_of.Given as goal
 
 abbrev pub invariant-loop-j : goal.invariant-loop-j
-invariant-loop-j l = (l.j ≤ l.n) × (length l.kinds ≡ length l.initial.kinds) × (takes_numbers (param_types l.file l.k l.n) ≡ takes_numbers (param_types l.file l.k l.j)) × ((i : ℕ) → l.j ≤ i → i < l.n → get_or l.kinds i 0 ≡ byte (functions_in l.file) (function_at (edition l.file) l.k + 10 + i))
-
-abbrev pub decreases-loop-j : goal.decreases-loop-j
-decreases-loop-j l = l.j
+invariant-loop-j l = (length l.kinds ≡ length l.initial.kinds) × (takes_numbers (param_types l.file l.k l.n) ≡ takes_numbers (param_types l.file l.k l.j)) × ((i : ℕ) → l.j ≤ i → i < l.n → get_or l.kinds i 0 ≡ byte (functions_in l.file) (function_at (edition l.file) l.k + 10 + i))

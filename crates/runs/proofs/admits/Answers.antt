@@ -17,7 +17,7 @@ returns-then-args-n c =
     admitted_part (functions_in c.args.file.now) (function_at (edition c.args.file.now) c.args.k + 10) c.args.args.now c.args.kinds.now _ c.if-kinds-n.false c.if-args-n.true
 
 pub loop-j-init : goal.loop-j-init
-loop-j-init c = (omega arith, refl)
+loop-j-init c = refl
 
 pub param-b-requires : goal.param-b-requires
 param-b-requires c =
@@ -26,17 +26,17 @@ param-b-requires c =
 pub slot_at-v-requires : goal.slot_at-v-requires
 slot_at-v-requires c = (omega arith, omega arith)
 
-pub takes-fits-requires : goal.takes-fits-requires
-takes-fits-requires c = tt
+pub takes-requires : goal.takes-requires
+takes-requires c = tt
 
-pub returns-then-not-fits : goal.returns-then-not-fits
-returns-then-not-fits c =
-    admitted_is (functions_in c.args.file.now) (function_at (edition c.args.file.now) c.args.k + 10) c.args.args.now c.args.kinds.now _ c.if-kinds-n.false c.if-args-n.false _ (c.loop-j.invariant.1 ∙ declared_not (functions_in c.args.file.now) (function_at (edition c.args.file.now) c.args.k + 10) c.args.args.now c.args.kinds.now c.loop-j.j (omega arith) _ _ _ c.param-b.ensures.0 c.slot_at-v.ensures c.takes-fits.ensures (not-true _ c.if-not-fits.true-raw))
+pub returns-then-not-takes : goal.returns-then-not-takes
+returns-then-not-takes c =
+    admitted_is (functions_in c.args.file.now) (function_at (edition c.args.file.now) c.args.k + 10) c.args.args.now c.args.kinds.now _ c.if-kinds-n.false c.if-args-n.false _ (c.loop-j.invariant ∙ declared_not (functions_in c.args.file.now) (function_at (edition c.args.file.now) c.args.k + 10) c.args.args.now c.args.kinds.now c.loop-j.j (omega arith) _ _ _ c.param-b.ensures.0 c.slot_at-v.ensures c.takes.ensures (not-true _ c.if-not-takes.true-raw))
 
 pub loop-j-preserved : goal.loop-j-preserved
 loop-j-preserved c =
-    (omega arith, c.loop-j.invariant.1 ∙ declared_next (functions_in c.args.file.now) (function_at (edition c.args.file.now) c.args.k + 10) c.args.args.now c.args.kinds.now c.loop-j.j (omega arith) _ _ _ c.param-b.ensures.0 c.slot_at-v.ensures c.takes-fits.ensures (not-false _ c.if-not-fits.false-raw))
+    (c.loop-j.invariant ∙ declared_next (functions_in c.args.file.now) (function_at (edition c.args.file.now) c.args.k + 10) c.args.args.now c.args.kinds.now c.loop-j.j (omega arith) _ _ _ c.param-b.ensures.0 c.slot_at-v.ensures c.takes.ensures (not-false _ c.if-not-takes.false-raw))
 
 pub returns : goal.returns
 returns c =
-    admitted_is (functions_in c.args.file.now) (function_at (edition c.args.file.now) c.args.k + 10) c.args.args.now c.args.kinds.now _ c.if-kinds-n.false c.if-args-n.false _ (c.loop-j.invariant.1 ∙ declared_end (functions_in c.args.file.now) (function_at (edition c.args.file.now) c.args.k + 10) c.args.args.now c.args.kinds.now c.loop-j.j (omega arith))
+    admitted_is (functions_in c.args.file.now) (function_at (edition c.args.file.now) c.args.k + 10) c.args.args.now c.args.kinds.now _ c.if-kinds-n.false c.if-args-n.false _ (c.loop-j.invariant ∙ declared_end (functions_in c.args.file.now) (function_at (edition c.args.file.now) c.args.k + 10) c.args.args.now c.args.kinds.now c.loop-j.j (omega arith))

@@ -26,11 +26,8 @@ offset_bounds-offsets-b c = omega (arith, c.requires.b_le_n.0, c.requires.b_le_n
 pub bounds-offsets-b : goal.bounds-offsets-b
 bounds-offsets-b c = omega (arith, c.requires.b_le_n.0, c.requires.b_le_n.1, c.requires.b_le_n.3, c.loop-k-test)
 
-pub wide-a-requires : goal.wide-a-requires
-wide-a-requires c = tt
-
 pub overflow_sub-a : goal.overflow_sub-a
-overflow_sub-a c = omega (arith, c.wide-a.ensures, c.loop-k.invariant.1 (omega (arith, c.loop-k-test)))
+overflow_sub-a c = omega (arith, c.from-a.ensures, c.loop-k.invariant.1 (omega (arith, c.loop-k-test)))
 
 pub overflow_add-k : goal.overflow_add-k
 overflow_add-k c = omega (arith, c.requires.b_le_n.1, c.loop-k-test)
@@ -42,10 +39,7 @@ pub bounds-need-k : goal.bounds-need-k
 bounds-need-k c = omega (arith, c.requires.b_le_n.1, c.requires.b_le_n.4, c.loop-k-test)
 
 pub overflow_add-a : goal.overflow_add-a
-overflow_add-a c = omega (arith, c.wide-a.ensures, callee_need c.args.offsets.now c.args.need.now c.args.frames.now c.args.b c.args.n c.loop-k.k c.wide-a.result c.requires.callees (omega (arith, c.loop-k-test)) c.wide-a.ensures.0 (omega (arith, c.wide-a.ensures, c.loop-k.invariant.1 (omega (arith, c.loop-k-test)))))
-
-pub larger-x-requires : goal.larger-x-requires
-larger-x-requires c = tt
+overflow_add-a c = omega (arith, c.from-a.ensures, callee_need c.args.offsets.now c.args.need.now c.args.frames.now c.args.b c.args.n c.loop-k.k c.from-a.result c.requires.callees (omega (arith, c.loop-k-test)) c.from-a.ensures (omega (arith, c.from-a.ensures, c.loop-k.invariant.1 (omega (arith, c.loop-k-test)))))
 
 pub overflow_add-k-in-loop-k : goal.overflow_add-k-in-loop-k
 overflow_add-k-in-loop-k c = omega (arith, c.requires.b_le_n.1, c.loop-k-test)
@@ -57,10 +51,7 @@ pub bounds-frames-k : goal.bounds-frames-k
 bounds-frames-k c = omega (arith, c.requires.b_le_n.1, c.requires.b_le_n.5, c.loop-k-test)
 
 pub overflow_add-frames : goal.overflow_add-frames
-overflow_add-frames c = omega (arith, c.wide-a.ensures, callee_frames c.args.offsets.now c.args.need.now c.args.frames.now c.args.b c.args.n c.loop-k.k c.wide-a.result c.requires.callees (omega (arith, c.loop-k-test)) c.wide-a.ensures.0 (omega (arith, c.wide-a.ensures, c.loop-k.invariant.1 (omega (arith, c.loop-k-test)))))
-
-pub larger-y-requires : goal.larger-y-requires
-larger-y-requires c = tt
+overflow_add-frames c = omega (arith, c.from-a.ensures, callee_frames c.args.offsets.now c.args.need.now c.args.frames.now c.args.b c.args.n c.loop-k.k c.from-a.result c.requires.callees (omega (arith, c.loop-k-test)) c.from-a.ensures (omega (arith, c.from-a.ensures, c.loop-k.invariant.1 (omega (arith, c.loop-k-test)))))
 
 pub overflow_add-k-in-loop-k-2 : goal.overflow_add-k-in-loop-k-2
 overflow_add-k-in-loop-k-2 c = omega (arith, c.requires.b_le_n.1, c.loop-k-test)
@@ -72,7 +63,7 @@ pub loop-k-smaller : goal.loop-k-smaller
 loop-k-smaller c = omega (arith, c.loop-k-test, c.next_call-k-in-loop-k.ensures.from)
 
 pub loop-k-preserved : goal.loop-k-preserved
-loop-k-preserved c = (c.next_call-k-in-loop-k.ensures.within, c.next_call-k-in-loop-k.ensures.called, joined_skip _ _ _ _ _ _ _ _ _ _ c.next_call-k-in-loop-k.ensures (joined_next _ _ _ _ _ _ _ _ _ _ _ c.loop-k.invariant.2 c.wide-a.ensures.0 (omega (arith, c.wide-a.ensures, c.loop-k.invariant.1 (omega (arith, c.loop-k-test)))) c.larger-x.ensures c.larger-y.ensures))
+loop-k-preserved c = (c.next_call-k-in-loop-k.ensures.within, c.next_call-k-in-loop-k.ensures.called, joined_skip _ _ _ _ _ _ _ _ _ _ c.next_call-k-in-loop-k.ensures (joined_next _ _ _ _ _ _ _ _ _ _ _ c.loop-k.invariant.2 c.from-a.ensures (omega (arith, c.from-a.ensures, c.loop-k.invariant.1 (omega (arith, c.loop-k-test)))) c.max-x.ensures c.max-y.ensures))
 
 pub returns : goal.returns
 returns c = joined_end _ _ _ _ _ _ _ _ _ c.loop-k.invariant.0 (omega (arith, c.loop-k-test)) c.loop-k.invariant.2

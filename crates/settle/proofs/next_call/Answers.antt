@@ -1,15 +1,16 @@
+-- The proof of `settle::next_call`.
 use Rattle.settle.proofs.Joining.{zeros_next}
 use native.Mathlib.Omega.{arith}
 use Rattle.settle.proofs.next_call.Goals as goal
 
 pub loop-i-init : goal.loop-i-init
-loop-i-init c = (omega arith, omega arith, λ j h l. absurd (omega arith))
+loop-i-init c = λ j h l. absurd (omega arith)
 
 pub returns-then-offsets-row-gt0 : goal.returns-then-offsets-row-gt0
-returns-then-offsets-row-gt0 c = record { from = c.loop-i.invariant.0; within = c.loop-i.invariant.1; skipped = c.loop-i.invariant.2; called = λ l. c.if-offsets-row-gt0.true }
+returns-then-offsets-row-gt0 c = record { from = omega arith; within = omega arith; skipped = c.loop-i.invariant; called = λ l. c.if-offsets-row-gt0.true }
 
 pub loop-i-preserved : goal.loop-i-preserved
-loop-i-preserved c = (omega arith, omega arith, zeros_next c.args.offsets.now c.args.b c.args.k c.loop-i.i c.loop-i.invariant.2 (omega arith))
+loop-i-preserved c = zeros_next c.args.offsets.now c.args.b c.args.k c.loop-i.i c.loop-i.invariant (omega arith)
 
 pub returns : goal.returns
-returns c = record { from = c.loop-i.invariant.0; within = c.loop-i.invariant.1; skipped = c.loop-i.invariant.2; called = λ l. absurd (omega arith) }
+returns c = record { from = omega arith; within = omega arith; skipped = λ j h l. c.loop-i.invariant j h (omega arith); called = λ l. absurd (omega arith) }

@@ -19,17 +19,17 @@ overflow_add-at c = let l = inside _ (c.requires) c.args.i (omega (arith, c.decl
 pub bounds-file-at : goal.bounds-file-at
 bounds-file-at c = let l = inside _ (c.requires) c.args.i (omega (arith, c.declared-count.ensures, c.if-count-i.false)) _ c.word.ensures.0 in omega (arith, l)
 
-pub returns-then-wide-n : goal.returns-then-wide-n
-returns-then-wide-n c = sym (field_past _ (c.requires) _ (omega (arith, c.declared-count.ensures, c.if-count-i.false)) _ c.word.ensures.0 _ (omega (arith, c.wide.ensures.0, c.if-wide-n.true)))
+pub returns-then-from-n : goal.returns-then-from-n
+returns-then-from-n c = sym (field_past _ (c.requires) _ (omega (arith, c.declared-count.ensures, c.if-count-i.false)) _ c.word.ensures.0 _ (omega (arith, c.from.ensures, c.if-from-n.true)))
 
 pub overflow_add-result : goal.overflow_add-result
 overflow_add-result c = let l = inside _ (c.requires) c.args.i (omega (arith, c.declared-count.ensures, c.if-count-i.false)) _ c.word.ensures.0 in omega (arith, l)
 
 pub overflow_add-result-2 : goal.overflow_add-result-2
-overflow_add-result-2 c = let l = inside _ (c.requires) c.args.i (omega (arith, c.declared-count.ensures, c.if-count-i.false)) _ c.word.ensures.0 in let f = few_fields _ (c.requires) c.args.i (omega (arith, c.declared-count.ensures, c.if-count-i.false)) _ c.word.ensures.0 in omega (arith, l, f, c.wide.ensures.0, c.if-wide-n.false)
+overflow_add-result-2 c = let l = inside _ (c.requires) c.args.i (omega (arith, c.declared-count.ensures, c.if-count-i.false)) _ c.word.ensures.0 in let f = few_fields _ (c.requires) c.args.i (omega (arith, c.declared-count.ensures, c.if-count-i.false)) _ c.word.ensures.0 in omega (arith, l, f, c.from.ensures, c.if-from-n.false)
 
 pub bounds-file-at-2 : goal.bounds-file-at-2
-bounds-file-at-2 c = let l = inside _ (c.requires) c.args.i (omega (arith, c.declared-count.ensures, c.if-count-i.false)) _ c.word.ensures.0 in let f = few_fields _ (c.requires) c.args.i (omega (arith, c.declared-count.ensures, c.if-count-i.false)) _ c.word.ensures.0 in omega (arith, l, f, c.wide.ensures.0, c.if-wide-n.false)
+bounds-file-at-2 c = let l = inside _ (c.requires) c.args.i (omega (arith, c.declared-count.ensures, c.if-count-i.false)) _ c.word.ensures.0 in let f = few_fields _ (c.requires) c.args.i (omega (arith, c.declared-count.ensures, c.if-count-i.false)) _ c.word.ensures.0 in omega (arith, l, f, c.from.ensures, c.if-from-n.false)
 
 pub returns : goal.returns
-returns c = sym (field_there _ (c.requires) _ (omega (arith, c.declared-count.ensures, c.if-count-i.false)) _ c.word.ensures.0 _ (omega (arith, c.wide.ensures.0, c.if-wide-n.false)))
+returns c = sym (field_there _ (c.requires) _ (omega (arith, c.declared-count.ensures, c.if-count-i.false)) _ c.word.ensures.0 _ (omega (arith, c.from.ensures, c.if-from-n.false)))

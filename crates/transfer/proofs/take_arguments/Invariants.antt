@@ -1,5 +1,5 @@
 -- The invariants and measures of `transfer::take_arguments`.
-use Prim.Native.Nat.{◌+◌, ◌-◌, ◌≤◌}
+use Prim.Native.Nat.{◌+◌, ◌≤◌}
 use Rattle.rules.specs.Tables.{function_at}
 use Rattle.rules.specs.ModuleFile.{edition, functions_in}
 use Rattle.transfer.proofs.Arguments.{Left}
@@ -7,6 +7,3 @@ use Rattle.transfer.proofs.take_arguments.Given as goal
 
 abbrev pub invariant-loop-j : goal.invariant-loop-j
 invariant-loop-j l = (l.j ≤ l.n) × Left (functions_in l.file) (function_at (edition l.file) l.k + 10) l.n l.initial.st l.j l.st
-
-abbrev pub decreases-loop-j : goal.decreases-loop-j
-decreases-loop-j l = l.j

@@ -1,7 +1,6 @@
 -- The proof of `access::blocks::delete`.
 use Rattle.access.proofs.BlockLaws.{given_live, delete_21, delete_31, delete_null, delete_33, delete_is}
-use Rattle.heap.specs.declared.Found.TheVariants.{Nothing}
-use Rattle.heap.specs.declared.Found.{Found}
+use Rattle.std.specs.Prelude.{None}
 use Rattle.heap.specs.Blocks.{entry_at, heap_of}
 use mathlib.Core.Path.{◌≡◌}
 use Rattle.access.proofs.blocks.delete.Goals as goal
@@ -24,12 +23,12 @@ given-requires c =
 
 pub returns-in_default : goal.returns-in_default
 returns-in_default c =
-    let z : ◌≡◌ {A = Found} c.given.result Nothing = cc in
+    let z : ◌≡◌ c.given.result None = cc in
     λ m f k. delete_33 m _ _ f _ _ k _ _ _ _ _ c.requires.heap_ready c.if-h-r.false _ c.slot_at-w.ensures c.if-w-ne7.false c.if-w.false _ c.shelf-k.ensures c.given.result c.given.ensures z
 
 pub remove-left-requires : goal.remove-left-requires
 remove-left-requires c =
-    (rw c.shelf-k.ensures c.requires.heap_ready.sane, given_live (heap_of c.args.size c.shelf-k.result c.args.d.now c.args.cells.now c.args.table.now) (entry_at c.args.table.now) _ _ _ c.given.result c.given.ensures c.in-At.is)
+    (rw c.shelf-k.ensures c.requires.heap_ready.sane, given_live (heap_of c.args.size c.shelf-k.result c.args.d.now c.args.cells.now c.args.table.now) (entry_at c.args.table.now) _ _ _ c.given.result c.given.ensures c.in-Some.is)
 
 pub keep-requires : goal.keep-requires
 keep-requires c =
@@ -37,4 +36,4 @@ keep-requires c =
 
 pub returns : goal.returns
 returns c =
-    λ m f k. rw c.moved-gone.ensures (delete_is m _ _ f _ _ k _ _ _ _ _ c.requires.heap_ready c.if-h-r.false _ c.slot_at-w.ensures c.if-w-ne7.false c.if-w.false _ c.shelf-k.ensures c.given.result c.given.ensures _ c.in-At.is _ _ _ _ c.remove-left.ensures.0 c.keep.ensures.0 c.keep.ensures.1)
+    λ m f k. rw c.moved-gone.ensures (delete_is m _ _ f _ _ k _ _ _ _ _ c.requires.heap_ready c.if-h-r.false _ c.slot_at-w.ensures c.if-w-ne7.false c.if-w.false _ c.shelf-k.ensures c.given.result c.given.ensures _ c.in-Some.is _ _ _ _ c.remove-left.ensures.0 c.keep.ensures.0 c.keep.ensures.1)

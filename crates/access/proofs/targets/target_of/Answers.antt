@@ -22,19 +22,19 @@ pub returns-then-a-lt65536 : goal.returns-then-a-lt65536
 returns-then-a-lt65536 c =
     aimed_low _ _ _ _ _ c.requires.0 _ c.requires.1 c.args.w (is_pointer_lem c.requires.2 c.if-w-lt7.false) c.if-a.false c.if-a-n.false c.if-a-lt65536.true
 
-pub target-found-requires : goal.target-found-requires
-target-found-requires c =
+pub target-requires : goal.target-requires
+target-requires c =
     ((c.args.cells.now, rw c.shelf.ensures c.requires.0.sane), c.requires.0.plain, c.if-a-lt65536.false)
 
 pub returns-in-Lost : goal.returns-in-Lost
 returns-in-Lost c =
-    let z : ◌≡◌ {A = Target} c.target-found.result Lost = cc in
-    aimed_lost _ _ _ _ _ c.requires.0 _ c.requires.1 c.args.w (is_pointer_lem c.requires.2 c.if-w-lt7.false) c.if-a.false _ c.shelf.ensures _ c.target-found.ensures z
+    let z : ◌≡◌ {A = Target} c.target.result Lost = cc in
+    aimed_lost _ _ _ _ _ c.requires.0 _ c.requires.1 c.args.w (is_pointer_lem c.requires.2 c.if-w-lt7.false) c.if-a.false _ c.shelf.ensures _ c.target.ensures z
 
 pub returns-in-Whole : goal.returns-in-Whole
 returns-in-Whole c =
-    aimed_whole _ _ _ _ _ c.requires.0 _ c.requires.1 c.args.w (is_pointer_lem c.requires.2 c.if-w-lt7.false) c.if-a.false _ c.shelf.ensures _ c.target-found.ensures _ c.in-Whole.is
+    aimed_whole _ _ _ _ _ c.requires.0 _ c.requires.1 c.args.w (is_pointer_lem c.requires.2 c.if-w-lt7.false) c.if-a.false _ c.shelf.ensures _ c.target.ensures _ c.in-Whole.is
 
 pub returns-in-Cell : goal.returns-in-Cell
 returns-in-Cell c =
-    aimed_cell _ _ _ _ _ c.requires.0 _ c.requires.1 c.args.w (is_pointer_lem c.requires.2 c.if-w-lt7.false) c.if-a.false _ c.shelf.ensures _ c.target-found.ensures _ _ c.in-Cell.is
+    aimed_cell _ _ _ _ _ c.requires.0 _ c.requires.1 c.args.w (is_pointer_lem c.requires.2 c.if-w-lt7.false) c.if-a.false _ c.shelf.ensures _ c.target.ensures _ _ c.in-Cell.is

@@ -1,9 +1,5 @@
 use native.Mathlib.Omega.{arith}
-use Prim.Native.Nat.{◌-◌}
 use Rattle.climb.proofs.waits.best.Goals as goal
-
-pub overflow_add-i : goal.overflow_add-i
-overflow_add-i c = omega (arith, c.requires.0, c.requires.1)
 
 pub loop-i-init : goal.loop-i-init
 loop-i-init c = (c.requires.4, omega (arith, c.requires.0, c.requires.1))
@@ -15,13 +11,7 @@ pub returns-then-key-before : goal.returns-then-key-before
 returns-then-key-before c = (c.loop-i.invariant.0, c.loop-i.invariant.1)
 
 pub better-found-requires : goal.better-found-requires
-better-found-requires c = (c.loop-i.invariant.1, omega (arith, c.loop-i-test, c.requires.1), c.requires.2, c.requires.3, c.loop-i.invariant.0)
-
-pub overflow_add-i-in-loop-i : goal.overflow_add-i-in-loop-i
-overflow_add-i-in-loop-i c = omega (arith, c.loop-i-test, c.requires.1)
-
-pub loop-i-smaller : goal.loop-i-smaller
-loop-i-smaller c = omega (arith, c.loop-i-test)
+better-found-requires c = (c.loop-i.invariant.1, omega (arith, c.requires.1), c.requires.2, c.requires.3, c.loop-i.invariant.0)
 
 pub loop-i-preserved : goal.loop-i-preserved
 loop-i-preserved c = (c.better-found.ensures.0, c.better-found.ensures.1)

@@ -7,11 +7,8 @@ use Rattle.formula.proofs.scan.in_front.Goals as goal
 pub returns-then-is_name : goal.returns-then-is_name
 returns-then-is_name c = front_name _ _ c.requires.0 c.requires.1 c.requires.2 (sym c.is_name.ensures ∙ c.if-is_name.true)
 
-pub returns-then-deepest-open : goal.returns-then-deepest-open
-returns-then-deepest-open c = front_open _ _ c.requires.0 c.requires.1 c.requires.2 c.if-c-eq40.true _ (omega arith)
-
-pub returns-else-deepest-open : goal.returns-else-deepest-open
-returns-else-deepest-open c = front_open _ _ c.requires.0 c.requires.1 c.requires.2 c.if-c-eq40.true _ (omega arith)
+pub returns-then-c-eq40 : goal.returns-then-c-eq40
+returns-then-c-eq40 c = front_open _ _ c.requires.0 c.requires.1 c.requires.2 c.if-c-eq40.true _ (omega (arith, c.max.ensures))
 
 pub returns-then-c : goal.returns-then-c
 returns-then-c c = front_on _ _ c.requires.0 c.requires.1 c.requires.2 (sym c.is_name.ensures ∙ c.if-is_name.false) c.if-c-eq40.false c.if-c.true

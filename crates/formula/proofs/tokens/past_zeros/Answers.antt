@@ -1,6 +1,7 @@
 -- The proof of `formula::tokens::past_zeros`.
 use Rattle.formula.proofs.TokenLaws.{zero_step}
-use mathlib.Core.Path.{refl, ◌∙◌}
+use mathlib.Core.Path.{◌≡◌, refl, ◌∙◌}
+use lib.ListN.{length}
 use native.Mathlib.Omega.{arith}
 use Rattle.formula.proofs.tokens.past_zeros.Goals as goal
 
@@ -17,4 +18,5 @@ pub loop-i-preserved : goal.loop-i-preserved
 loop-i-preserved c = (omega arith, omega arith, c.loop-i.invariant.2 ∙ zero_step c.args.s.now c.loop-i.i c.args.first c.loop-i-test.true c.if-first-ne0.false c.if-s-i-ne48.false)
 
 pub returns : goal.returns
-returns c = record { from = omega arith; upto = omega arith; same = c.loop-i.invariant.2 }
+returns c = let e : length c.args.s.now ≡ c.loop-i.i = omega arith in
+    record { from = omega arith; upto = omega arith; same = rw e c.loop-i.invariant.2 }

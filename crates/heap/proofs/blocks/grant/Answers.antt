@@ -8,4 +8,4 @@ returns-then-k-ge281474976710655 c = λ size d p s f w. rw c.null_grant.ensures 
 
 pub returns : goal.returns
 returns c =
-    λ size d p s f w. rw c.give-shelf.ensures.1 (new_block size _ d p _ s _ _ _ refl c.if-k-ge281474976710655.false _ f _ _ _ refl w _ _ c.listed.ensures c.requires.1 c.give-shelf.ensures.0)
+    λ size d p s f w. rw c.give-shelf.ensures.1 (new_block size _ d p _ s _ _ _ refl c.if-k-ge281474976710655.false _ f _ refl w _ _ c.listed.ensures c.requires.1 c.give-shelf.ensures.0)

@@ -9,7 +9,7 @@ pub returns-then-next-s : goal.returns-then-next-s
 returns-then-next-s c = none_given c.requires.1 c.args.s c.if-next-s.true
 
 pub loop-lo-init : goal.loop-lo-init
-loop-lo-init c = bracket_start c.requires.1 c.args.s _ _ c.if-next-s.false c.above-lo.ensures c.below-hi.ensures
+loop-lo-init c = bracket_start c.requires.1 c.args.s _ _ c.if-next-s.false c.saturating_sub-lo.ensures c.min-hi.ensures
 
 pub overflow_add-mid : goal.overflow_add-mid
 overflow_add-mid c = omega (arith, c.loop-lo.invariant.high)

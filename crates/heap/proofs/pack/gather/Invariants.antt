@@ -1,11 +1,7 @@
 -- The invariants and measures of `heap::pack::gather`.
 use Rattle.heap.specs.Packs.{Gathered}
-use Prim.Native.Nat.{◌≤◌, ◌-◌}
 use lib.ListN.{length}
 use Rattle.heap.proofs.pack.gather.Given as goal
 
 abbrev pub invariant-loop-i : goal.invariant-loop-i
-invariant-loop-i l = (l.i ≤ l.k.count) × Gathered (length l.initial.s) l.d l.p l.initial.t l.t l.s l.i l.«at»
-
-abbrev pub decreases-loop-i : goal.decreases-loop-i
-decreases-loop-i l = l.k.count - l.i
+invariant-loop-i l = Gathered (length l.initial.s) l.d l.p l.initial.t l.t l.s l.i l.«at»

@@ -1,11 +1,7 @@
 -- The invariants and measures of `heap::rooms::mark`.
 use Rattle.heap.specs.Rooms.{Marked}
 use Rattle.heap.specs.Blocks.{entry_at, width_in}
-use Prim.Native.Nat.{◌≤◌, ◌-◌}
 use Rattle.heap.proofs.rooms.mark.Given as goal
 
 abbrev pub invariant-loop-i : goal.invariant-loop-i
-invariant-loop-i l = (l.i ≤ l.count) × Marked l.u (width_in l.d) (entry_at l.t) l.i
-
-abbrev pub decreases-loop-i : goal.decreases-loop-i
-decreases-loop-i l = l.count - l.i
+invariant-loop-i l = Marked l.u (width_in l.d) (entry_at l.t) l.i

@@ -1,5 +1,7 @@
 use Rattle.heap.proofs.Marks.{risen_none, risen_more}
 use Rattle.heap.proofs.rooms.rise.Goals as goal
+use mathlib.Core.Path.{◌≡◌}
+use native.Mathlib.Omega.{arith}
 
 pub loop-x-init : goal.loop-x-init
 loop-x-init c = risen_none c.args.u.now c.args.low c.args.top c.requires.0
@@ -11,4 +13,4 @@ pub loop-x-preserved : goal.loop-x-preserved
 loop-x-preserved c = risen_more c.loop-x.invariant c.loop-x-test.true c.if-u-x-eq0.false
 
 pub returns : goal.returns
-returns c = c.loop-x.invariant
+returns c = let e : c.loop-x.x ≡ c.args.top = omega arith in rw e at c.loop-x.invariant

@@ -11,7 +11,7 @@ pub returns-then-b-gt37 : goal.returns-then-b-gt37
 returns-then-b-gt37 c = due_first c.args.due c.args.b 0 (omega arith) (omega arith) (simp (lt-ltb _ _ c.if-b-gt37.true))
 
 pub returns-then-k-eq1 : goal.returns-then-k-eq1
-returns-then-k-eq1 c = due_first c.args.due c.args.b 4 (omega arith) (omega arith) (simp (le-ltb _ _ c.if-b-gt37.false, eq-eqb _ _ c.if-k-eq1.true))
+returns-then-k-eq1 c = due_first c.args.due c.args.b 4 (omega arith) (omega arith) (simp (le-ltb _ _ c.if-b-gt37.false, ← c.from-k.ensures, eq-eqb _ _ c.if-k-eq1.true))
 
 pub returns : goal.returns
-returns c = due_first c.args.due c.args.b 0 (omega arith) (omega arith) (simp (le-ltb _ _ c.if-b-gt37.false, ne_eqb _ _ c.if-k-eq1.false))
+returns c = due_first c.args.due c.args.b 0 (omega arith) (omega arith) (simp (le-ltb _ _ c.if-b-gt37.false, ← c.from-k.ensures, ne_eqb _ _ c.if-k-eq1.false))

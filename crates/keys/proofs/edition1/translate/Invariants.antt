@@ -10,8 +10,5 @@ invariant-loop-p l = Translating l.code l.initial.own l.own l.p 0
 abbrev pub decreases-loop-p : goal.decreases-loop-p
 decreases-loop-p l = length l.code - l.p
 
-abbrev pub invariant-loop-p-2 : goal.invariant-loop-p-2
-invariant-loop-p-2 l = Translating l.code l.initial.own l.own l.p l.due
-
-abbrev pub decreases-loop-p-2 : goal.decreases-loop-p-2
-decreases-loop-p-2 l = length l.code - l.p
+abbrev pub invariant-loop-q : goal.invariant-loop-q
+invariant-loop-q l = Translating l.code l.initial.own l.own l.q l.due

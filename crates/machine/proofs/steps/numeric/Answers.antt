@@ -20,35 +20,35 @@ copy-requires c = record { ready_on = c.requires.ready_on.0; place_lt_stop = c.r
 pub swap-requires : goal.swap-requires
 swap-requires c = record { ready_on = c.requires.ready_on.0; place_lt_stop = c.requires.ready_on.1.inside }
 
-pub add-requires : goal.add-requires
-add-requires c = c.requires.ready_on.1
+pub operate-requires : goal.operate-requires
+operate-requires c = c.requires.ready_on.1
 
-pub sub-requires : goal.sub-requires
-sub-requires c = c.requires.ready_on.1
+pub operate-requires-in-12 : goal.operate-requires-in-12
+operate-requires-in-12 c = c.requires.ready_on.1
 
-pub mul-requires : goal.mul-requires
-mul-requires c = c.requires.ready_on.1
+pub operate-requires-in-13 : goal.operate-requires-in-13
+operate-requires-in-13 c = c.requires.ready_on.1
 
-pub imul-requires : goal.imul-requires
-imul-requires c = c.requires.ready_on.1
+pub operate-requires-in-14 : goal.operate-requires-in-14
+operate-requires-in-14 c = c.requires.ready_on.1
 
-pub div-requires : goal.div-requires
-div-requires c = c.requires.ready_on.1
+pub operate-requires-in-15 : goal.operate-requires-in-15
+operate-requires-in-15 c = c.requires.ready_on.1
 
-pub idiv-requires : goal.idiv-requires
-idiv-requires c = c.requires.ready_on.1
+pub operate-requires-in-16 : goal.operate-requires-in-16
+operate-requires-in-16 c = c.requires.ready_on.1
 
-pub mod_-requires : goal.mod_-requires
-mod_-requires c = c.requires.ready_on.1
+pub operate-requires-in-17 : goal.operate-requires-in-17
+operate-requires-in-17 c = c.requires.ready_on.1
 
-pub imod-requires : goal.imod-requires
-imod-requires c = c.requires.ready_on.1
+pub operate-requires-in-18 : goal.operate-requires-in-18
+operate-requires-in-18 c = c.requires.ready_on.1
 
-pub inc-requires : goal.inc-requires
-inc-requires c = c.requires.ready_on.1
+pub bump-requires : goal.bump-requires
+bump-requires c = c.requires.ready_on.1
 
-pub dec-requires : goal.dec-requires
-dec-requires c = c.requires.ready_on.1
+pub bump-requires-in-21 : goal.bump-requires-in-21
+bump-requires-in-21 c = c.requires.ready_on.1
 
 pub single-requires : goal.single-requires
 single-requires c = record { known = (c.requires.known.0, c.requires.known.1, c.in_default.in_default-own.rest); computable = c.requires.ready_on.1 }
@@ -66,34 +66,34 @@ pub returns-in-10 : goal.returns-in-10
 returns-in-10 c = alone _ 10 _ _ _ _ _ _ _ (Two Swap) c.in-10.is (λ w. refl) refl (λ m. c.swap.ensures m)
 
 pub returns-in-11 : goal.returns-in-11
-returns-in-11 c = alone _ 11 _ _ _ _ _ _ _ (Two (Arith Add)) c.in-11.is (λ w. refl) refl (λ m. c.add.ensures m _)
+returns-in-11 c = alone _ 11 _ _ _ _ _ _ _ (Two (Arith Add)) c.in-11.is (λ w. refl) refl (λ m. c.operate.ensures m _)
 
 pub returns-in-12 : goal.returns-in-12
-returns-in-12 c = alone _ 12 _ _ _ _ _ _ _ (Two (Arith Sub)) c.in-12.is (λ w. refl) refl (λ m. c.sub.ensures m _)
+returns-in-12 c = alone _ 12 _ _ _ _ _ _ _ (Two (Arith Sub)) c.in-12.is (λ w. refl) refl (λ m. c.operate-in-12.ensures m _)
 
 pub returns-in-13 : goal.returns-in-13
-returns-in-13 c = alone _ 13 _ _ _ _ _ _ _ (Two (Arith Mul)) c.in-13.is (λ w. refl) refl (λ m. c.mul.ensures m _)
+returns-in-13 c = alone _ 13 _ _ _ _ _ _ _ (Two (Arith Mul)) c.in-13.is (λ w. refl) refl (λ m. c.operate-in-13.ensures m _)
 
 pub returns-in-14 : goal.returns-in-14
-returns-in-14 c = alone _ 14 _ _ _ _ _ _ _ (Two (Arith Imul)) c.in-14.is (λ w. refl) refl (λ m. c.imul.ensures m _)
+returns-in-14 c = alone _ 14 _ _ _ _ _ _ _ (Two (Arith Imul)) c.in-14.is (λ w. refl) refl (λ m. c.operate-in-14.ensures m _)
 
 pub returns-in-15 : goal.returns-in-15
-returns-in-15 c = alone _ 15 _ _ _ _ _ _ _ (Two (Arith Div)) c.in-15.is (λ w. refl) refl (λ m. c.div.ensures m _)
+returns-in-15 c = alone _ 15 _ _ _ _ _ _ _ (Two (Arith Div)) c.in-15.is (λ w. refl) refl (λ m. c.operate-in-15.ensures m _)
 
 pub returns-in-16 : goal.returns-in-16
-returns-in-16 c = alone _ 16 _ _ _ _ _ _ _ (Two (Arith Idiv)) c.in-16.is (λ w. refl) refl (λ m. c.idiv.ensures m _)
+returns-in-16 c = alone _ 16 _ _ _ _ _ _ _ (Two (Arith Idiv)) c.in-16.is (λ w. refl) refl (λ m. c.operate-in-16.ensures m _)
 
 pub returns-in-17 : goal.returns-in-17
-returns-in-17 c = alone _ 17 _ _ _ _ _ _ _ (Two (Arith Mod)) c.in-17.is (λ w. refl) refl (λ m. c.mod_.ensures m _)
+returns-in-17 c = alone _ 17 _ _ _ _ _ _ _ (Two (Arith Mod)) c.in-17.is (λ w. refl) refl (λ m. c.operate-in-17.ensures m _)
 
 pub returns-in-18 : goal.returns-in-18
-returns-in-18 c = alone _ 18 _ _ _ _ _ _ _ (Two (Arith Imod)) c.in-18.is (λ w. refl) refl (λ m. c.imod.ensures m _)
+returns-in-18 c = alone _ 18 _ _ _ _ _ _ _ (Two (Arith Imod)) c.in-18.is (λ w. refl) refl (λ m. c.operate-in-18.ensures m _)
 
 pub returns-in-20 : goal.returns-in-20
-returns-in-20 c = through _ 20 _ _ _ _ _ _ _ (Bump true) c.in-20.is (λ w. refl) refl (λ m. c.inc.ensures m _)
+returns-in-20 c = through _ 20 _ _ _ _ _ _ _ (Bump true) c.in-20.is (λ w. refl) refl (λ m. c.bump.ensures m _)
 
 pub returns-in-21 : goal.returns-in-21
-returns-in-21 c = through _ 21 _ _ _ _ _ _ _ (Bump false) c.in-21.is (λ w. refl) refl (λ m. c.dec.ensures m _)
+returns-in-21 c = through _ 21 _ _ _ _ _ _ _ (Bump false) c.in-21.is (λ w. refl) refl (λ m. c.bump-in-21.ensures m _)
 
 pub returns-in_default : goal.returns-in_default
 returns-in_default c = c.single.ensures _

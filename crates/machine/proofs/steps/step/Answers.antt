@@ -21,23 +21,23 @@ lea-requires c = record { ready = c.requires.ready.0; place_lt_stop = (c.require
 pub jmp-requires : goal.jmp-requires
 jmp-requires c = record { packed = (c.requires.packed.0, c.requires.packed.1); place_in_bounds = (wide_room _ _ _ c.requires.place_lt_stop.1 32 Jmp c.in-32.is (λ w. refl) (λ w. refl), omega (arith, c.requires.ready.0.words)) }
 
-pub je-requires : goal.je-requires
-je-requires c = record { packed = (c.requires.packed.0, c.requires.packed.1); place_in_bounds = (wide_room _ _ _ c.requires.place_lt_stop.1 33 (Branch Je) c.in-33.is (λ w. refl) (λ w. refl), (_, c.requires.ready.0), c.requires.place_lt_stop.0) }
+pub branch-file-requires : goal.branch-file-requires
+branch-file-requires c = record { packed = (c.requires.packed.0, c.requires.packed.1); place_in_bounds = (wide_room _ _ _ c.requires.place_lt_stop.1 33 (Branch Je) c.in-33.is (λ w. refl) (λ w. refl), (_, c.requires.ready.0), c.requires.place_lt_stop.0) }
 
-pub jne-requires : goal.jne-requires
-jne-requires c = record { packed = (c.requires.packed.0, c.requires.packed.1); place_in_bounds = (wide_room _ _ _ c.requires.place_lt_stop.1 34 (Branch Jne) c.in-34.is (λ w. refl) (λ w. refl), (_, c.requires.ready.0), c.requires.place_lt_stop.0) }
+pub branch-file-requires-in-34 : goal.branch-file-requires-in-34
+branch-file-requires-in-34 c = record { packed = (c.requires.packed.0, c.requires.packed.1); place_in_bounds = (wide_room _ _ _ c.requires.place_lt_stop.1 34 (Branch Jne) c.in-34.is (λ w. refl) (λ w. refl), (_, c.requires.ready.0), c.requires.place_lt_stop.0) }
 
-pub ja-requires : goal.ja-requires
-ja-requires c = record { packed = (c.requires.packed.0, c.requires.packed.1); place_in_bounds = (wide_room _ _ _ c.requires.place_lt_stop.1 35 (Branch Ja) c.in-35.is (λ w. refl) (λ w. refl), (_, c.requires.ready.0), c.requires.place_lt_stop.0) }
+pub branch-file-requires-in-35 : goal.branch-file-requires-in-35
+branch-file-requires-in-35 c = record { packed = (c.requires.packed.0, c.requires.packed.1); place_in_bounds = (wide_room _ _ _ c.requires.place_lt_stop.1 35 (Branch Ja) c.in-35.is (λ w. refl) (λ w. refl), (_, c.requires.ready.0), c.requires.place_lt_stop.0) }
 
-pub jae-requires : goal.jae-requires
-jae-requires c = record { packed = (c.requires.packed.0, c.requires.packed.1); place_in_bounds = (wide_room _ _ _ c.requires.place_lt_stop.1 36 (Branch Jae) c.in-36.is (λ w. refl) (λ w. refl), (_, c.requires.ready.0), c.requires.place_lt_stop.0) }
+pub branch-file-requires-in-36 : goal.branch-file-requires-in-36
+branch-file-requires-in-36 c = record { packed = (c.requires.packed.0, c.requires.packed.1); place_in_bounds = (wide_room _ _ _ c.requires.place_lt_stop.1 36 (Branch Jae) c.in-36.is (λ w. refl) (λ w. refl), (_, c.requires.ready.0), c.requires.place_lt_stop.0) }
 
-pub jb-requires : goal.jb-requires
-jb-requires c = record { packed = (c.requires.packed.0, c.requires.packed.1); place_in_bounds = (wide_room _ _ _ c.requires.place_lt_stop.1 37 (Branch Jb) c.in-37.is (λ w. refl) (λ w. refl), (_, c.requires.ready.0), c.requires.place_lt_stop.0) }
+pub branch-file-requires-in-37 : goal.branch-file-requires-in-37
+branch-file-requires-in-37 c = record { packed = (c.requires.packed.0, c.requires.packed.1); place_in_bounds = (wide_room _ _ _ c.requires.place_lt_stop.1 37 (Branch Jb) c.in-37.is (λ w. refl) (λ w. refl), (_, c.requires.ready.0), c.requires.place_lt_stop.0) }
 
-pub jbe-requires : goal.jbe-requires
-jbe-requires c = record { packed = (c.requires.packed.0, c.requires.packed.1); place_in_bounds = (wide_room _ _ _ c.requires.place_lt_stop.1 38 (Branch Jbe) c.in-38.is (λ w. refl) (λ w. refl), (_, c.requires.ready.0), c.requires.place_lt_stop.0) }
+pub branch-file-requires-in-38 : goal.branch-file-requires-in-38
+branch-file-requires-in-38 c = record { packed = (c.requires.packed.0, c.requires.packed.1); place_in_bounds = (wide_room _ _ _ c.requires.place_lt_stop.1 38 (Branch Jbe) c.in-38.is (λ w. refl) (λ w. refl), (_, c.requires.ready.0), c.requires.place_lt_stop.0) }
 
 pub call-requires : goal.call-requires
 call-requires c = record { packed = (c.requires.packed.0, c.requires.packed.1); place_in_bounds = (wide_room _ _ _ c.requires.place_lt_stop.1 39 Call c.in-39.is (λ w. refl) (λ w. refl), c.requires.place_lt_stop.0, (_, (_, c.requires.ready.0))) }
@@ -64,22 +64,22 @@ pub returns-in-32 : goal.returns-in-32
 returns-in-32 c = wide _ _ _ _ _ c.requires.place_lt_stop.1 _ _ _ _ _ _ _ 32 Jmp c.in-32.is (λ w. refl) (λ n. refl) (c.jmp.ensures _ _ _ c.requires.ready.0)
 
 pub returns-in-33 : goal.returns-in-33
-returns-in-33 c = wide _ _ _ _ _ c.requires.place_lt_stop.1 _ _ _ _ _ _ _ 33 (Branch Je) c.in-33.is (λ w. refl) (λ n. refl) (c.je.ensures _ c.requires.ready.0)
+returns-in-33 c = wide _ _ _ _ _ c.requires.place_lt_stop.1 _ _ _ _ _ _ _ 33 (Branch Je) c.in-33.is (λ w. refl) (λ n. refl) (c.branch-file.ensures _ c.requires.ready.0)
 
 pub returns-in-34 : goal.returns-in-34
-returns-in-34 c = wide _ _ _ _ _ c.requires.place_lt_stop.1 _ _ _ _ _ _ _ 34 (Branch Jne) c.in-34.is (λ w. refl) (λ n. refl) (c.jne.ensures _ c.requires.ready.0)
+returns-in-34 c = wide _ _ _ _ _ c.requires.place_lt_stop.1 _ _ _ _ _ _ _ 34 (Branch Jne) c.in-34.is (λ w. refl) (λ n. refl) (c.branch-file-in-34.ensures _ c.requires.ready.0)
 
 pub returns-in-35 : goal.returns-in-35
-returns-in-35 c = wide _ _ _ _ _ c.requires.place_lt_stop.1 _ _ _ _ _ _ _ 35 (Branch Ja) c.in-35.is (λ w. refl) (λ n. refl) (c.ja.ensures _ c.requires.ready.0)
+returns-in-35 c = wide _ _ _ _ _ c.requires.place_lt_stop.1 _ _ _ _ _ _ _ 35 (Branch Ja) c.in-35.is (λ w. refl) (λ n. refl) (c.branch-file-in-35.ensures _ c.requires.ready.0)
 
 pub returns-in-36 : goal.returns-in-36
-returns-in-36 c = wide _ _ _ _ _ c.requires.place_lt_stop.1 _ _ _ _ _ _ _ 36 (Branch Jae) c.in-36.is (λ w. refl) (λ n. refl) (c.jae.ensures _ c.requires.ready.0)
+returns-in-36 c = wide _ _ _ _ _ c.requires.place_lt_stop.1 _ _ _ _ _ _ _ 36 (Branch Jae) c.in-36.is (λ w. refl) (λ n. refl) (c.branch-file-in-36.ensures _ c.requires.ready.0)
 
 pub returns-in-37 : goal.returns-in-37
-returns-in-37 c = wide _ _ _ _ _ c.requires.place_lt_stop.1 _ _ _ _ _ _ _ 37 (Branch Jb) c.in-37.is (λ w. refl) (λ n. refl) (c.jb.ensures _ c.requires.ready.0)
+returns-in-37 c = wide _ _ _ _ _ c.requires.place_lt_stop.1 _ _ _ _ _ _ _ 37 (Branch Jb) c.in-37.is (λ w. refl) (λ n. refl) (c.branch-file-in-37.ensures _ c.requires.ready.0)
 
 pub returns-in-38 : goal.returns-in-38
-returns-in-38 c = wide _ _ _ _ _ c.requires.place_lt_stop.1 _ _ _ _ _ _ _ 38 (Branch Jbe) c.in-38.is (λ w. refl) (λ n. refl) (c.jbe.ensures _ c.requires.ready.0)
+returns-in-38 c = wide _ _ _ _ _ c.requires.place_lt_stop.1 _ _ _ _ _ _ _ 38 (Branch Jbe) c.in-38.is (λ w. refl) (λ n. refl) (c.branch-file-in-38.ensures _ c.requires.ready.0)
 
 pub returns-in-39 : goal.returns-in-39
 returns-in-39 c = wide_or _ _ _ _ _ c.requires.place_lt_stop.1 _ _ _ _ _ _ _ 39 Call c.in-39.is (λ w. refl) (λ n. refl) (c.call.ensures _ _ c.requires.ready.0)

@@ -4,4 +4,4 @@ use lib.ListN.{set}
 use Rattle.nodes.proofs.list.advance.Goals as goal
 
 pub returns : goal.returns
-returns c = ap (λ (n : ℕ). set c.args.marks.now 513 (n + 1)) c.wide-i.ensures
+returns c = ap (λ (n : ℕ). set c.args.marks.now 513 (n + 1)) c.from-i.ensures

@@ -7,10 +7,10 @@ use Rattle.state.specs.Slots.{payloads_with}
 use Rattle.rules.specs.Bytes.{written}
 use Rattle.operands.proofs.pointers.put_back.Goals as goal
 
-pub returns-in-Yields : goal.returns-in-Yields
+pub returns-in-Ok : goal.returns-in-Ok
 unfolding payloads_with
-returns-in-Yields c =
-    rw c.in-Yields.is (
+returns-in-Ok c =
+    rw c.in-Ok.is (
       ap Goes c.moved.ensures,
       (
         c.store64.ensures ∙ ap (written 8 _ _) c.payload_of.ensures,
@@ -19,5 +19,5 @@ returns-in-Yields c =
       ),
     )
 
-pub returns-in-Raises : goal.returns-in-Raises
-returns-in-Raises c = rw c.in-Raises.is (refl, refl)
+pub returns-in-Err : goal.returns-in-Err
+returns-in-Err c = rw c.in-Err.is (refl, refl)

@@ -7,9 +7,9 @@ use Rattle.state.specs.declared.Progress.TheVariants.{Goes}
 use Rattle.state.specs.Slots.{payloads_with, types_with}
 use Rattle.operands.proofs.results.replaced.Goals as goal
 
-pub returns-in-Yields : goal.returns-in-Yields
-returns-in-Yields c =
-    rw c.in-Yields.is (
+pub returns-in-Ok : goal.returns-in-Ok
+returns-in-Ok c =
+    rw c.in-Ok.is (
       (
         ap Goes c.moved.ensures,
         (
@@ -22,5 +22,5 @@ returns-in-Yields c =
           c.slot_of.ensures,
     )
 
-pub returns-in-Raises : goal.returns-in-Raises
-returns-in-Raises c = rw c.in-Raises.is ((refl, refl), refl)
+pub returns-in-Err : goal.returns-in-Err
+returns-in-Err c = rw c.in-Err.is ((refl, refl), refl)

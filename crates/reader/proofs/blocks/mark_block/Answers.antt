@@ -1,5 +1,4 @@
 -- The proof of `reader::blocks::mark_block`.
-use Prim.Native.Nat.{◌-◌}
 use native.Mathlib.Omega.{arith}
 use mathlib.Core.Bool.{true≢false}
 use mathlib.Core.Path.{◌≡◌, refl, sym, ◌∙◌, ap}
@@ -15,14 +14,14 @@ pub returns-then-starts-p-2 : goal.returns-then-starts-p-2
 returns-then-starts-p-2 c = record { starts_after = λ e. absurd (true≢false (sym e)); starts_unchanged = λ e. refl }
 
 pub loop-i-init : goal.loop-i-init
-loop-i-init c = (marks_none _ _, refl, omega arith)
+loop-i-init c = (marks_none _ _, refl)
 
 pub bounds-starts-p : goal.bounds-starts-p
 bounds-starts-p c = omega (arith, c.loop-i.invariant.1)
 
 pub loop-i-preserved : goal.loop-i-preserved
 loop-i-preserved c = let e = marks_next c.args.starts.now c.loop-i.starts c.args.p c.loop-i.i c.loop-i.invariant.0 in
-    (e, ap length e ∙ length_marks _ _ _, omega arith)
+    (e, ap length e ∙ length_marks _ _ _)
 
 pub shape_of-starts : goal.shape_of-starts
 shape_of-starts c = c.loop-i.invariant.1

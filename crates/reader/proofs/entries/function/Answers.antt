@@ -4,7 +4,7 @@ use Rattle.reader.proofs.Records.{function_count_lem, function_in_file, stride_s
 use borrow.Author.Tests.{lt-ltb, le-ltb}
 use mathlib.Core.Path.{refl}
 use native.Mathlib.Omega.{arith}
-use Prim.Native.Nat.{◌+◌, ◌*◌, ◌<◌, ◌≤◌}
+use Prim.Native.Nat.{◌<◌, ◌≤◌}
 use Rattle.reader.proofs.entries.function.Goals as goal
 
 pub returns-then-c-k : goal.returns-then-c-k
@@ -33,12 +33,6 @@ overflow_add-result-2 c = let f = function_in_file c.args.file.now c.args.c (c.r
 pub bounds-file-at : goal.bounds-file-at
 bounds-file-at c = let f = function_in_file c.args.file.now c.args.c (c.requires) c.args.k c.if-c-k.false in let m = stride_small c.args.file.now c.args.c (c.requires) c.args.k c.if-c-k.false in omega arith
 
-pub overflow_cast-result : goal.overflow_cast-result
-overflow_cast-result c = omega (arith, c.shared_slice_known-2-1.given (c.args.c.records + c.args.c.stride * c.args.k + 8))
-
-pub overflow_add-result-3 : goal.overflow_add-result-3
-overflow_add-result-3 c = let f = function_in_file c.args.file.now c.args.c (c.requires) c.args.k c.if-c-k.false in let m = stride_small c.args.file.now c.args.c (c.requires) c.args.k c.if-c-k.false in omega arith
-
 pub bounds-file-at-2 : goal.bounds-file-at-2
 bounds-file-at-2 c = let f = function_in_file c.args.file.now c.args.c (c.requires) c.args.k c.if-c-k.false in let m = stride_small c.args.file.now c.args.c (c.requires) c.args.k c.if-c-k.false in omega arith
 
@@ -46,4 +40,4 @@ pub returns : goal.returns
 unfolding module_of
 returns c = let n = function_count_lem c.args.file.now c.args.c (c.requires) in
     let h : c.args.k < function_count (edition c.args.file.now) (functions_in c.args.file.now) = omega arith in
-    simp (lt-ltb _ _ h) (function_found_lem c.args.file.now c.args.c (c.requires) c.args.k _ _ _ _ c.if-c-k.false c.word-start.ensures.0 c.word-length.ensures.0 refl refl)
+    simp (lt-ltb _ _ h) (function_found_lem c.args.file.now c.args.c (c.requires) c.args.k _ _ _ _ c.if-c-k.false c.word-start.ensures.0 c.word-length.ensures.0 c.from.ensures refl)

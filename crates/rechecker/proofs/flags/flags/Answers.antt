@@ -1,7 +1,6 @@
 use Rattle.rechecker.proofs.Laws.{flagged_none, flagged_more, flags_end, still_ready}
 use Rattle.rules.specs.ModuleFile.{read}
 use lib.ListN.{length, length-set}
-use Prim.Native.Nat.{◌-◌}
 use mathlib.Core.Path.{refl, ap, ◌∙◌}
 use native.Mathlib.Omega.{arith}
 use Rattle.rechecker.proofs.flags.flags.Goals as goal
@@ -14,9 +13,6 @@ judge-typed-requires c = record { ready = (still_ready _ _ _ _ _ c.requires.read
 
 pub set_flag-requires : goal.set_flag-requires
 set_flag-requires c = (omega (arith, c.requires.lends.long, c.loop-i.invariant.3), omega (arith, c.requires.lends.few, c.requires.ready.packed.few_functions))
-
-pub overflow_add-i : goal.overflow_add-i
-overflow_add-i c = omega (arith, c.requires.lends.few, c.requires.ready.packed.few_functions)
 
 pub loop-i-preserved : goal.loop-i-preserved
 loop-i-preserved c = (omega arith, omega arith, c.set_flag.ensures ∙ flagged_more (read _) _ _ c.loop-i.i _ c.loop-i.beside c.loop-i.invariant.0 c.loop-i.invariant.2 c.judge-typed.ensures, ap length c.set_flag.ensures ∙ length-set c.loop-i.beside _ _ ∙ c.loop-i.invariant.3, omega (arith, c.loop-i.invariant.4))

@@ -8,6 +8,3 @@ use Rattle.rechecker.proofs.flags.flags.Given as goal
 
 abbrev pub invariant-loop-i : goal.invariant-loop-i
 invariant-loop-i l = (l.from ≤ l.i) × (l.i ≤ l.to) × (l.beside ≡ flagged (read l.file) l.initial.beside l.from (l.i - l.from)) × (length l.beside ≡ length l.initial.beside) × (length l.room ≡ length l.initial.room)
-
-abbrev pub decreases-loop-i : goal.decreases-loop-i
-decreases-loop-i l = l.to - l.i

@@ -1,10 +1,9 @@
+-- The proof of `rechecker::flags::with_table`.
+use Prim.Native.Nat.{ℕ}
+use native.Mathlib.Omega.{arith}
+use lib.ListN.{length-replicate}
+use Rattle.nodes.proofs.Copies.{zeros_at}
 use Rattle.rechecker.proofs.flags.with_table.Goals as goal
 
-pub fill-requires : goal.fill-requires
-fill-requires c = record { readable = (c.requires.lends.packed, c.requires.lends.readable); extent_in_bounds = (c.requires.extent_in_bounds.0, c.requires.extent_in_bounds.1) }
-
-pub with_small_room-requires : goal.with_small_room-requires
-with_small_room-requires c = record { lends = c.requires.lends; tabled = (c.fill.ensures, c.if-c-lt9.true); keyed = c.requires.keyed }
-
-pub with_large_room-requires : goal.with_large_room-requires
-with_large_room-requires c = record { lends = c.requires.lends; tabled = c.fill.ensures; keyed = c.requires.keyed }
+pub with_places-requires : goal.with_places-requires
+with_places-requires g c = record { lends = c.requires.lends; extent_in_bounds = (omega (arith, length-replicate {A = ℕ} g.row.N 0, c.requires.size.0), zeros_at _); keyed = c.requires.keyed }

@@ -5,4 +5,4 @@ use Rattle.records.proofs.locals.bind.Goals as goal
 pub returns : goal.returns
 returns c =
     let empty = c.empty in
-    binds _ _ _ _ empty.ensures c.requires.1 c.requires.2 c.wide-l.ensures.0
+    binds _ _ _ _ empty.ensures c.requires.1 c.requires.2 c.from-l.ensures

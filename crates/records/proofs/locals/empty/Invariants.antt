@@ -2,8 +2,5 @@
 use Rattle.records.proofs.Edits.{Emptying}
 use Rattle.records.proofs.locals.empty.Given as goal
 
-abbrev pub invariant-loop-n : goal.invariant-loop-n
-invariant-loop-n l = Emptying l.initial.st l.st l.n
-
-abbrev pub decreases-loop-n : goal.decreases-loop-n
-decreases-loop-n l = l.n
+abbrev pub invariant-loop-i : goal.invariant-loop-i
+invariant-loop-i l = Emptying l.initial.st l.st l.i

@@ -7,54 +7,54 @@ use Rattle.records.proofs.locals.store.Goals as goal
 
 pub returns-then-h-lt1 : goal.returns-then-h-lt1
 returns-then-h-lt1 c =
-    store_empty _ _ _ c.requires refl _ _ c.wide-h.ensures.0 c.if-h-lt1.true
+    store_empty _ _ _ c.requires refl _ _ c.from-h.ensures c.if-h-lt1.true
 
 pub returns-then-st-i : goal.returns-then-st-i
 returns-then-st-i c =
-    let wide = c.wide-h in
+    let from = c.from-h in
     let if1 = c.if-h-lt1 in
-    let wide2 = c.wide-l in
+    let from2 = c.from-l in
     let if2 = c.if-i-l in
-    store_differs _ _ _ c.requires wide2.ensures.0 _ _ wide.ensures.0 if1.false if2.true c.if-st-i.true
+    store_differs _ _ _ c.requires from2.ensures _ _ from.ensures if1.false if2.true c.if-st-i.true
 
 pub returns-then-i-l : goal.returns-then-i-l
 returns-then-i-l c =
-    let wide = c.wide-h in
+    let from = c.from-h in
     let if1 = c.if-h-lt1 in
-    let wide2 = c.wide-l in
+    let from2 = c.from-l in
     let if2 = c.if-i-l in
     let if3 = c.if-st-i in
     let pop = c.pop in
-    store_falls _ _ _ c.requires wide2.ensures.0 _ _ wide.ensures.0 if1.false if2.true if3.false _ pop.ensures
+    store_falls _ _ _ c.requires from2.ensures _ _ from.ensures if1.false if2.true if3.false _ pop.ensures
 
 pub returns-then-i-l-2 : goal.returns-then-i-l-2
 returns-then-i-l-2 c =
-    let wide = c.wide-h in
+    let from = c.from-h in
     let if1 = c.if-h-lt1 in
-    let wide2 = c.wide-l in
-    store_beyond _ _ _ c.requires wide2.ensures.0 _ _ wide.ensures.0 if1.false c.if-i-l.false c.if-i-l-2.true
+    let from2 = c.from-l in
+    store_beyond _ _ _ c.requires from2.ensures _ _ from.ensures if1.false c.if-i-l.false c.if-i-l-2.true
 
 pub returns-then-i-gt15 : goal.returns-then-i-gt15
 returns-then-i-gt15 c =
-    let wide = c.wide-h in
+    let from = c.from-h in
     let if1 = c.if-h-lt1 in
-    let wide2 = c.wide-l in
+    let from2 = c.from-l in
     let if2 = c.if-i-l in
-    store_17th _ _ _ c.requires wide2.ensures.0 _ _ wide.ensures.0 if1.false if2.false c.if-i-l-2.false c.if-i-gt15.true
+    store_17th _ _ _ c.requires from2.ensures _ _ from.ensures if1.false if2.false c.if-i-l-2.false c.if-i-gt15.true
 
 pub bind-requires : goal.bind-requires
 bind-requires c =
-    let wide = c.wide-h in
+    let from = c.from-h in
     let if1 = c.if-h-lt1 in
-    (c.requires, omega arith, top_type _ _ wide.ensures.0 c.requires if1.false)
+    (c.requires, omega arith, top_type _ _ from.ensures c.requires if1.false)
 
 pub returns : goal.returns
 returns c =
-    let wide = c.wide-h in
+    let from = c.from-h in
     let if1 = c.if-h-lt1 in
-    let wide2 = c.wide-l in
+    let from2 = c.from-l in
     let if2 = c.if-i-l in
     let if4 = c.if-i-l-2 in
     let if5 = c.if-i-gt15 in
     let bind = c.bind in
-    store_binds _ _ _ c.requires wide2.ensures.0 _ _ wide.ensures.0 if1.false if2.false if4.false if5.false _ bind.ensures
+    store_binds _ _ _ c.requires from2.ensures _ _ from.ensures if1.false if2.false if4.false if5.false _ bind.ensures

@@ -1,6 +1,5 @@
 use native.Mathlib.Omega.{arith}
 use mathlib.Core.Path.{refl, sym, ◌∙◌}
-use Prim.Native.Nat.{◌-◌}
 use Rattle.rules.specs.Tables.{body_of}
 use Rattle.reporter.proofs.Filling.{row_ready, row_room, row_fresh, row_low, row_long, filled_next, next_row}
 use Rattle.reporter.proofs.calls.all.Goals as goal

@@ -1,7 +1,10 @@
+-- The proof of `reporter::report::accepted`.
+use Rattle.reporter.proofs.Settling.{few_rows}
+use native.Mathlib.Omega.{arith}
 use Rattle.reporter.proofs.report.accepted.Goals as goal
 
-pub with_few-requires : goal.with_few-requires
-with_few-requires c = (c.requires.0, c.requires.1, c.if-c-le6.true)
+pub with_calls-requires : goal.with_calls-requires
+with_calls-requires c = record { asks = (c.requires.0, c.requires.1); size = (omega (arith, c.if-c-le6.true), omega arith) }
 
-pub with_many-requires : goal.with_many-requires
-with_many-requires c = (c.requires.0, c.requires.1)
+pub with_calls-requires-2 : goal.with_calls-requires-2
+with_calls-requires-2 c = record { asks = (c.requires.0, c.requires.1); size = (omega (arith, few_rows _ _ _ _ c.requires.0), omega arith) }

@@ -3,11 +3,8 @@ use Rattle.reporter.specs.Told.{row_words}
 use lib.ListN.{length, drop}
 use mathlib.Core.List.{◌++◌}
 use mathlib.Core.Path.{◌≡◌}
-use Prim.Native.Nat.{suc, ◌≤◌, ◌-◌, ◌*◌, ◌+◌}
+use Prim.Native.Nat.{◌*◌}
 use Rattle.reporter.proofs.report.put_words.Given as goal
 
 abbrev pub invariant-loop-b : goal.invariant-loop-b
-invariant-loop-b l = (l.b ≤ suc l.n) × (l.out ≡ row_words l.need l.frames l.b ++ drop (8 * l.b) l.initial.out) × (length l.out ≡ length l.initial.out)
-
-abbrev pub decreases-loop-b : goal.decreases-loop-b
-decreases-loop-b l = suc l.n - l.b
+invariant-loop-b l = (l.out ≡ row_words l.need l.frames l.b ++ drop (8 * l.b) l.initial.out) × (length l.out ≡ length l.initial.out)

@@ -1,6 +1,0 @@
-use native.Mathlib.Omega.{arith}
-use Rattle.nodes.proofs.Copies.{zeros_at}
-use Rattle.checker.proofs.with_large_table.Goals as goal
-
-pub check_with-requires : goal.check_with-requires
-check_with-requires c = record { packed = (c.requires.packed.0, c.requires.packed.1, c.requires.packed.2); extent_in_bounds = (omega (arith, c.requires.packed.0.little_code), zeros_at 16385); keyed = c.requires.keyed }

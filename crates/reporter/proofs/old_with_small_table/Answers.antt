@@ -1,9 +1,0 @@
-use Rattle.checker.proofs.Lent.{part_long, lent_first}
-use native.Mathlib.Omega.{arith}
-use Rattle.reporter.proofs.old_with_small_table.Goals as goal
-
-pub translate-requires : goal.translate-requires
-translate-requires c = omega (arith, part_long _ _ c.requires.checkable.0.packed c.requires.file_value, c.requires.checkable.1)
-
-pub with_small_table-requires : goal.with_small_table-requires
-with_small_table-requires c = record { checkable = (c.requires.checkable.0, c.requires.checkable.1); keyed = lent_first _ _ c.requires.checkable.0.packed c.requires.checkable.0.readable c.requires.file_value _ c.translate.ensures }
