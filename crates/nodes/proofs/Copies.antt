@@ -1,17 +1,47 @@
 -- Loops over the bytes of a record: copied, compared, zeroed; and the other records of the room.
 use Prim.Native.Nat.{ℕ, zero, suc, ◌+◌, ◌*◌, ◌-◌, ◌≤◌, ◌<◌}
 use mathlib.Core.Path.{◌≡◌, refl, ap, ◌∙◌, sym}
+use mathlib.Core.Bool.{Bool, true, false, ◌&&◌}
 use mathlib.Core.List.{List, ◌++◌, append_assoc}
 use mathlib.Core.Logic.{◌≢◌}
 use native.Mathlib.Omega.{arith}
 use lib.ListN.{get_or, length, take, drop, replicate, length-drop, length-replicate, take-append-drop}
-use lib.Seq.{paste, take-take, take-add, length-take-le, take-length, drop-drop, drop-paste, drop_at, take_at, drop-append-le, take-append-le}
-use lib.Dec.{ltb}
-use Rattle.soundness.specs.Tests.{decide, ltb_is, ltb_isnt}
+use lib.Seq.{paste, ext_get_or, get_or-take, get_or-drop, take-take, take-add, length-take-le, take-length, drop-drop, drop-paste, drop_at, take_at, drop-append-le, take-append-le}
+use lib.Dec.{eqb, ltb}
+use Rattle.soundness.specs.Tests.{decide, false_true, eqb_is, eqb_isnt, ltb_is, ltb_isnt}
 use Rattle.nodes.specs.Nodes.{record_of}
 
 pub length_part : (room : List ℕ) (at : ℕ) → at + 64 ≤ length room → length (take 64 (drop at room)) ≡ 64
 length_part room at h = let e : length (drop at room) ≡ length room - at = length-drop at room in length-take-le 64 (drop at room) (omega arith)
+
+-- ---- compared
+
+-- what i turns of the comparison say
+pub record Compared (room st : List ℕ) (at i : ℕ) (same : Bool) : Type 0 where
+  pub alike : same ≡ true → (j : ℕ) → j < i → get_or room (at + j) 0 ≡ get_or st j 0
+  pub apart : same ≡ false → (j : ℕ) × (j < i) × (get_or room (at + j) 0 ≢ get_or st j 0)
+
+pub compare_none : (room st : List ℕ) (at : ℕ) → Compared room st at 0 true
+compare_none room st at = record { alike = λ e j h. absurd (omega arith); apart = λ e. false_true (sym e) }
+
+pub compare_more : (room st : List ℕ) (at i : ℕ) (same : Bool) → Compared room st at i same → Compared room st at (i + 1) (same && eqb (get_or room (at + i) 0) (get_or st i 0))
+compare_more room st at i false c = record { alike = λ e j h. false_true e; apart = λ e. let x : (j : ℕ) × (j < i) × (get_or room (at + j) 0 ≢ get_or st j 0) = c.apart refl in (x.0, (let y : x.0 < i = x.1 in omega arith), x.2) }
+compare_more room st at i true c =
+    record {
+      alike = λ e j h. decide (ltb j i) (λ y. c.alike refl j (ltb_is j i y)) (λ y. let w : i ≤ j = ltb_isnt j i y in let q : j ≡ i = omega arith in rw q (eqb_is (get_or room (at + i) 0) (get_or st i 0) e));
+      apart = λ e. (i, omega arith, eqb_isnt (get_or room (at + i) 0) (get_or st i 0) e);
+    }
+
+pub same_bytes : (room st : List ℕ) (at i : ℕ) → 64 ≤ i → at + 64 ≤ length room → length st ≡ 64 → Compared room st at i true → take 64 (drop at room) ≡ st
+same_bytes room st at i g h l c =
+    ext_get_or 0 (take 64 (drop at room)) st (length_part room at h ∙ sym l)
+    (λ j b. let e : length (take 64 (drop at room)) ≡ 64 = length_part room at h in get_or-take 64 (drop at room) j 0 (omega arith) ∙ get_or-drop at room j 0 ∙ c.alike refl j (omega arith))
+
+pub other_bytes : (room st : List ℕ) (at i : ℕ) → i ≤ 64 → Compared room st at i false → take 64 (drop at room) ≡ st → ⊥
+other_bytes room st at i g c e =
+    let x : (j : ℕ) × (j < i) × (get_or room (at + j) 0 ≢ get_or st j 0) = c.apart refl in
+    let b : x.0 < i = x.1 in
+    x.2 (sym (get_or-take 64 (drop at room) x.0 0 (omega arith) ∙ get_or-drop at room x.0 0) ∙ ap (λ (y : List ℕ). get_or y x.0 0) e)
 
 -- ---- zeroed
 
