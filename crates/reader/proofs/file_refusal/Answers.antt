@@ -1,9 +1,10 @@
 -- The proof of `reader::file_refusal`.
-use Rattle.reader.proofs.Opening.{sixth, from_bodies, seventh, from_code, functions_lent_lem, third_rows}
+use Rattle.reader.proofs.Opening.{sixth, from_bodies, seventh, from_code, from_code_alone, functions_lent_lem, third_rows}
 use Rattle.reader.proofs.Bodies.{filled_of}
-use Rattle.reader.proofs.Records.{few_rest, old_pool, structures_rest, lent_tables, lent_fits, lent_count}
-use Rattle.rules.specs.ModuleFile.{structures_in}
-use mathlib.Core.Path.{refl, sym, ◌∙◌}
+use Rattle.reader.proofs.Records.{few_rest, old_pool, structures_rest, labels_length, lent_tables, lent_fits, lent_count}
+use Rattle.rules.specs.Tables.{Tables, label_count}
+use Rattle.rules.specs.ModuleFile.{structures_in, labels_in}
+use mathlib.Core.Path.{◌≡◌, refl, sym, ap, ◌∙◌}
 use native.Mathlib.Omega.{arith}
 use Rattle.reader.proofs.file_refusal.Goals as goal
 
@@ -30,6 +31,16 @@ bad_records-seventh-requires c = let third = (sym c.word-edition.ensures.0 ∙ c
 
 pub returns-then-seventh : goal.returns-then-seventh
 returns-then-seventh c = let third = (sym c.word-edition.ensures.0 ∙ c.if-edition-ne3.false) in third_rows c.args.file.now c.args.c c.requires.0 third _ c.bad_constants-sixth.ensures c.if-sixth.false _ (seventh _ _ _ _ _ _ _ (functions_lent_lem c.args.file.now c.args.c c.requires.0 third _ c.bad_records-seventh.ensures) c.if-seventh.true)
+
+pub without_labels-requires : goal.without_labels-requires
+without_labels-requires c = let third = (sym c.word-edition.ensures.0 ∙ c.if-edition-ne3.false) in (filled_of _ _ _ 3 _ (structures_in c.args.file.now) (lent_count c.args.file.now c.args.c c.requires.0 3 (sym third)) (lent_fits c.args.file.now c.args.c c.requires.0 3 (sym third)) (sym (functions_lent_lem c.args.file.now c.args.c c.requires.0 third _ c.bad_records-seventh.ensures) ∙ c.if-seventh.false), refl)
+
+pub returns-then-c-eq0 : goal.returns-then-c-eq0
+returns-then-c-eq0 c = let third = (sym c.word-edition.ensures.0 ∙ c.if-edition-ne3.false) in
+    let lent = lent_tables c.args.file.now c.args.c c.requires.0 3 48 (structures_in c.args.file.now) (sym third) (old_pool c.args.file.now c.args.c c.requires.0 c.requires.1) refl in
+    let read : label_count (labels_in c.args.file.now) ≡ 0 = omega (arith, labels_length c.args.file.now c.args.c c.requires.0, c.if-c-eq0.true) in
+    let none = ap (λ (t : Tables). label_count t.labels) lent ∙ read in
+    third_rows c.args.file.now c.args.c c.requires.0 third _ c.bad_constants-sixth.ensures c.if-sixth.false _ (from_code_alone _ _ _ _ _ _ _ (functions_lent_lem c.args.file.now c.args.c c.requires.0 third _ c.bad_records-seventh.ensures) c.if-seventh.false _ none c.without_labels.ensures)
 
 pub sized_refusal-requires : goal.sized_refusal-requires
 sized_refusal-requires c = let third = (sym c.word-edition.ensures.0 ∙ c.if-edition-ne3.false) in (filled_of _ _ _ 3 _ (structures_in c.args.file.now) (lent_count c.args.file.now c.args.c c.requires.0 3 (sym third)) (lent_fits c.args.file.now c.args.c c.requires.0 3 (sym third)) (sym (functions_lent_lem c.args.file.now c.args.c c.requires.0 third _ c.bad_records-seventh.ensures) ∙ c.if-seventh.false), refl)
