@@ -2,7 +2,8 @@
 use Prim.Native.Nat.{ℕ, ◌+◌, ◌-◌, ◌≤◌, ◌<◌}
 use native.Mathlib.Omega.{arith}
 use mathlib.Core.Path.{◌≡◌, refl, sym, ap, ◌∙◌, subst}
-use Rattle.std.specs.Prelude.{Ok, Err}
+use Rattle.std.specs.Prelude.{IfOk, Ok, Err}
+use Rattle.std.specs.declared.result.Result.{Result}
 use mathlib.Core.Bool.{Bool, true, false, cond}
 use mathlib.Core.List.{List, [], ◌∷◌}
 use lib.Dec.{eqb, ltb}
@@ -16,7 +17,7 @@ use Rattle.format.specs.Layout.{sections_of, header_tests, Packed, bad_table}
 use Rattle.format.proofs.Editions.{functions_third}
 use Rattle.format.proofs.Rows.{Header, header_of_lem, packed_of, first_hit, first_none}
 use Rattle.rules.specs.declared.Refusal.{Refusal}
-use Rattle.rules.specs.Results.{refusal_number}
+use Rattle.rules.specs.Results.{refusal_number, refused}
 use Rattle.reader.specs.Answers.{code_tests, functions_tests, bodies_tests, Opens}
 use Rattle.reader.proofs.Bodies.{same_code, same_labels}
 use Rattle.reader.proofs.Records.{none_declared, old_pool, lent_tables}
@@ -40,6 +41,11 @@ module _ (s : List ℕ) (e : Refusal) where
 
 pub not_refused : (s : List ℕ) → Header s → 0 ≡ first_of 6 (content_tests (tables_in s)) → (c : Sections) → c ≡ sections_of s → Opens s (Ok c)
 not_refused s k p c g = (sym (p ∙ later s k), g)
+
+-- either, by the number of rows 6 to 9
+pub opens : (s : List ℕ) → Header s → (r : Result Sections Refusal) → refused r ≡ first_of 6 (content_tests (tables_in s)) → IfOk r (λ x. x ≡ sections_of s) → Opens s r
+opens s k (Ok c) p g = not_refused s k p c g
+opens s k (Err e) p g = refused_later s e k p
 
 -- ---- the header by edition
 
