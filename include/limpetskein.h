@@ -426,7 +426,7 @@ uint32_t limpetskein_write(uint32_t edition, const uint8_t *constants, size_t co
  *                 the quotient), or stops with 24 where any quotient in the line is by zero.
  *
  * Brackets are read at most 16 deep, whatever the line is. The most of the thread's stack that was measured for a call
- * is 7,676 bytes, for 256 bytes at depth 16; the tests refuse over 32 KB.
+ * is 6,284 bytes, for 256 bytes at depth 16; the tests refuse over 32 KB.
  */
 uint32_t limpetskein_formula(const uint8_t *line, size_t line_len, uint8_t *out, size_t out_len, uint64_t *written);
 

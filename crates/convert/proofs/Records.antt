@@ -1,31 +1,15 @@
 -- Bytes put by numbers, and function records of the other edition, one by one, behind those that stand there.
-use Prim.Native.Nat.{ℕ, zero, suc, ◌+◌, ◌-◌, ◌*◌, ◌≤◌}
+use Prim.Native.Nat.{ℕ, zero, suc, ◌+◌, ◌*◌, ◌≤◌}
 use native.Mathlib.Numerals.{add-one}
 use native.Mathlib.Omega.{arith}
-use mathlib.Core.Path.{◌≡◌, refl, sym, ap, ◌∙◌}
+use mathlib.Core.Path.{◌≡◌, refl, ap, ◌∙◌}
 use mathlib.Core.List.{List, ◌++◌, append_assoc, append-nil}
-use lib.ListN.{length, take, drop, length-append, length-drop, drop_of_length-le}
-use lib.Seq.{take_at, drop_at, drop-drop}
-use Rattle.rules.specs.Bytes.{bytes, cut, written, zeros}
+use lib.ListN.{length, drop, length-append, drop_of_length-le}
+use Rattle.rules.specs.Bytes.{cut, written, zeros}
 use Rattle.rules.specs.Converting.{raised, lowered}
 use Rattle.soundness.specs.Cutting.{length_cut}
+use Rattle.writer.proofs.Copying.{behind, kept, word_behind}
 use Rattle.convert.specs.Rows.{record_put}
-
--- P stands at the front of what was `out`: m bytes more behind it
-behind : (o P new out : List ℕ) (a m : ℕ) → o ≡ P ++ drop a out → length P ≡ a → take a o ++ (new ++ drop (a + m) o) ≡ (P ++ new) ++ drop (a + m) out
-behind o P new out a m q h =
-    let front : take a o ≡ P = ap (take a) q ∙ take_at P (drop a out) a h in
-    let rest : drop (a + m) o ≡ drop (a + m) out = sym (drop-drop m a o) ∙ ap (drop m) (ap (drop a) q ∙ drop_at P (drop a out) a h) ∙ drop-drop m a out in
-    rw (front, rest) (sym (append_assoc P new (drop (a + m) out)))
-
--- what is put keeps the length
-kept : (o P out : List ℕ) (a : ℕ) → o ≡ P ++ drop a out → length P ≡ a → a ≤ length out → length o ≡ length out
-kept o P out a q h l = let x : length (drop a out) ≡ length out - a = length-drop a out in omega (arith, ap length q, length-append P (drop a out))
-
--- a number stored behind it
-word_behind : (o P out : List ℕ) (a m v : ℕ) (new : List ℕ) → o ≡ P ++ drop a out → length P ≡ a → bytes m v ≡ new → written m o a v ≡ (P ++ new) ++ drop (a + m) out
-unfolding written
-word_behind o P out a m v new q h e = ap (λ (x : List ℕ). take a o ++ (x ++ drop (a + m) o)) e ∙ behind o P new out a m q h
 
 -- ---- records of edition 4
 

@@ -147,13 +147,13 @@ fn put_fourth(file: &[u8], c: Sections, out: &mut [u8])
         0,
         c.entry,
     );
-    out[56..functions_at].copy_from_slice(&file[48..records]);
+    writer::put_section(&mut out[56..functions_at], &file[48..records]);
     raise(
         &mut out[functions_at..labels_at],
         &file[records..targets],
         n,
     );
-    out[labels_at..end].copy_from_slice(&file[targets..]);
+    writer::put_section(&mut out[labels_at..end], &file[targets..]);
 }
 
 // Writes the module of edition 3, likewise.
@@ -177,13 +177,13 @@ fn put_third(file: &[u8], c: Sections, out: &mut [u8])
         0,
         c.entry,
     );
-    out[48..functions_at].copy_from_slice(&file[56..records]);
+    writer::put_section(&mut out[48..functions_at], &file[56..records]);
     lower(
         &mut out[functions_at..labels_at],
         &file[records..targets],
         n,
     );
-    out[labels_at..end].copy_from_slice(&file[targets..]);
+    writer::put_section(&mut out[labels_at..end], &file[targets..]);
 }
 
 // The module of edition 4, if the output is long enough.

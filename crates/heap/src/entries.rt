@@ -40,8 +40,17 @@ pub fn width(d: &[u8], listed: u64) -> usize
 pub fn size_of(d: &[u8], n: u64) -> usize
     ensures { (result ≡ size_in d.now n) × (result < 256) }
 {
+    // One by one: of these tests the compiler makes one of a bit, of a match on the three it does not.
+    if n == 3 {
+        return 1;
+    }
+    if n == 4 {
+        return 1;
+    }
+    if n == 6 {
+        return 1;
+    }
     match n {
-        3 | 4 | 6 => 1,
         10..=25 => usize::from(memory::load8_padded(d, 12 * (n as usize - 10))),
         _ => 0,
     }

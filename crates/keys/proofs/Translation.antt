@@ -1,14 +1,14 @@
 -- The table of edition 1 against what the code tests, by computing all 256 bytes; and the walk that puts code in keys.
 use Prim.Native.Nat.{ℕ, zero, suc, ◌+◌, ◌-◌, ◌/◌, ◌%◌, ◌^◌, ◌≤◌, ◌<◌}
 use native.Mathlib.Nat.{eq-or-lt_of_le}
-use native.Mathlib.Numerals.{add-one, add-two, add-three}
+use native.Mathlib.Numerals.{add-one}
 use native.Mathlib.Omega.{arith}
 use mathlib.Core.Path.{◌≡◌, refl, sym, ap, ◌∙◌, subst}
 use mathlib.Core.Logic.{⊎_elim}
 use mathlib.Core.Bool.{false, cond}
-use mathlib.Core.List.{List, [], ◌∷◌, ◌++◌, append_assoc}
-use lib.ListN.{length, set, length-set, get_or, take, drop}
-use lib.Seq.{get_or-set_same, get_or-set_other, drop-cons, drop-drop, sets-eq}
+use mathlib.Core.List.{List}
+use lib.ListN.{length, set, length-set}
+use lib.Seq.{get_or-set_same, get_or-set_other}
 use lib.Dec.{ltb, eqb}
 use Rattle.rules.specs.Bytes.{byte, some_below}
 use Rattle.rules.specs.Instructions.{Opcode, absent, bare, wide, edition1, opcode_of, operand_bytes}
@@ -92,24 +92,6 @@ pub no_word : (o : Opcode) (d : ℕ) → d ≡ operand_bytes o → (d ≡ 4 → 
 no_word absent d e n = e
 no_word (bare i) d e n = e
 no_word (wide i) d e n = absurd (n e)
-
--- four bytes of the code in the place of those of `own`, as they are copied and as they are set one by one
-four : (code : List ℕ) (p : ℕ) → p + 4 ≤ length code
-    → take 4 (drop p code) ≡ get_or code p 0 ∷ get_or code (suc p) 0 ∷ get_or code (suc (suc p)) 0 ∷ get_or code (suc (suc (suc p))) 0 ∷ []
-four code p h =
-    let a = drop-cons code p 0 (omega arith) in
-    let b = drop-cons code (suc p) 0 (omega arith) in
-    let c = drop-cons code (suc (suc p)) 0 (omega arith) in
-    let d = drop-cons code (suc (suc (suc p))) 0 (omega arith) in
-    rw (a, b, c, d) refl
-
-pub copied_word : (code own : List ℕ) (p : ℕ) → p + 4 ≤ length code → p + 4 ≤ length own
-    → take p own ++ (take 4 (drop p code) ++ drop 4 (drop p own)) ≡ with_word code own p
-copied_word code own p h l =
-    let xs : List ℕ = get_or code p 0 ∷ get_or code (suc p) 0 ∷ get_or code (suc (suc p)) 0 ∷ get_or code (suc (suc (suc p))) 0 ∷ [] in
-    let e = sets-eq xs own p l ∙ append_assoc (take p own) xs (drop (p + 4) own) in
-    ap (λ (x : List ℕ). take p own ++ (take 4 (drop p code) ++ x)) (drop-drop 4 p own)
-    ∙ ap (λ (x : List ℕ). take p own ++ (x ++ drop (p + 4) own)) (four code p h) ∙ sym e ∙ rw (add-one, add-two, add-three) refl
 
 -- a word behind its opcode
 pub word_copied : (code own₀ own : List ℕ) (p : ℕ) → Translating code own₀ own p 4 → length code ≤ length own₀ → p + 4 ≤ length code

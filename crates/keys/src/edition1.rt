@@ -61,6 +61,22 @@ fn in_keys(due: u32, b: u8) -> u8
     b
 }
 
+// Four bytes from p on, as they are. All are read before one is written: so the compiler copies them at once, as it does not with the
+// library's copy.
+fn copy_word(code: &[u8], own: &mut [u8], p: usize)
+    requires { (p + 4 ≤ length code.now) × (p + 4 ≤ length own.old) }
+    ensures { own.new ≡ with_word code.now own.old p }
+{
+    let w = code[p];
+    let x = code[p + 1];
+    let y = code[p + 2];
+    let z = code[p + 3];
+    own[p] = w;
+    own[p + 1] = x;
+    own[p + 2] = y;
+    own[p + 3] = z;
+}
+
 // Puts the code in keys into lent bytes: by instruction where a whole one is left for certain, then byte by byte.
 pub fn translate(code: &[u8], own: &mut [u8])
     requires { length code.now ≤ length own.old }
@@ -75,7 +91,7 @@ pub fn translate(code: &[u8], own: &mut [u8])
         let operands = due_after(0, b);
         p += 1;
         if operands == 4 {
-            own[p..p + 4].copy_from_slice(&code[p..p + 4]);
+            copy_word(code, own, p);
             p += 4;
         }
     }

@@ -2,21 +2,22 @@
 use Prim.Native.Nat.{ℕ, ◌+◌, ◌-◌, ◌≤◌, ◌<◌}
 use native.Mathlib.Omega.{arith}
 use mathlib.Core.Path.{◌≡◌, refl, sym, ap, ◌∙◌, subst}
-use Rattle.std.specs.Prelude.{Ok, Err}
+use Rattle.std.specs.Prelude.{IfOk, Ok, Err}
+use Rattle.std.specs.declared.result.Result.{Result}
 use mathlib.Core.Bool.{Bool, true, false, cond}
 use mathlib.Core.List.{List, [], ◌∷◌}
 use lib.Dec.{eqb, ltb}
 use lib.ListN.{length, take, drop}
 use borrow.Author.Tests.{lt-ltb, ne_eqb, ltb-false}
 use Rattle.rules.specs.Bytes.{some_below}
-use Rattle.rules.specs.Tables.{function_size, Bodies, bodies, Tables, header_size, structure_count, first_of, content_tests, bad_constants, bad_structures, bad_functions, bad_code, bad_labels}
+use Rattle.rules.specs.Tables.{function_size, Bodies, bodies, Tables, header_size, label_count, structure_count, first_of, content_tests, bad_constants, bad_structures, bad_functions, bad_code, bad_labels}
 use Rattle.rules.specs.ModuleFile.{edition, constants_at, structures, structures_in, refusal, tables_in}
 use Rattle.format.specs.declared.Sections.{Sections}
 use Rattle.format.specs.Layout.{sections_of, header_tests, Packed, bad_table}
 use Rattle.format.proofs.Editions.{functions_third}
 use Rattle.format.proofs.Rows.{Header, header_of_lem, packed_of, first_hit, first_none}
 use Rattle.rules.specs.declared.Refusal.{Refusal}
-use Rattle.rules.specs.Results.{refusal_number}
+use Rattle.rules.specs.Results.{refusal_number, refused}
 use Rattle.reader.specs.Answers.{code_tests, functions_tests, bodies_tests, Opens}
 use Rattle.reader.proofs.Bodies.{same_code, same_labels}
 use Rattle.reader.proofs.Records.{none_declared, old_pool, lent_tables}
@@ -40,6 +41,11 @@ module _ (s : List ℕ) (e : Refusal) where
 
 pub not_refused : (s : List ℕ) → Header s → 0 ≡ first_of 6 (content_tests (tables_in s)) → (c : Sections) → c ≡ sections_of s → Opens s (Ok c)
 not_refused s k p c g = (sym (p ∙ later s k), g)
+
+-- either, by the number of rows 6 to 9
+pub opens : (s : List ℕ) → Header s → (r : Result Sections Refusal) → refused r ≡ first_of 6 (content_tests (tables_in s)) → IfOk r (λ x. x ≡ sections_of s) → Opens s r
+opens s k (Ok c) p g = not_refused s k p c g
+opens s k (Err e) p g = refused_later s e k p
 
 -- ---- the header by edition
 
@@ -72,6 +78,19 @@ module _ (s : List ℕ) (c : Sections) (opened : Opens s (Ok c)) where
 
 -- ---- rows 6 to 9, one after the other
 
+-- no label, no row 9
+no_labels : (B : Bodies) (ls : List ℕ) → label_count ls ≡ 0 → bad_labels B ls ≡ false
+unfolding bad_labels some_below
+no_labels B ls h = rw h refl
+
+no_ninth : (B : Bodies) (ls : List ℕ) → label_count ls ≡ 0 → first_of 8 (bad_code B ∷ []) ≡ first_of 8 (code_tests B ls)
+unfolding first_of
+no_ninth B ls h = rw (no_labels B ls h) (go (bad_code B))
+  where
+    go : (b : Bool) → first_of 8 (b ∷ []) ≡ first_of 8 (b ∷ false ∷ [])
+    go true = refl
+    go false = refl
+
 -- rows 7 to 9; no structure is looked at in rows 8 and 9
 module _ (e : ℕ) (fs zs code : List ℕ) (m : ℕ) (ls : List ℕ) (b₇ : Bool) (e₇ : b₇ ≡ bad_functions (bodies e fs zs code m)) where
   same_rows : first_of 8 (code_tests (bodies e fs [] code m) ls) ≡ first_of 8 (code_tests (bodies e fs zs code m) ls)
@@ -87,6 +106,9 @@ module _ (e : ℕ) (fs zs code : List ℕ) (m : ℕ) (ls : List ℕ) (b₇ : Boo
     pub from_code : n ≡ first_of 8 (code_tests (bodies e fs [] code m) ls) → n ≡ first_of 7 (functions_tests (bodies e fs zs code m) ls)
     unfolding first_of
     from_code h = simp (← e₇, good₇) (h ∙ same_rows)
+
+    pub from_code_alone : label_count ls ≡ 0 → n ≡ first_of 8 (bad_code (bodies e fs [] code m) ∷ []) → n ≡ first_of 7 (functions_tests (bodies e fs zs code m) ls)
+    from_code_alone l h = from_code (h ∙ no_ninth (bodies e fs [] code m) ls l)
 
 -- row 6 of structures
 module _ (B : Bodies) (ls : List ℕ) (b₆ : Bool) (e₆ : b₆ ≡ bad_structures B.structures) where

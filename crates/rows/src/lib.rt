@@ -170,7 +170,7 @@ fn clear_slots(height: usize, cap: usize, p: &mut [u8], t: &mut [u8])
     requires { (cap ≡ slots_in p.old t.old) × (height ≤ cap) }
     ensures { lent_of p.new t.new ≡ lent_after (slots_of p.old t.old height) (lent_of p.old t.old) }
 {
-    let _answer = runs::close(None, 0, height, cap, p, t);
+    runs::close(0, height, cap, p, t);
 }
 
 // Each row, the first of which is admitted, on code that is lent in keys.

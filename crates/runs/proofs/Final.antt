@@ -6,6 +6,7 @@ use mathlib.Core.List.{List, [], ◌∷◌, ◌++◌}
 use lib.ListN.{length, take, drop, get_or, replicate, length-drop}
 use lib.Seq.{take-add, length-take-le, take-suc, drop-drop}
 use Rattle.rules.specs.declared.Exception.{Exception}
+use Rattle.rules.specs.declared.Tally.{Tally}
 use Rattle.rules.specs.Results.{exception_number}
 use Rattle.rules.specs.AnswerTypes.{RunAnswer}
 use Rattle.rules.specs.AnswerTypes.{Stopped, Finished}
@@ -63,7 +64,7 @@ module _ (p t p' t' : List ℕ) (small : (i : ℕ) → get_or p i 0 < 256) (n k 
   abbrev ending : Outcome
   ending = outcome n k (memory_of p t h)
 
-  leaves : (r : RunAnswer) → r ≡ answered n (record { steps = k; height = h }) → ClosedAs ending p t p' t' r
+  pub leaves : (r : RunAnswer) → r ≡ answered n (record { steps = k; height = h }) → ClosedAs ending p t p' t' r
   leaves r er =
       let a : p' ≡ payloads_after (slots_in p t) (slots_of p t h) p =
       ep ∙ payloads_after_lem p t small cap h l (omega (arith, capacity_payloads p t)) ∙ ap (λ c. payloads_after c (slots_of p t h) p) ec in
@@ -74,12 +75,10 @@ module _ (p t p' t' : List ℕ) (small : (i : ℕ) → get_or p i 0 < 256) (n k 
   pub finished : n ≡ 0 → ClosedAs ending p t p' t' (Finished (record { steps = k; height = h }))
   finished e = leaves _ (rw e refl)
 
-  pub stopped : (n ≡ 0 → ⊥) → ClosedAs ending p t p' t' (Stopped n (record { steps = k; height = h }))
-  stopped e = leaves _ (more n e)
-    where
-      more : (n : ℕ) → (n ≡ 0 → ⊥) → Stopped n (record { steps = k; height = h }) ≡ answered n (record { steps = k; height = h })
-      more zero e = absurd (e refl)
-      more (suc n) e = refl
+-- what ends with another number than 0 is stopped
+pub stopped : (n : ℕ) (t : Tally) → (n ≡ 0 → ⊥) → Stopped n t ≡ answered n t
+stopped zero t e = absurd (e refl)
+stopped (suc n) t e = refl
 
 -- no exception's number is 0
 pub exception_some : (e : Exception) → exception_number e ≡ 0 → ⊥

@@ -1,7 +1,7 @@
 // The run of a body by number on lent arguments: refusals, the arguments in their slots, the first frame, the heap, the answer.
 #![tactic(auto)]
 
-ghost use Rattle.std.specs.Prelude.{◌≡◌, ◌+◌, ◌-◌, ◌*◌, ◌<◌, ◌≤◌, length};
+ghost use Rattle.std.specs.Prelude.{ℕ, ◌≡◌, ◌+◌, ◌-◌, ◌*◌, ◌<◌, ◌≤◌, length};
 ghost use Rattle.rules.specs.Answers as Answers;
 ghost use Rattle.rules.specs.Results.{run_answer};
 ghost use Rattle.rules.specs.Instructions.{ty_of};
@@ -45,24 +45,23 @@ fn clear_part(s: &mut [u8], a: usize, e: usize)
     s[a..e].fill(0);
 }
 
-// Ends a run: clears the slots from the height to the capacity, and answers.
-pub fn close(
-    stop: Option<Exception>,
-    steps: u64,
-    height: usize,
-    cap: usize,
-    p: &mut [u8],
-    t: &mut [u8],
-) -> Result<Tally, RunError>
+// Ends a run: clears the slots from the height to the capacity, and counts. What the run ends with is the caller's.
+pub fn close(steps: u64, height: usize, cap: usize, p: &mut [u8], t: &mut [u8]) -> Tally
     requires { (cap ≡ slots_in p.old t.old) × (height ≤ cap) }
-    ensures { ClosedAs (outcome (number_of stop) steps (memory_of p.old t.old height)) p.old t.old p.new t.new (run_answer result) }
+    ensures { (number : ℕ) → ClosedAs (outcome number steps (memory_of p.old t.old height)) p.old t.old p.new t.new (Answers.answered number result) }
 {
     clear_part(p, height * 8, cap * 8);
     clear_part(t, height, cap);
-    let tally = Tally {
+    Tally {
         steps,
         height: height as u64,
-    };
+    }
+}
+
+// The answer of a run that ends so.
+fn ended(stop: Option<Exception>, tally: Tally) -> Result<Tally, RunError>
+    ensures { run_answer result ≡ Answers.answered (number_of stop) tally }
+{
     match stop {
         None => Ok(tally),
         Some(e) => Err(RunError::Stopped(e, tally)),
@@ -272,7 +271,8 @@ fn finish(
 {
     let size = heap_capacity(cells, table);
     let g = run_over(file, c, cap, size, e, p, t, f, source, from, cells, table);
-    close(g.stop, allowance - g.rest, g.last.height, cap, p, t)
+    let tally = close(allowance - g.rest, g.last.height, cap, p, t);
+    ended(g.stop, tally)
 }
 
 // The same of edition 1, whose code is put in keys first.
@@ -352,7 +352,8 @@ fn run_old(
     if !is_over(g.stop) {
         return deeper(file, c, cap, g, allowance, p, t, few, cells, table);
     }
-    close(g.stop, allowance - g.rest, g.last.height, cap, p, t)
+    let tally = close(allowance - g.rest, g.last.height, cap, p, t);
+    ended(g.stop, tally)
 }
 
 // The rest of a run that is not edition 3's with few words and no heap. It is a function of its own for the compiler's sake: so the
@@ -412,7 +413,8 @@ fn run_opened(
     clear_heap(cells, table);
     let cap = capacity(p, t);
     if cap < n {
-        return close(Some(Exception::StackOverflow), 0, 0, cap, p, t);
+        let tally = close(0, 0, cap, p, t);
+        return Err(RunError::Stopped(Exception::StackOverflow, tally));
     }
     copy_arguments(args, kinds, n, p, t);
     let mut f = [0u16; 96];
@@ -431,7 +433,8 @@ fn run_opened(
     if !is_over(e.stop) {
         return run_rest(file, c, cap, e, allowance, p, t, &mut f, cells, table);
     }
-    close(e.stop, allowance - e.rest, e.last.height, cap, p, t)
+    let tally = close(allowance - e.rest, e.last.height, cap, p, t);
+    ended(e.stop, tally)
 }
 
 // The run of any body of any bytes, for a scan of this profile. ffffffff names the entry.

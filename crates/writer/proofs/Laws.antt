@@ -1,13 +1,14 @@
 -- Laws of words stored one after the other, of sections, and of the writer's answers.
 use Prim.Native.Nat.{ℕ, zero, suc, ◌+◌, ◌-◌, ◌*◌, ◌/◌, ◌%◌, ◌^◌, ◌≤◌, ◌<◌}
+use native.Mathlib.Numerals.{add-one}
 use native.Mathlib.Omega.{arith}
 use mathlib.Core.Path.{◌≡◌, refl, sym, ap, ◌∙◌}
 use mathlib.Core.Bool.{Bool, true, false, ◌||◌}
 use mathlib.Core.List.{List, [], ◌∷◌, ◌++◌, append_assoc, append-nil}
 use lib.Dec.{eqb, ltb}
 use borrow.Author.Tests.{eq-eqb, ne_eqb, ltb-false, lt-ltb, le-ltb}
-use lib.ListN.{length, take, drop, length-append, take-append-drop, drop_of_length-le}
-use lib.Seq.{take_at, drop_at, drop-drop, length-take-le}
+use lib.ListN.{length, take, drop, get_or, set, length-append, take-append-drop, drop_of_length-le}
+use lib.Seq.{take_at, take_all, drop_at, drop-drop, length-take-le}
 use borrow.Rule.Slice.PartMut.{put_mid}
 use Rattle.rules.specs.Bytes.{bytes, words, written}
 use Rattle.rules.specs.declared.Refusal.{Refusal}
@@ -98,6 +99,23 @@ fourth_size e q = rw q refl
 
 pub header_length : (e c f l n z entry : ℕ) → length (words (header_words e (header_size e) c f l n z entry)) ≡ header_size e
 header_length e c f l n z entry = decide (eqb e 4) (λ y. rw y refl) (λ y. rw y refl)
+
+-- ---- a copy, byte by byte
+
+-- one byte more
+pub copy_more : (s d : List ℕ) (i : ℕ) → i < length s → i < length d → set (take i s ++ drop i d) i (get_or s i 0) ≡ take (i + 1) s ++ drop (i + 1) d
+copy_more s d i h k = rw add-one (go s d i h k)
+  where
+    go : (s d : List ℕ) (i : ℕ) → i < length s → i < length d → set (take i s ++ drop i d) i (get_or s i 0) ≡ take (suc i) s ++ drop (suc i) d
+    go [] d i h k = absurd (omega arith)
+    go (x ∷ s) [] i h k = absurd (omega arith)
+    go (x ∷ s) (y ∷ d) zero h k = refl
+    go (x ∷ s) (y ∷ d) (suc i) h k = ap (λ (l : List ℕ). x ∷ l) (go s d i (omega arith) (omega arith))
+
+pub copied : (s d : List ℕ) (i : ℕ) → length s ≤ i → length d ≡ length s → take i s ++ drop i d ≡ s
+copied s d i h k =
+    let l : length d ≤ i = omega arith in
+    ap (λ (x : List ℕ). x ++ drop i d) (take_all i s h) ∙ ap (λ (x : List ℕ). s ++ x) (drop_of_length-le d l) ∙ append-nil s
 
 -- ---- sections
 

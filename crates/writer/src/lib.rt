@@ -11,6 +11,29 @@ ghost use Rattle.writer.specs.Output.{Takes, filled_with};
 
 use rules::Refusal;
 
+// A section is copied into its own part of the output, by 64 bytes and then by eight, of which the last may overlap those before: the
+// library's copy of any length is a call of `memmove`, which the archive asks of no host.
+pub fn put_section(out: &mut [u8], table: &[u8])
+    requires { length out.old ≡ length table.now }
+    ensures { out.new ≡ table.now }
+{
+    let n = table.len();
+    if n < 8 {
+        for i in 0..n {
+            out[i] = table[i];
+        }
+        return;
+    }
+    let blocks = n / 64;
+    for k in 0..blocks {
+        out[64 * k..64 * k + 64].copy_from_slice(&table[64 * k..64 * k + 64]);
+    }
+    for j in 8 * blocks..(n - 1) / 8 {
+        memory::store64(out, 8 * j, memory::load64(table, 8 * j));
+    }
+    memory::store64(out, n - 8, memory::load64(table, n - 8));
+}
+
 // Two words of the header: a count and an offset.
 fn put_pair(out: &mut [u8], at: usize, count: usize, offset: usize)
     requires { (at + 8 ≤ length out.old) × (at ≤ 48) × (count < 2 ^ 32) × (offset < 2 ^ 32) }
@@ -81,11 +104,11 @@ pub fn put(
         structures.len(),
         entry,
     );
-    out[constants_at..functions_at].copy_from_slice(constants);
-    out[functions_at..labels_at].copy_from_slice(functions);
-    out[labels_at..code_at].copy_from_slice(labels);
-    out[code_at..structures_at].copy_from_slice(code);
-    out[structures_at..end].copy_from_slice(structures);
+    put_section(&mut out[constants_at..functions_at], constants);
+    put_section(&mut out[functions_at..labels_at], functions);
+    put_section(&mut out[labels_at..code_at], labels);
+    put_section(&mut out[code_at..structures_at], code);
+    put_section(&mut out[structures_at..end], structures);
 }
 
 // Rows 2 and 4 to 9 of tables.

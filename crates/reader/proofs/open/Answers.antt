@@ -1,9 +1,10 @@
 -- The proof of `reader::open`.
-use Rattle.reader.proofs.Opening.{too_short, old_header, refused_first, refused_later, not_refused}
+use Rattle.reader.proofs.Opening.{too_short, old_header, refused_first, opens}
 use Rattle.format.specs.declared.Sections.{Sections}
 use Rattle.format.specs.Layout.{Packed}
 use Rattle.format.proofs.Rows.{header_of_lem, packed_of}
-use mathlib.Core.Path.{sym, ◌∙◌, subst}
+use Rattle.std.specs.Prelude.{IfOk}
+use mathlib.Core.Path.{◌≡◌, sym, ◌∙◌, subst}
 use native.Mathlib.Omega.{arith}
 use Rattle.std.proofs.lemmas.Result.{err_from_is_err_and}
 use Rattle.reader.proofs.open.Goals as goal
@@ -20,9 +21,5 @@ header-c-requires c = let old = old_header c.args.file.now (λ q. c.if-edition-e
 pub file_refusal-requires : goal.file_refusal-requires
 file_refusal-requires c = (subst (λ (x : Sections). Packed c.args.file.now x) (sym c.header-c.ensures) (packed_of c.args.file.now (header_of_lem c.args.file.now (sym c.in_ok-header_refusal.ensures))), (λ q. c.if-edition-eq4.false (c.word-edition.ensures.0 ∙ q)))
 
-pub returns-in_err-file_refusal : goal.returns-in_err-file_refusal
-returns-in_err-file_refusal c = let p = err_from_is_err_and c.from_residual-in_err-file_refusal.result c.from_residual-in_err-file_refusal.ensures.1 in
-    rw (p.1, p.2) (refused_later c.args.file.now _ (header_of_lem c.args.file.now (sym c.in_ok-header_refusal.ensures)) c.in_err-file_refusal.ensures)
-
 pub returns : goal.returns
-returns c = not_refused c.args.file.now (header_of_lem c.args.file.now (sym c.in_ok-header_refusal.ensures)) c.in_ok-file_refusal.ensures _ c.header-c.ensures
+returns c = opens c.args.file.now (header_of_lem c.args.file.now (sym c.in_ok-header_refusal.ensures)) _ c.file_refusal.ensures.value (subst (λ (x : Sections). IfOk c.file_refusal.result (λ y. y ≡ x)) c.header-c.ensures c.file_refusal.ensures.sections)

@@ -1,6 +1,7 @@
 use Rattle.runs.proofs.Waits.{waits, no_overflow, not_left, old_structures}
 use Rattle.runs.proofs.Resumed.{lent_old, still, closed_over, closed_deeper}
 use borrow.Author.Tests.{not-true, not-false}
+use mathlib.Core.Path.{◌∙◌}
 use native.Mathlib.Omega.{arith}
 use Rattle.machine.specs.Ends.{number_of}
 use Rattle.runs.proofs.run_old.Goals as goal
@@ -20,8 +21,8 @@ returns-then-not-is_over c = closed_deeper _ _ _ _ _ _ _ _ _ _ _ c.requires.stan
 pub overflow_sub-allowance : goal.overflow_sub-allowance
 overflow_sub-allowance c = omega (arith, c.run_from-g.ensures.left, c.requires.standing.left)
 
-pub close-requires : goal.close-requires
-close-requires c = (still _ _ _ _ _ _ _ _ _ _ _ c.requires.standing.slots c.run_from-g.ensures, c.run_from-g.ensures.high)
+pub close-tally-requires : goal.close-tally-requires
+close-tally-requires c = (still _ _ _ _ _ _ _ _ _ _ _ c.requires.standing.slots c.run_from-g.ensures, c.run_from-g.ensures.high)
 
 pub returns : goal.returns
-returns c = closed_over _ _ _ _ _ _ _ _ _ _ _ c.requires.standing.slots c.run_from-g.ensures c.args.cells.now c.args.table.now _ _ _ c.requires.standing.empty (λ i. (c.slice_known-4-1.given i).fits) (λ i. (c.slice_known-5-1.given i).fits) _ _ (omega (arith, c.run_from-g.ensures.left, c.requires.standing.left)) (λ q. absurd (no_overflow (number_of c.run_from-g.result.stop) _ c.is_over.ensures (not-false _ c.if-not-is_over.false-raw) q)) (not_left (number_of c.run_from-g.result.stop) _ c.is_over.ensures (not-false _ c.if-not-is_over.false-raw)) c.close.ensures
+returns c = let z = c.close-tally.ensures (number_of c.run_from-g.result.stop) in closed_over _ _ _ _ _ _ _ _ _ _ _ c.requires.standing.slots c.run_from-g.ensures c.args.cells.now c.args.table.now _ _ _ c.requires.standing.empty (λ i. (c.slice_known-4-1.given i).fits) (λ i. (c.slice_known-5-1.given i).fits) _ _ (omega (arith, c.run_from-g.ensures.left, c.requires.standing.left)) (λ q. absurd (no_overflow (number_of c.run_from-g.result.stop) _ c.is_over.ensures (not-false _ c.if-not-is_over.false-raw) q)) (not_left (number_of c.run_from-g.result.stop) _ c.is_over.ensures (not-false _ c.if-not-is_over.false-raw)) (c.ended.ensures ∙ z.0, z.1)

@@ -25,7 +25,7 @@ pub returns-then-other_profile : goal.returns-then-other_profile
 returns-then-other_profile c = run_17 _ _ _ _ _ _ _ _ _ c.in-Some.b (rw c.in-Some.is at c.find.ensures) _ _ c.requires.1 _ c.admits.ensures (not-false _ c.if-not-admits.false-raw) _ c.other_profile.ensures c.if-other_profile.true
 
 pub returns-then-cap-n : goal.returns-then-cap-n
-returns-then-cap-n c = run_20 _ _ c.args.args.now c.args.kinds.now c.args.p.now c.args.t.now c.args.cells.now c.args.table.now _ c.in-Some.b (rw c.in-Some.is at c.find.ensures) _ c.admits.ensures (not-false _ c.if-not-admits.false-raw) _ c.capacity-cap.ensures _ _ c.clear_heap.ensures _ _ c.requires.1 _ c.other_profile.ensures c.if-other_profile.false c.if-cap-n.true (λ i. (c.slice_known-5-1.given i).fits) (λ i. (c.slice_known-6-1.given i).fits) _ _ _ c.close.ensures
+returns-then-cap-n c = run_20 _ _ c.args.args.now c.args.kinds.now c.args.p.now c.args.t.now c.args.cells.now c.args.table.now _ c.in-Some.b (rw c.in-Some.is at c.find.ensures) _ c.admits.ensures (not-false _ c.if-not-admits.false-raw) _ c.capacity-cap.ensures _ _ c.clear_heap.ensures _ _ c.requires.1 _ c.other_profile.ensures c.if-other_profile.false c.if-cap-n.true (λ i. (c.slice_known-5-1.given i).fits) (λ i. (c.slice_known-6-1.given i).fits) _ _ _ (c.close-tally.ensures 20)
 
 pub copy_arguments-requires : goal.copy_arguments-requires
 copy_arguments-requires c = room _ _ c.args.args.now c.args.kinds.now c.args.p.now c.args.t.now c.args.cells.now c.args.table.now _ c.in-Some.b (rw c.in-Some.is at c.find.ensures) _ c.admits.ensures (not-false _ c.if-not-admits.false-raw) _ c.capacity-cap.ensures c.if-cap-n.false
@@ -69,14 +69,14 @@ shape_of-table-then-not-is_over c = c.run_rest-then-not-is_over.auto.table ∙ c
 pub returns-then-not-is_over : goal.returns-then-not-is_over
 returns-then-not-is_over c = run_over _ _ c.args.args.now c.args.kinds.now c.args.p.now c.args.t.now c.args.cells.now c.args.table.now _ c.in-Some.b (rw c.in-Some.is at c.find.ensures) _ c.admits.ensures (not-false _ c.if-not-admits.false-raw) _ c.capacity-cap.ensures c.if-cap-n.false _ _ _ _ _ c.copy_arguments.ensures 96 refl (omega arith) (omega arith) c.first_frame-first.ensures.0 c.first_frame-first.ensures.1 _ _ c.requires.1 _ c.other_profile.ensures c.if-other_profile.false c.clear_heap.new.cells c.clear_heap.new.table c.clear_heap.ensures _ _ _ _ _ (closed_deeper _ _ _ _ _ _ _ _ _ _ _ (same_slots _ _ c.args.args.now c.args.kinds.now c.args.p.now c.args.t.now c.args.cells.now c.args.table.now _ c.in-Some.b (rw c.in-Some.is at c.find.ensures) _ c.admits.ensures (not-false _ c.if-not-admits.false-raw) _ c.capacity-cap.ensures c.if-cap-n.false _ _ _ _ _ c.copy_arguments.ensures 96 refl (omega arith) (omega arith) c.first_frame-first.ensures.0 c.first_frame-first.ensures.1) c.run_from-e.ensures c.clear_heap.new.cells c.clear_heap.new.table _ _ _ _ _ 0 _ (omega (arith, c.run_from-e.ensures.left)) (waits (number_of c.run_from-e.result.stop) _ c.is_over.ensures (not-true _ c.if-not-is_over.true-raw)) c.run_rest-then-not-is_over.ensures)
 
-pub close-requires-2 : goal.close-requires-2
-close-requires-2 c = (still _ _ _ _ _ _ _ _ _ _ _ (same_slots _ _ c.args.args.now c.args.kinds.now c.args.p.now c.args.t.now c.args.cells.now c.args.table.now _ c.in-Some.b (rw c.in-Some.is at c.find.ensures) _ c.admits.ensures (not-false _ c.if-not-admits.false-raw) _ c.capacity-cap.ensures c.if-cap-n.false _ _ _ _ _ c.copy_arguments.ensures 96 refl (omega arith) (omega arith) c.first_frame-first.ensures.0 c.first_frame-first.ensures.1) c.run_from-e.ensures, c.run_from-e.ensures.high)
+pub close-tally-requires-2 : goal.close-tally-requires-2
+close-tally-requires-2 c = (still _ _ _ _ _ _ _ _ _ _ _ (same_slots _ _ c.args.args.now c.args.kinds.now c.args.p.now c.args.t.now c.args.cells.now c.args.table.now _ c.in-Some.b (rw c.in-Some.is at c.find.ensures) _ c.admits.ensures (not-false _ c.if-not-admits.false-raw) _ c.capacity-cap.ensures c.if-cap-n.false _ _ _ _ _ c.copy_arguments.ensures 96 refl (omega arith) (omega arith) c.first_frame-first.ensures.0 c.first_frame-first.ensures.1) c.run_from-e.ensures, c.run_from-e.ensures.high)
 
 pub shape_of-p : goal.shape_of-p
-shape_of-p c = c.close-2.auto.p ∙ c.run_from-e.ensures.same_payloads ∙ c.copy_arguments.ensures.same_payloads
+shape_of-p c = c.close-tally-2.auto.p ∙ c.run_from-e.ensures.same_payloads ∙ c.copy_arguments.ensures.same_payloads
 
 pub shape_of-t : goal.shape_of-t
-shape_of-t c = c.close-2.auto.t ∙ c.run_from-e.ensures.same_types ∙ c.copy_arguments.ensures.same_types
+shape_of-t c = c.close-tally-2.auto.t ∙ c.run_from-e.ensures.same_types ∙ c.copy_arguments.ensures.same_types
 
 pub shape_of-cells : goal.shape_of-cells
 shape_of-cells c = c.clear_heap.ensures.same_cells
@@ -85,4 +85,4 @@ pub shape_of-table : goal.shape_of-table
 shape_of-table c = c.clear_heap.ensures.same_table
 
 pub returns : goal.returns
-returns c = run_over _ _ c.args.args.now c.args.kinds.now c.args.p.now c.args.t.now c.args.cells.now c.args.table.now _ c.in-Some.b (rw c.in-Some.is at c.find.ensures) _ c.admits.ensures (not-false _ c.if-not-admits.false-raw) _ c.capacity-cap.ensures c.if-cap-n.false _ _ _ _ _ c.copy_arguments.ensures 96 refl (omega arith) (omega arith) c.first_frame-first.ensures.0 c.first_frame-first.ensures.1 _ _ c.requires.1 _ c.other_profile.ensures c.if-other_profile.false c.clear_heap.new.cells c.clear_heap.new.table c.clear_heap.ensures _ _ _ _ _ (closed_over _ _ _ _ _ _ _ _ _ _ _ (same_slots _ _ c.args.args.now c.args.kinds.now c.args.p.now c.args.t.now c.args.cells.now c.args.table.now _ c.in-Some.b (rw c.in-Some.is at c.find.ensures) _ c.admits.ensures (not-false _ c.if-not-admits.false-raw) _ c.capacity-cap.ensures c.if-cap-n.false _ _ _ _ _ c.copy_arguments.ensures 96 refl (omega arith) (omega arith) c.first_frame-first.ensures.0 c.first_frame-first.ensures.1) c.run_from-e.ensures c.clear_heap.new.cells c.clear_heap.new.table _ _ _ (still_empty _ _ c.args.args.now c.args.kinds.now c.args.p.now c.args.t.now c.args.cells.now c.args.table.now _ c.in-Some.b (rw c.in-Some.is at c.find.ensures) _ c.admits.ensures (not-false _ c.if-not-admits.false-raw) _ c.capacity-cap.ensures c.clear_heap.new.cells c.clear_heap.new.table c.clear_heap.ensures) (λ i. (c.slice_known-5-1.given i).fits) (λ i. (c.slice_known-6-1.given i).fits) 0 _ (omega (arith, c.run_from-e.ensures.left)) (λ q. absurd (no_overflow (number_of c.run_from-e.result.stop) _ c.is_over.ensures (not-false _ c.if-not-is_over.false-raw) q)) (not_left (number_of c.run_from-e.result.stop) _ c.is_over.ensures (not-false _ c.if-not-is_over.false-raw)) c.close-2.ensures)
+returns c = let z = c.close-tally-2.ensures (number_of c.run_from-e.result.stop) in run_over _ _ c.args.args.now c.args.kinds.now c.args.p.now c.args.t.now c.args.cells.now c.args.table.now _ c.in-Some.b (rw c.in-Some.is at c.find.ensures) _ c.admits.ensures (not-false _ c.if-not-admits.false-raw) _ c.capacity-cap.ensures c.if-cap-n.false _ _ _ _ _ c.copy_arguments.ensures 96 refl (omega arith) (omega arith) c.first_frame-first.ensures.0 c.first_frame-first.ensures.1 _ _ c.requires.1 _ c.other_profile.ensures c.if-other_profile.false c.clear_heap.new.cells c.clear_heap.new.table c.clear_heap.ensures _ _ _ _ _ (closed_over _ _ _ _ _ _ _ _ _ _ _ (same_slots _ _ c.args.args.now c.args.kinds.now c.args.p.now c.args.t.now c.args.cells.now c.args.table.now _ c.in-Some.b (rw c.in-Some.is at c.find.ensures) _ c.admits.ensures (not-false _ c.if-not-admits.false-raw) _ c.capacity-cap.ensures c.if-cap-n.false _ _ _ _ _ c.copy_arguments.ensures 96 refl (omega arith) (omega arith) c.first_frame-first.ensures.0 c.first_frame-first.ensures.1) c.run_from-e.ensures c.clear_heap.new.cells c.clear_heap.new.table _ _ _ (still_empty _ _ c.args.args.now c.args.kinds.now c.args.p.now c.args.t.now c.args.cells.now c.args.table.now _ c.in-Some.b (rw c.in-Some.is at c.find.ensures) _ c.admits.ensures (not-false _ c.if-not-admits.false-raw) _ c.capacity-cap.ensures c.clear_heap.new.cells c.clear_heap.new.table c.clear_heap.ensures) (λ i. (c.slice_known-5-1.given i).fits) (λ i. (c.slice_known-6-1.given i).fits) 0 _ (omega (arith, c.run_from-e.ensures.left)) (λ q. absurd (no_overflow (number_of c.run_from-e.result.stop) _ c.is_over.ensures (not-false _ c.if-not-is_over.false-raw) q)) (not_left (number_of c.run_from-e.result.stop) _ c.is_over.ensures (not-false _ c.if-not-is_over.false-raw)) (c.ended.ensures ∙ z.0, z.1))

@@ -1,11 +1,11 @@
 -- The proof of `keys::edition1::translate`.
-use Prim.Native.Nat.{◌+◌, ◌-◌, ◌≤◌}
+use Prim.Native.Nat.{◌≤◌}
 use native.Mathlib.Omega.{arith}
-use mathlib.Core.Path.{◌≡◌, ◌∙◌, subst}
-use lib.ListN.{length, set, length-set}
+use mathlib.Core.Path.{◌∙◌, subst}
+use lib.ListN.{length, length-set}
 use Rattle.rules.specs.Bytes.{byte}
 use Rattle.rules.specs.Instructions.{edition1, opcode_of}
-use Rattle.keys.proofs.Translation.{Translating, begins, again, goes_on, no_word, copied_word, word_copied, ended}
+use Rattle.keys.proofs.Translation.{Translating, begins, again, goes_on, no_word, word_copied, ended}
 use Rattle.keys.proofs.edition1.translate.Goals as goal
 
 pub loop-p-init : goal.loop-p-init
@@ -18,12 +18,13 @@ pub bounds-own-p : goal.bounds-own-p
 bounds-own-p c =
     omega (arith, c.loop-p.invariant.same)
 
+pub copy_word-requires : goal.copy_word-requires
+copy_word-requires c =
+    let l : length c.args.code.now ≤ length c.args.own.now = c.requires in (omega arith, simp length-set (omega (arith, c.loop-p.invariant.same)))
+
 pub loop-p-preserved-then-operands-eq4 : goal.loop-p-preserved-then-operands-eq4
 loop-p-preserved-then-operands-eq4 c =
-    let l : length c.args.code.now ≤ length c.args.own.now = c.requires in
-    let n : c.loop-p.p + 1 + 4 - (c.loop-p.p + 1) ≡ 4 = omega arith in
-    let m = copied_word c.args.code.now (set c.loop-p.own c.loop-p.p c.key-k.result) (c.loop-p.p + 1) (omega arith) (simp length-set (omega (arith, c.loop-p.invariant.same))) in
-    rw (c.copy_from_slice.ensures.after, n, m) (word_copied _ _ _ _ (subst (Translating _ _ _ _) c.if-operands-eq4.true (goes_on _ _ _ _ _ c.loop-p.invariant c.requires (omega arith) _ _ c.key-k.ensures c.due_after-operands.ensures)) c.requires (omega arith))
+    rw c.copy_word.ensures (word_copied _ _ _ _ (subst (Translating _ _ _ _) c.if-operands-eq4.true (goes_on _ _ _ _ _ c.loop-p.invariant c.requires (omega arith) _ _ c.key-k.ensures c.due_after-operands.ensures)) c.requires (omega arith))
 
 pub loop-p-preserved : goal.loop-p-preserved
 loop-p-preserved c =
